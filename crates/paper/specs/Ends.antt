@@ -15,14 +15,16 @@ use lib.Dec.{eqb, ltb}
 use borrow.Author.Tests.{eqb-true, eqb-false, eq-eqb, ne-eqb, lt-ltb, le-ltb}
 use Rattle.paper.specs.declared.Constraint.{Constraint}
 use Rattle.paper.specs.declared.Constraint.the-variants.{Variant, Struct, ConstBool, ConstInt, ConstPrim, Some}
+use Rattle.paper.specs.declared.Item.the-variants.{Is, Equal}
 use Rattle.paper.specs.Words.{if_then_else_, look}
 use Rattle.paper.specs.Numbers.{max-sites, most-rounds, Outcome, done, refused, _>>=_}
 use Rattle.paper.specs.Sites.{Site, Sites, Sound, constBool, constInt, constPrim, argument, extractor, constructor, iterator, makeVariant, matchVariant, makeStruct, extractStruct, makeSome, matchSome, matchTuple, sources, parent, child, site-at, known}
-use Rattle.paper.specs.Loading.{Labels, Constraints, Solving, take-class, round, rounds}
+use Rattle.paper.specs.Loading.{Loading, Labels, Solving, load-items, take-class, round, rounds, started, all-loading}
 use Rattle.paper.specs.Labels.{never}
 use Rattle.paper.specs.Outcomes.{done-once, bind-done}
 use Rattle.paper.specs.Adding.{Extends, inside-has, has-site-at, extends-length, extends-site-at}
-use Rattle.paper.specs.Fair.{Fair, Taken, taken, Why, stayed, child-of, joined-after, round-extends, round-fair}
+use Rattle.paper.specs.Fair.{Fair, Why, stayed, child-of, joined-after, round-extends, round-fair, no-items}
+use Rattle.paper.specs.Taking.{taken, none-left}
 
 -- ---- sums
 
@@ -256,13 +258,31 @@ below-most : (s : Solving) → cost s < most-rounds
 unfolding most-rounds
 below-most s = let a = bounded s in omega arith
 
--- when the rounds stop, no class is left to take
+-- when the rounds stop, no class is left to take; and that says: no class has a constrained member
 pub until : (s : Solving) → Fair s → (at : ℕ) (r : Solving) → rounds most-rounds at s ≡ done r → take-class (r .classes) (r .constraints) (r .classes) ≡ none
 until s F at r e = ends-in most-rounds s F (below-most s) at r e .1
 
 pub rounds-fair : (s : Solving) → Fair s → (at : ℕ) (r : Solving) → rounds most-rounds at s ≡ done r → Fair r
 rounds-fair s F at r e = ends-in most-rounds s F (below-most s) at r e .0
 
+pub unconstrained : (s : Solving) → Fair s → (at : ℕ) (r : Solving) → rounds most-rounds at s ≡ done r → (n v : ℕ) → look (r .classes) n ≡ some v → look (r .constraints) n ≡ none
+unconstrained s F at r e = none-left r (rounds-fair s F at r e) .0 (until s F at r e)
+
 -- more turns never change the answer
 pub enough : (s : Solving) → Fair s → (at n : ℕ) → most-rounds ≤ n → rounds n at s ≡ rounds most-rounds at s
 enough s F at n h = turns-agree n most-rounds s F (let a = below-most s in omega arith) (below-most s) at
+
+-- ---- why the lowest member taken tells nothing: it may fall
+
+-- the lowest members that the first rounds take
+abbrev lows : ℕ → Solving → List ℕ
+lows zero s = []
+lows (suc n) s = elim (take-class (s .classes) (s .constraints) (s .classes)) [ none ↦ [] | some p ↦ p .0 ∷ elim (round s 0 (p .0) (p .1)) [ refused r ↦ [] | done u ↦ lows n u ] ]
+
+-- 1 and 2 are structures of one field, with children 3 and 4; 3 is 5; 0 = 4; 1 = 2
+abbrev falling : Outcome Loading
+falling = load-items (no-items (argument 0 ∷ argument 1 ∷ argument 2 ∷ [])) 0 (Is 1 (Struct 0 1) ∷ Is 2 (Struct 0 1) ∷ Is 3 (ConstInt 0 0 5) ∷ Equal 0 4 ∷ Equal 1 2 ∷ [])
+
+pub lowest-falls : (falling >>= λ l. done (lows 3 (started l))) ≡ done (1 ∷ 0 ∷ [])
+unfolding all-loading
+lowest-falls = refl

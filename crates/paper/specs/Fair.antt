@@ -1,29 +1,29 @@
 -- The states that the rounds pass through are fair: what the items leave is (`load-fair`), and a round keeps it so (`round-fair`). After a round
 -- a site is joined only if it was, outside the dissolved class, or is a child of a member of that class (`joined-after`).
 use mathlib.Core.Path.{_≡_, refl, sym, ap, _∙_}
-use mathlib.Core.Bool.{Bool, true, false, not}
+use mathlib.Core.Bool.{not}
 use mathlib.Core.Option.{Option, none, some}
 use mathlib.Core.Logic.{_⊎_, inl, inr}
 use mathlib.Core.List.{List, [], _∷_, _++_, List·Memᴰ, List·Memᴰ·head, List·Memᴰ·tail, List·Memᴰ·append-cases, List·Memᴰ·eq-of-singleton}
-use Prim.Native.Nat.{ℕ, zero, suc, _≤_, _<_}
+use Prim.Native.Nat.{ℕ, suc, _<_}
 use native.Mathlib.Omega.{arith}
 use native.Mathlib.Decide.{ℕ-discrete}
 use lib.ListN.{length, getElem?}
-use lib.Dec.{eqb, ltb, leb}
-use borrow.Author.Tests.{eqb-true, ltb-true}
+use lib.Dec.{eqb, leb}
+use borrow.Author.Tests.{ltb-true}
 use Rattle.paper.specs.declared.Constraint.{Constraint}
 use Rattle.paper.specs.declared.Item.{Item}
 use Rattle.paper.specs.declared.Item.the-variants.{Is, Equal}
 use Rattle.paper.specs.declared.Refusal.the-variants.{Unknown, Unreachable, TooManyFields}
-use Rattle.paper.specs.Words.{keep, first, Table, look, put}
-use Rattle.paper.specs.Numbers.{max-fields, Outcome, done, _>>=_}
-use Rattle.paper.specs.Sites.{Site, Sites, Sound, same-constraint, fields, child, child-count, children, child-number, known, add-all}
-use Rattle.paper.specs.Loading.{Loading, Labels, Constraints, Solving, lowest, join-all, members, others, dissolve, like-children, constrain, load-item, load-items, first-constrained, with-low, take-class, give-all, grow-all, join-children, round, started}
+use Rattle.paper.specs.Words.{look, put}
+use Rattle.paper.specs.Numbers.{max-fields, done}
+use Rattle.paper.specs.Sites.{Sites, Sound, same-constraint, fields, child, child-count, children, child-number, known, add-all}
+use Rattle.paper.specs.Loading.{Loading, Labels, Constraints, Solving, join-all, members, others, dissolve, like-children, constrain, load-item, load-items, give-all, grow-all, join-children, round, started}
 use Rattle.paper.specs.Labels.{never, put-here, put-there}
 use Rattle.paper.specs.Closure.{of-below, in-below}
 use Rattle.paper.specs.Outcomes.{done-once, bind-done, demand-done}
 use Rattle.paper.specs.Adding.{Extends, Has, get-inside, extends-length, child-there, add-all-sound, add-all-extends, add-all-has}
-use Rattle.paper.specs.Tables.{of-keep, Rising, put-rising, in-look, Fine, fine-more, none-fine, lowest-is, lowest-own, own-label, join-all-fine, of-members, in-members, dissolve-fine}
+use Rattle.paper.specs.Tables.{of-keep, Rising, put-rising, Fine, fine-more, none-fine, join-all-fine, of-members, in-members, dissolve-fine}
 
 -- a constrained site is a site, and its children are there
 pub record Grown (t : Sites) (n : ℕ) (c : Constraint) : Type 0 where
@@ -211,49 +211,3 @@ module _ (s : Solving) (F : Fair s) (at low : ℕ) (c : Constraint) (s′ : Solv
           let h = F .classes .within n low q in
           let l = extends-length (s .sites) (s′ .sites) round-extends in
           record { inside = omega arith; children = λ i r. round-has n q i r }
-
--- ---- which class is taken
-
--- its label is a member, and a member has the constraint
-pub record Taken (s : Solving) (low : ℕ) (c : Constraint) : Type 0 where
-  pub own : look (s .classes) low ≡ some low
-  pub member : ℕ
-  pub labelled : look (s .classes) member ≡ some low
-  pub constrained : look (s .constraints) member ≡ some c
-
-first-is : {A : Type 0} (f : A → Bool) (l : List A) (x : A) → first f l ≡ some x → List·Memᴰ x l × (f x ≡ true)
-unfolding first
-first-is f [] x e = absurd (never e)
-first-is {A} f (y ∷ l) x e = go (f y) refl (λ q. first-is f l x q) e
-  where
-    go : (b : Bool) → f y ≡ b → (first f l ≡ some x → List·Memᴰ x l × (f x ≡ true)) → elim b as (λ _. Option A) [ true ↦ some y | false ↦ first f l ] ≡ some x → List·Memᴰ x (y ∷ l) × (f x ≡ true)
-    go true p h q = let z : x ≡ y = cc in (List·Memᴰ·head z, ap f z ∙ p)
-    go false p h q = let r = h q in (List·Memᴰ·tail (r .0), r .1)
-
-take-class-is : (k : Labels) (cs : Constraints) (ps : Labels) (low : ℕ) (c : Constraint) → take-class k cs ps ≡ some (low, c) → ((n : ℕ) × List·Memᴰ (n, low) ps) × ((m : ℕ) × List·Memᴰ (m, c) cs × (lowest k m ≡ low))
-unfolding take-class first-constrained
-take-class-is k cs [] low c e = absurd (never e)
-take-class-is k cs ((n, v) ∷ ps) low c e = go (first (λ p. eqb (lowest k (p .0)) v) cs) refl (λ q. take-class-is k cs ps low c q) e
-  where
-    go : (o : Option (ℕ × Constraint)) → first (λ p. eqb (lowest k (p .0)) v) cs ≡ o → (take-class k cs ps ≡ some (low, c) → ((n : ℕ) × List·Memᴰ (n, low) ps) × ((m : ℕ) × List·Memᴰ (m, c) cs × (lowest k m ≡ low))) →
-        _≡_ {A = Option (ℕ × Constraint)} (elim (with-low v o) as (λ _. Option (ℕ × Constraint)) [ some q ↦ some q | none ↦ take-class k cs ps ]) (some (low, c)) → ((i : ℕ) × List·Memᴰ (i, low) ((n, v) ∷ ps)) × ((m : ℕ) × List·Memᴰ (m, c) cs × (lowest k m ≡ low))
-    go none p h q = let r = h q in ((r .0 .0, List·Memᴰ·tail (r .0 .1)), r .1)
-    go (some (m, d)) p h q =
-        let w : _≡_ {A = ℕ × Constraint} (v, d) (low, c) = cc in
-        let z = ap (λ u. u .0) w in
-        let y = ap (λ u. u .1) w in
-        let x = first-is (λ (p : ℕ × Constraint). eqb (lowest k (p .0)) v) cs (m, d) p in
-        ((n, rw z (List·Memᴰ·head refl)), (m, rw (← y) (x .0), eqb-true (lowest k m) v (x .1) ∙ z))
-
-pub taken : (s : Solving) → Fair s → (low : ℕ) (c : Constraint) → take-class (s .classes) (s .constraints) (s .classes) ≡ some (low, c) → Taken s low c
-taken s F low c e = record { own = own; member = x .1 .0; labelled = labelled (look (s .classes) (x .1 .0)) refl; constrained = in-look 0 (s .constraints) (x .1 .0, c) (F .ascending) (x .1 .1) }
-  where
-    x : ((n : ℕ) × List·Memᴰ (n, low) (s .classes)) × ((m : ℕ) × List·Memᴰ (m, c) (s .constraints) × (lowest (s .classes) m ≡ low))
-    x = take-class-is (s .classes) (s .constraints) (s .classes) low c e
-
-    own : look (s .classes) low ≡ some low
-    own = own-label (s .classes) (F .classes .sound) (x .0 .0) low (in-look 0 (s .classes) (x .0 .0, low) (F .classes .rising) (x .0 .1))
-
-    labelled : (o : Option ℕ) → look (s .classes) (x .1 .0) ≡ o → look (s .classes) (x .1 .0) ≡ some low
-    labelled none f = let q = sym (lowest-own (s .classes) (x .1 .0) f) ∙ x .1 .2 in ap (look (s .classes)) q ∙ own
-    labelled (some v) f = f ∙ ap some (sym (lowest-is (s .classes) (x .1 .0) v f) ∙ x .1 .2)

@@ -80,7 +80,7 @@ look-in {A} ((m, b) ∷ t) n a e = go (eqb m n) refl (λ q. look-in t n a q) e
     go true p f q = let x = eqb-true m n p in let y : b ≡ a = cc in let z : _≡_ {A = ℕ × A} (n, a) (m, b) = rw (x, y) refl in List·Memᴰ·head z
     go false p f q = List·Memᴰ·tail (f q)
 
-above : {A : Type 0} (n : ℕ) (t : Table A) (p : ℕ × A) → Rising n t → List·Memᴰ p t → n ≤ p .0
+pub above : {A : Type 0} (n : ℕ) (t : Table A) (p : ℕ × A) → Rising n t → List·Memᴰ p t → n ≤ p .0
 above n (q ∷ t) p r (List·Memᴰ·head e) = let z = ap (λ x. x .0) e in let h = r .0 in omega arith
 above n (q ∷ t) p r (List·Memᴰ·tail m) = let z = above (suc (q .0)) t p (r .1) m in let h = r .0 in omega arith
 
