@@ -106,16 +106,16 @@ child-there t m c i h = go (numbered t (child m c i))
 -- ---- adding one
 
 -- "one already present gives its number, else it gets the next"
-pub data Ends (t : Sites) (s : Site) : Sites → ℕ → Type 0 where
-  present : {n : ℕ} → getElem? t n ≡ some s → Ends t s t n
-  next : length t < max-sites → ((n : ℕ) → getElem? t n ≡ some s → ⊥) → Ends t s (t ++ (s ∷ [])) (length t)
+pub data Placed (t : Sites) (s : Site) : Sites → ℕ → Type 0 where
+  present : {n : ℕ} → getElem? t n ≡ some s → Placed t s t n
+  next : length t < max-sites → ((n : ℕ) → getElem? t n ≡ some s → ⊥) → Placed t s (t ++ (s ∷ [])) (length t)
 
 -- what an addition that is not refused has found of the site, and how it ends
 pub record Adds (t : Sites) (s : Site) (a : Added) : Type 0 where
   pub lower : (m : ℕ) → List·Memᴰ m (sources s) → m < length t
   pub few : length (sources s) ≤ max-sources
   pub term : (e : ℕ) → term-of s ≡ some e → e ≤ max-term
-  pub how : Ends t s (a .sites) (a .number)
+  pub how : Placed t s (a .sites) (a .number)
 
 all-known : (t : Sites) (l : List ℕ) (u : Unit {0}) → missing-source (first (λ n. not (known t n)) l) ≡ done u → (m : ℕ) → List·Memᴰ m l → m < length t
 unfolding first known
@@ -149,7 +149,7 @@ add-done t at s a e =
       how = ends (number-of t s) (numbered t s) (z .2);
     }
   where
-    ends : (o : Option ℕ) → Numbered t s o → or-next t at s o ≡ done a → Ends t s (a .sites) (a .number)
+    ends : (o : Option ℕ) → Numbered t s o → or-next t at s o ≡ done a → Placed t s (a .sites) (a .number)
     ends (some n) (here q) d = let w = done-once d in rw (← w) (present q)
     ends none (nowhere h) d =
         let y = demand-done (ltb (length t) max-sites) (TooManySites (suc (length t)) at) _ a d in
@@ -159,14 +159,14 @@ add-done t at s a e =
 pub add-extends : (t : Sites) (at : ℕ) (s : Site) (a : Added) → add t at s ≡ done a → Extends t (a .sites)
 add-extends t at s a e = go (add-done t at s a e .how)
   where
-    go : {u : Sites} {m : ℕ} → Ends t s u m → Extends t u
+    go : {u : Sites} {m : ℕ} → Placed t s u m → Extends t u
     go (present h) = λ n x q. q
     go (next r h) = λ n x q. get-append t (s ∷ []) n x q
 
 pub add-has : (t : Sites) (at : ℕ) (s : Site) (a : Added) → add t at s ≡ done a → getElem? (a .sites) (a .number) ≡ some s
 add-has t at s a e = go (add-done t at s a e .how)
   where
-    go : {u : Sites} {m : ℕ} → Ends t s u m → getElem? u m ≡ some s
+    go : {u : Sites} {m : ℕ} → Placed t s u m → getElem? u m ≡ some s
     go (present h) = h
     go (next r h) = get-last t s
 
@@ -179,7 +179,7 @@ add-sound t at s a S e = go (A .how)
     A : Adds t s a
     A = add-done t at s a e
 
-    go : {v : Sites} {m : ℕ} → Ends t s v m → Sound v
+    go : {v : Sites} {m : ℕ} → Placed t s v m → Sound v
     go (present h) = S
     go (next room h) = record {
       fits = let l = length-append t (s ∷ []) in omega arith;

@@ -1,24 +1,24 @@
 -- "Repeat until no class has a constrained member": the rounds end, whatever the classes are, and `most-rounds` turns are never used up.
 -- A site costs one for each joined site from it up its sources, and as much as it ever can while it is not there yet. A round makes the members
 -- of a class lone, and joins only children of theirs: what a child's cost gains by itself it loses by its source, and the members lose one each.
--- So the cost `falls` with every round; it is `bounded`; hence `until`, and `enough`.
+-- So the cost `falls` with every round, which `keeps` the state fair; it is `bounded`; hence `until`, and `enough`.
 use mathlib.Core.Path.{_≡_, refl, sym, ap, _∙_}
 use mathlib.Core.Bool.{Bool, true, false}
 use mathlib.Core.Option.{Option, none, some}
-use mathlib.Core.List.{List, [], _∷_, List·Memᴰ, List·Memᴰ·head, List·Memᴰ·tail}
+use mathlib.Core.List.{List, [], _∷_, List·Memᴰ, List·Memᴰ·head}
 use Prim.Native.Nat.{ℕ, zero, suc, _+_, _*_, _≤_, _<_}
 use native.Mathlib.Nat.{not-suc-le-zero}
 use native.Mathlib.Omega.{arith}
 use native.Mathlib.Decide.{ℕ-discrete, decLe}
-use lib.ListN.{length, getElem?}
+use lib.ListN.{length}
 use lib.Dec.{eqb, ltb}
-use borrow.Author.Tests.{eqb-true, eqb-false, eq-eqb, ne-eqb, lt-ltb, le-ltb}
+use borrow.Author.Tests.{eq-eqb, ne-eqb, lt-ltb, le-ltb}
 use Rattle.paper.specs.declared.Constraint.{Constraint}
 use Rattle.paper.specs.declared.Constraint.the-variants.{Variant, Struct, ConstBool, ConstInt, ConstPrim, Some}
 use Rattle.paper.specs.declared.Item.the-variants.{Is, Equal}
 use Rattle.paper.specs.Words.{if_then_else_, look}
 use Rattle.paper.specs.Numbers.{max-sites, most-rounds, Outcome, done, refused, _>>=_}
-use Rattle.paper.specs.Sites.{Site, Sites, Sound, constBool, constInt, constPrim, argument, extractor, constructor, iterator, makeVariant, matchVariant, makeStruct, extractStruct, makeSome, matchSome, matchTuple, sources, parent, child, site-at, known}
+use Rattle.paper.specs.Sites.{Site, Sites, Sound, constBool, constInt, constPrim, argument, extractor, constructor, iterator, makeVariant, matchVariant, makeStruct, extractStruct, makeSome, matchSome, matchTuple, sources, parent, child, site-at}
 use Rattle.paper.specs.Loading.{Loading, Labels, Solving, load-items, take-class, round, rounds, started, all-loading}
 use Rattle.paper.specs.Labels.{never}
 use Rattle.paper.specs.Outcomes.{done-once, bind-done}
@@ -203,7 +203,7 @@ module _ (s : Solving) (F : Fair s) (at low : ℕ) (c : Constraint) (s′ : Solv
       go (yes h) = let a = cost-at-most s′ n in let b = new-cost n h in omega arith
       go (no h) = let a = old-cost n (omega arith) in omega arith
 
-  pub class-falls : cost s′ < cost s
+  class-falls : cost s′ < cost s
   unfolding cost
   class-falls =
       let l = F .classes .within low low own in
@@ -215,9 +215,12 @@ module _ (s : Solving) (F : Fair s) (at low : ℕ) (c : Constraint) (s′ : Solv
 pub falls : (s : Solving) → Fair s → (at low : ℕ) (c : Constraint) (s′ : Solving) → take-class (s .classes) (s .constraints) (s .classes) ≡ some (low, c) → round s at low c ≡ done s′ → cost s′ < cost s
 falls s F at low c s′ q e = class-falls s F at low c s′ (taken s F low c q .own) e
 
+pub keeps : (s : Solving) → Fair s → (at low : ℕ) (c : Constraint) (s′ : Solving) → take-class (s .classes) (s .constraints) (s .classes) ≡ some (low, c) → round s at low c ≡ done s′ → Fair s′
+keeps s F at low c s′ q e = round-fair s F at low c s′ (taken s F low c q .own) e
+
 -- ---- the rounds
 
-abbrev pub Rests : Solving → Type 0
+abbrev Rests : Solving → Type 0
 Rests s = take-class (s .classes) (s .constraints) (s .classes) ≡ none
 
 -- a turn, the class being taken
@@ -234,9 +237,8 @@ ends-in (suc n) s F h at r e = go (take-class (s .classes) (s .constraints) (s .
     go none q f d = let z = done-once d in rw (← z) (F, q)
     go (some (low, c)) q f d =
         let x = bind-done (round s at low c) (rounds n at) r d in
-        let T = taken s F low c q in
         let l = falls s F at low c (x .0) q (x .1) in
-        f (x .0) (round-fair s F at low c (x .0) (T .own) (x .1)) (omega arith) (x .2)
+        f (x .0) (keeps s F at low c (x .0) q (x .1)) (omega arith) (x .2)
 
 turns-agree : (n m : ℕ) (s : Solving) → Fair s → cost s < n → cost s < m → (at : ℕ) → rounds n at s ≡ rounds m at s
 unfolding rounds
@@ -247,7 +249,7 @@ turns-agree (suc n) (suc m) s F h k at = go (take-class (s .classes) (s .constra
     after : (low : ℕ) (c : Constraint) → take-class (s .classes) (s .constraints) (s .classes) ≡ some (low, c) → ((u : Solving) → Fair u → cost u < n → cost u < m → rounds n at u ≡ rounds m at u) →
         (o : Outcome Solving) → round s at low c ≡ o → (o >>= rounds n at) ≡ (o >>= rounds m at)
     after low c q f (refused r) e = refl
-    after low c q f (done u) e = let l = falls s F at low c u q e in f u (round-fair s F at low c u (taken s F low c q .own) e) (omega arith) (omega arith)
+    after low c q f (done u) e = let l = falls s F at low c u q e in f u (keeps s F at low c u q e) (omega arith) (omega arith)
 
     go : (o : Option (ℕ × Constraint)) → take-class (s .classes) (s .constraints) (s .classes) ≡ o → ((u : Solving) → Fair u → cost u < n → cost u < m → rounds n at u ≡ rounds m at u) →
         then-on n at s o ≡ then-on m at s o

@@ -30,6 +30,7 @@ pub record Grown (t : Sites) (n : ℕ) (c : Constraint) : Type 0 where
   pub inside : n < length t
   pub children : (i : ℕ) → i < child-count c → Has t (child n c i)
 
+-- sound sites; sound labels, ascending, of sites that are there; the constraints ascending, each with its children
 pub record Fair (s : Solving) : Type 0 where
   pub sites : Sound (s .sites)
   pub classes : Fine (λ n. n < length (s .sites)) (s .classes)
@@ -56,7 +57,7 @@ put-grown t u cs s c x G h n d e = go (ℕ-discrete s n)
 
 -- ---- what the items leave
 
--- a rule on its way
+-- a rule on its way: as fair, and its equalities are of sites that are there
 pub record Loaded (l : Loading) : Type 0 where
   pub sites : Sound (l .sites)
   pub equal : (p : ℕ × ℕ) → List·Memᴰ p (l .equalities) → (p .0 < length (l .sites)) × (p .1 < length (l .sites))

@@ -1,16 +1,16 @@
 -- Of every set that calls and sheets make: its sites are sound (`made-sound`), and in each of its kept rules no equal site is constrained (`made-until`).
-use mathlib.Core.Path.{_≡_, refl, sym, ap}
+use mathlib.Core.Path.{_≡_, sym}
 use mathlib.Core.Bool.{not}
 use mathlib.Core.Option.{none, some}
 use mathlib.Core.Logic.{_⊎_, inl, inr}
-use mathlib.Core.List.{List, [], _∷_, _++_, List·Memᴰ, List·Memᴰ·append-cases, List·Memᴰ·eq-of-singleton}
+use mathlib.Core.List.{[], _∷_, _++_, List·Memᴰ, List·Memᴰ·append-cases, List·Memᴰ·eq-of-singleton}
 use Prim.Native.Nat.{ℕ, suc}
 use lib.ListN.{length}
-use lib.Dec.{eqb, ltb, leb}
+use lib.Dec.{ltb, leb}
 use Rattle.paper.specs.declared.Refusal.the-variants.{TooManyRules, TooManyItems, TooManyConstrained, TooManyEqual, PlaceUsed}
 use Rattle.paper.specs.Words.{look}
 use Rattle.paper.specs.Numbers.{max-rules, max-items, max-constrained, max-equal, most-rounds, done}
-use Rattle.paper.specs.Sites.{Sound, add}
+use Rattle.paper.specs.Sites.{Sound}
 use Rattle.paper.specs.Loading.{Written, Kept, Set, Loading, Solving, closure, holders, conflict, check-4, steps, endless, hanging, no-hanging, no-endless, load-items, rounds, started, normalise, with-rule, used, load, empty-set, with-sites, Made, begun, site-added, rule-loaded}
 use Rattle.paper.specs.Outcomes.{done-once, bind-done, demand-done}
 use Rattle.paper.specs.Adding.{none-there, add-sound}

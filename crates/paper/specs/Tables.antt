@@ -4,14 +4,13 @@ use mathlib.Core.Path.{_≡_, refl, sym, ap, _∙_}
 use mathlib.Core.Bool.{Bool, true, false, not}
 use mathlib.Core.Option.{Option, none, some}
 use mathlib.Core.List.{List, [], _∷_, map, List·Memᴰ, List·Memᴰ·head, List·Memᴰ·tail, Memᴰ·map, Memᴰ·of-map}
-use Prim.Native.Nat.{ℕ, zero, suc, _≤_, _<_, min, max, compare, Ordering, Ordering·lt, Ordering·eq, Ordering·gt}
+use Prim.Native.Nat.{ℕ, suc, _≤_, min, max, compare, Ordering, Ordering·lt, Ordering·eq, Ordering·gt}
 use native.Mathlib.Omega.{arith}
 use native.Mathlib.Decide.{ℕ-discrete}
 use lib.Dec.{eqb, isEq, isLe}
 use borrow.Author.Tests.{eqb-true, eqb-false, eq-eqb, ne-eqb, leb-true, leb-false, not-true}
-use Rattle.paper.specs.Words.{if_then_else_, or-else, keep, Table, look, put}
+use Rattle.paper.specs.Words.{if_then_else_, keep, Table, look, put}
 use Rattle.paper.specs.Loading.{Labels, lowest, relabel, join, join-all, members, dissolve}
-use Rattle.paper.specs.Joins.{Lowest}
 use Rattle.paper.specs.Labels.{Sound, never, look-here, look-past, put-there, join-sound, none-sound}
 
 -- ---- lists
