@@ -6,3 +6,6 @@ pub mod Round
 pub mod Refuse
 pub mod Generic
 pub mod Whole
+pub mod Tables
+pub mod Grow
+pub mod Entries
