@@ -84,7 +84,7 @@ first-some {A} p (y ∷ xs) x e = go (p y) refl e (λ q. first-some p xs x q)
 
 -- ---- numbers ascending
 
-pub Rising : {A : Type 0} → ℕ → Table A → Type 0
+unfoldable pub Rising : {A : Type 0} → ℕ → Table A → Type 0
 Rising lo [] = Unit {0}
 Rising lo (p ∷ ps) = (lo ≤ p .0) × Rising (suc (p .0)) ps
 
@@ -136,7 +136,7 @@ look-in {A} ((k, b) ∷ t) n a e = go (eqb k n) refl e (λ q. look-in t n a q)
     go true q f r = let z = eqb-true k n q in let w : b ≡ a = cc in let v : _≡_ {A = ℕ × A} (n, a) (k, b) = rw (z, w) refl in List·Memᴰ·head v
     go false q f r = List·Memᴰ·tail (r f)
 
-rising-in : {A : Type 0} (lo : ℕ) (t : Table A) → Rising lo t → (p : ℕ × A) → List·Memᴰ p t → lo ≤ p .0
+pub rising-in : {A : Type 0} (lo : ℕ) (t : Table A) → Rising lo t → (p : ℕ × A) → List·Memᴰ p t → lo ≤ p .0
 unfolding Rising
 rising-in lo (q ∷ t) r p (List·Memᴰ·head e) = let w = r .0 in let z = ap (λ (x : ℕ × _). x .0) e in omega arith
 rising-in lo (q ∷ t) r p (List·Memᴰ·tail m) = let w = r .0 in let h = rising-in (suc (q .0)) t (r .1) p m in omega arith

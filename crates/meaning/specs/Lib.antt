@@ -9,3 +9,5 @@ pub mod Whole
 pub mod Tables
 pub mod Grow
 pub mod Entries
+pub mod Joining
+pub mod Exec
