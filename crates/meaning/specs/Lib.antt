@@ -11,3 +11,4 @@ pub mod Grow
 pub mod Entries
 pub mod Joining
 pub mod Exec
+pub mod Rounds

@@ -84,16 +84,16 @@ module _ (kind : ℕ → Kind) (kid : ℕ → Constraint → ℕ → ℕ) (con :
 -- ---- the rounds, all over the last table
 
 pub data Rounds (kind : ℕ → Kind) (kid : ℕ → Constraint → ℕ → ℕ) : (ℕ → Option Constraint) → (ℕ → ℕ) → (ℕ → Option Constraint) → (ℕ → ℕ) → Type 0 where
-  done : {con : ℕ → Option Constraint} {rep : ℕ → ℕ} → Rounds kind kid con rep con rep
-  round : {con con₁ con₂ : ℕ → Option Constraint} {rep rep₁ rep₂ : ℕ → ℕ} (low : ℕ) (c : Constraint) → Round kid con rep con₁ rep₁ low c → Grown kind con₁ kid → Rounds kind kid con₁ rep₁ con₂ rep₂ → Rounds kind kid con rep con₂ rep₂
+  no-more : {con : ℕ → Option Constraint} {rep : ℕ → ℕ} → Rounds kind kid con rep con rep
+  one-more : {con con₁ con₂ : ℕ → Option Constraint} {rep rep₁ rep₂ : ℕ → ℕ} (low : ℕ) (c : Constraint) → Round kid con rep con₁ rep₁ low c → Grown kind con₁ kid → Rounds kind kid con₁ rep₁ con₂ rep₂ → Rounds kind kid con rep con₂ rep₂
 
 pub rounds-state : {kind : ℕ → Kind} {kid : ℕ → Constraint → ℕ → ℕ} {con con′ : ℕ → Option Constraint} {rep rep′ : ℕ → ℕ} → Rounds kind kid con rep con′ rep′ → State kind con kid rep → State kind con′ kid rep′
-rounds-state done S = S
-rounds-state {kind} {kid} (round {con = con} {con₁ = con₁} {rep = rep} {rep₁ = rep₁} low c R G N) S = rounds-state N (state-after kind kid con rep con₁ rep₁ low c R S G)
+rounds-state no-more S = S
+rounds-state {kind} {kid} (one-more {con = con} {con₁ = con₁} {rep = rep} {rep₁ = rep₁} low c R G N) S = rounds-state N (state-after kind kid con rep con₁ rep₁ low c R S G)
 
 pub rounds-same : {kind : ℕ → Kind} {kid : ℕ → Constraint → ℕ → ℕ} {con con′ : ℕ → Option Constraint} {rep rep′ : ℕ → ℕ} → Rounds kind kid con rep con′ rep′ → State kind con kid rep → (at : ℕ → Option Value) → Reads kind at → Fulfils at con (Held rep) ↔ Fulfils at con′ (Held rep′)
-rounds-same done S at I = (λ m. m, λ m. m)
-rounds-same {kind} {kid} (round {con = con} {con₁ = con₁} {rep = rep} {rep₁ = rep₁} low c R G N) S at I =
+rounds-same no-more S at I = (λ m. m, λ m. m)
+rounds-same {kind} {kid} (one-more {con = con} {con₁ = con₁} {rep = rep} {rep₁ = rep₁} low c R G N) S at I =
     let S₁ = state-after kind kid con rep con₁ rep₁ low c R S G in
     let one = round-same kind kid con rep con₁ rep₁ low c R at I S₁ in
     let rest = rounds-same N S₁ at I in
