@@ -12,3 +12,4 @@ pub mod Entries
 pub mod Joining
 pub mod Exec
 pub mod Rounds
+pub mod Items
