@@ -13,3 +13,4 @@ pub mod Joining
 pub mod Exec
 pub mod Rounds
 pub mod Items
+pub mod Hangs
