@@ -14,3 +14,4 @@ pub mod Exec
 pub mod Rounds
 pub mod Items
 pub mod Hangs
+pub mod Checks
