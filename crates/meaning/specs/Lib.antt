@@ -15,3 +15,4 @@ pub mod Rounds
 pub mod Items
 pub mod Hangs
 pub mod Checks
+pub mod Loads
