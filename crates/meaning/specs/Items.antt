@@ -19,15 +19,12 @@ use Rattle.paper.specs.Words.{look, put, first}
 use Rattle.paper.specs.Numbers.{max-sites, max-sources, max-fields, max-term, number, Outcome, done, refused, _>>=_, demand}
 use Rattle.paper.specs.Sites.{Site, Sites, same-constraint, fields, child, child-count, children, known, sources, term-of, number-of, missing-source, term-fits, Added, or-next, add, add-all, Sound}
 use Rattle.paper.specs.Inputs.{Given, Meets, Agree, MeetsItem, Matches, shape}
-use Rattle.paper.specs.Loading.{Loading, Set, constrain, load-item, load-items}
+use Rattle.paper.specs.Fair.{no-items}
+use Rattle.paper.specs.Loading.{Loading, constrain, load-item, load-items}
 use Rattle.paper.specs.Laws.{same-constraint-true, same-list-refl}
 use Rattle.paper.specs.Labels.{never, put-here, put-there}
 use Rattle.meaning.specs.Tables.{then-done, then-refused, demand-done, demand-refused, Extends, Has, extends-length, Grown-by, add-all-grown, in-children}
 use Rattle.meaning.specs.Entries.{Rising, put-rising}
-
--- a rule on its way, before its first item
-abbrev pub begin : Set → Loading
-begin g = record { sites = g .sites; constraints = []; equalities = []; named = [] }
 
 -- ---- what holds after some items
 
@@ -43,9 +40,9 @@ pub record Part (items : List Item) (l : Loading) : Type 0 where
   pub named-eq : (a b : ℕ) → List·Memᴰ (a, b) (l .equalities) → List·Memᴰ a (l .named) × List·Memᴰ b (l .named)
   pub known : (n : ℕ) → List·Memᴰ n (l .named) → n < length (l .sites)
 
-pub begin-part : (g : Set) → Sound (g .sites) → Part [] (begin g)
+pub begin-part : (t : Sites) → Sound t → Part [] (no-items t)
 unfolding look Rising
-begin-part g S = record {
+begin-part t S = record {
   sound = S;
   rising = tt;
   has = λ n c i e h. absurd (never e);

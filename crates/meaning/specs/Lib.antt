@@ -16,3 +16,4 @@ pub mod Items
 pub mod Hangs
 pub mod Checks
 pub mod Loads
+pub mod Answers

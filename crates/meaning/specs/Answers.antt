@@ -1,0 +1,191 @@
+-- What paper's `load` answers means: the proofs of Demand3.antt.
+use mathlib.Core.Path.{_≡_, refl, sym, ap, _∙_}
+use mathlib.Core.Option.{Option, none, some}
+use mathlib.Core.Bool.{Bool, true, false, not}
+use mathlib.Core.Logic.{_↔_, _⊎_, inl, inr}
+use mathlib.Core.List.{List, [], _∷_, _++_, List·Memᴰ}
+use Prim.Native.Nat.{ℕ, zero, suc, _≤_, _<_}
+use native.Mathlib.Omega.{arith}
+use native.Mathlib.Decide.{ℕ-discrete}
+use lib.ListN.{length}
+use lib.Dec.{leb, ltb}
+use Rattle.paper.specs.declared.Constraint.{Constraint}
+use Rattle.paper.specs.declared.Item.{Item}
+use Rattle.paper.specs.declared.Item.the-variants.{Is, Equal}
+use Rattle.paper.specs.declared.Refusal.{Refusal}
+use Rattle.paper.specs.declared.Refusal.the-variants.{TooManyRules, TooManyItems, PlaceUsed}
+use Rattle.paper.specs.Words.{look}
+use Rattle.paper.specs.Numbers.{max-rules, max-items, number, Outcome, done, refused, _>>=_, demand}
+use Rattle.paper.specs.Sites.{Sites, child-number, Sound}
+use Rattle.paper.specs.Inputs.{Given, Input, Meets, Agree, MeetsItem, Matches, MatchesKept}
+use Rattle.paper.specs.Loading.{Loading, Solving, Set, Written, Kept, started, lowest, load-items, normalise, with-rule, used, load}
+use Rattle.paper.specs.Fair.{no-items, load-fair}
+use Rattle.paper.specs.Making.{Loads, load-done}
+use Rattle.meaning.specs.Kinds.{kind-in, Fulfils, input-is}
+use Rattle.meaning.specs.Model.{Held}
+use Rattle.meaning.specs.Whole as H
+use Rattle.meaning.specs.Tables.{then-refused, demand-refused, Extends, extends-length}
+use Rattle.meaning.specs.Grow.{input-part, input-more}
+use Rattle.meaning.specs.Joining.{Well, has-label, label-of}
+use Rattle.meaning.specs.Items.{Part, begin-part, Went, load-part, Unmet, not-unmet, items-clash}
+use Rattle.meaning.specs.Loads.{normalise-unmet, ran, kept}
+use Rattle.meaning.specs.Rounds.{Ran}
+
+-- ---- a refusal with 4 or 6
+
+data Why (g : Set) (r : Written) (x : Refusal) : Type 0 where
+  among-items : load-items (no-items (g .sites)) 0 (r .items) ≡ refused x → Why g r x
+  after-items : (l : Loading) → load-items (no-items (g .sites)) 0 (r .items) ≡ done l → normalise l (r .count) ≡ refused x → Why g r x
+
+load-refused : (g : Set) (r : Written) (x : Refusal) → load g r ≡ refused x → Unmet x → Why g r x
+unfolding load number
+load-refused g r x e u = one (ltb (length (g .kept)) max-rules) (leb (r .count) max-items) (used g (r .place)) e
+  where
+    five : (l : Loading) → load-items (no-items (g .sites)) 0 (r .items) ≡ done l → (o : Outcome Solving) → normalise l (r .count) ≡ o → _≡_ {A = Outcome Set} (o >>= λ s. done (with-rule g r s)) (refused x) → Why g r x
+    five l p (done s) q h = let z : _≡_ {A = ℕ} 0 1 = cc in absurd (omega arith)
+    five l p (refused y) q h = let z : y ≡ x = cc in after-items l p (q ∙ ap refused z)
+
+    four : (o : Outcome Loading) → load-items (no-items (g .sites)) 0 (r .items) ≡ o → _≡_ {A = Outcome Set} (o >>= λ l. normalise l (r .count) >>= λ s. done (with-rule g r s)) (refused x) → Why g r x
+    four (done l) q h = five l q (normalise l (r .count)) refl h
+    four (refused y) q h = let z : y ≡ x = cc in among-items (q ∙ ap refused z)
+
+    one : (a b c : Bool) → _≡_ {A = Outcome Set} (demand a (TooManyRules (suc (length (g .kept)))) >>= λ _. demand b (TooManyItems (r .count)) >>= λ _. demand (not c) (PlaceUsed (r .place)) >>= λ _. load-items (no-items (g .sites)) 0 (r .items) >>= λ l. normalise l (r .count) >>= λ s. done (with-rule g r s)) (refused x) → Why g r x
+    one true true false h = four (load-items (no-items (g .sites)) 0 (r .items)) refl h
+    one true true true h = absurd (not-unmet (PlaceUsed (r .place)) x 8 (cc) refl (λ q. omega arith) (λ q. omega arith) u)
+    one true false c h = absurd (not-unmet (TooManyItems (r .count)) x 7 (cc) refl (λ q. omega arith) (λ q. omega arith) u)
+    one false b c h = absurd (not-unmet (TooManyRules (suc (length (g .kept)))) x 7 (cc) refl (λ q. omega arith) (λ q. omega arith) u)
+
+-- no input of the sites that its items leave matches it
+pub refused-right : (g : Set) (r : Written) (x : Refusal) → Sound (g .sites) → load g r ≡ refused x → Unmet x → (at : Given) →
+    ((l : Loading) → load-items (no-items (g .sites)) 0 (r .items) ≡ done l → Input (l .sites) at) → Matches at (r .items) → ⊥
+refused-right g r x S e u at I M = go (load-refused g r x e u)
+  where
+    go : Why g r x → ⊥
+    go (among-items q) = items-clash [] (r .items) (no-items (g .sites)) 0 x (begin-part (g .sites) S) q u at M
+    go (after-items l q n) = normalise-unmet (r .items) l (r .count) x (load-part [] (r .items) (no-items (g .sites)) l 0 (begin-part (g .sites) S) q .part) n u at (I l q) M
+
+-- ---- a rule that is kept
+
+last-same : {A : Type 0} (xs : List A) (a b : A) → xs ++ (a ∷ []) ≡ xs ++ (b ∷ []) → a ≡ b
+last-same [] a b e = cc
+last-same (x ∷ xs) a b e = last-same xs a b (let q : x ∷ (xs ++ (a ∷ [])) ≡ x ∷ (xs ++ (b ∷ [])) = e in cc)
+
+-- a kept rule, as labels and as classes
+pub fulfils-kept : (k : Kept) → Well (k .equals) → (at : Given) → MatchesKept at k ↔ Fulfils at (look (k .constraints)) (Held (lowest (k .equals)))
+fulfils-kept k W at = (
+  λ M. record { meets = M .meets; agrees = λ a b h. M .agrees a b (lowest (k .equals) a) (label-of (k .equals) W a b (h .same) (h .two)) (label-of (k .equals) W b a (sym (h .same)) (λ e. h .two (sym e)) ∙ ap some (sym (h .same))) },
+  λ F. record { meets = F .meets; agrees = λ a b low p q. agrees F a b low p q (ℕ-discrete a b) },
+)
+  where
+    agrees : Fulfils at (look (k .constraints)) (Held (lowest (k .equals))) → (a b low : ℕ) → look (k .equals) a ≡ some low → look (k .equals) b ≡ some low → Dec (a ≡ b) → Agree at a b
+    agrees F a b low p q (no d) = F .agrees a b (record { same = has-label (k .equals) a low p ∙ sym (has-label (k .equals) b low q); two = d })
+    agrees F a b low p q (yes e) =
+        let m = W .mate a low p in
+        let g = F .agrees a (m .0) (record { same = sym (m .2); two = λ z. m .1 (sym z) }) in
+        rw (← e) (record { value = g .value; one = g .one; other = g .one })
+
+pub record Solved-as (g : Set) (r : Written) (h : Set) (k : Kept) : Type 0 where
+  pub loading : Loading
+  pub solved : Solving
+  pub items : load-items (no-items (g .sites)) 0 (r .items) ≡ done loading
+  pub normalised : normalise loading (r .count) ≡ done solved
+  pub sites-are : h .sites ≡ solved .sites
+  pub constraints-are : k .constraints ≡ solved .constraints
+  pub equals-are : k .equals ≡ solved .classes
+
+pub solved-as : (g : Set) (r : Written) (h : Set) (k : Kept) → load g r ≡ done h → h .kept ≡ g .kept ++ (k ∷ []) → Solved-as g r h k
+unfolding with-rule
+solved-as g r h k e last =
+    let L = load-done g r h e in
+    let q = L .after in
+    let K : Kept = record { place = r .place; priority = r .priority; constraints = L .solved .constraints; equals = L .solved .classes } in
+    let z : g .kept ++ (k ∷ []) ≡ g .kept ++ (K ∷ []) = sym last ∙ ap (λ (x : Set). x .kept) q in
+    let w : k ≡ K = last-same (g .kept) k K z in
+    record {
+      loading = L .loading;
+      solved = L .solved;
+      items = L .items;
+      normalised = L .normalised;
+      sites-are = ap (λ (x : Set). x .sites) q;
+      constraints-are = ap (λ (x : Kept). x .constraints) w;
+      equals-are = ap (λ (x : Kept). x .equals) w;
+    }
+
+pub last-kept : (g : Set) (r : Written) (h : Set) → load g r ≡ done h → (k : Kept) × (h .kept ≡ g .kept ++ (k ∷ [])) × (k .place ≡ r .place) × (k .priority ≡ r .priority)
+unfolding with-rule
+last-kept g r h e =
+    let L = load-done g r h e in
+    (record { place = r .place; priority = r .priority; constraints = L .solved .constraints; equals = L .solved .classes }, ap (λ (x : Set). x .kept) (L .after), refl, refl)
+
+module _ (g : Set) (r : Written) (h : Set) (k : Kept) (S : Sound (g .sites)) (l : Loading) (f : Solving) (loaded : load-items (no-items (g .sites)) 0 (r .items) ≡ done l) (normalised : normalise l (r .count) ≡ done f)
+    (sites-are : h .sites ≡ f .sites) (constraints-are : k .constraints ≡ f .constraints) (equals-are : k .equals ≡ f .classes) where
+  went : Went (r .items) (no-items (g .sites)) l
+  went = load-part [] (r .items) (no-items (g .sites)) l 0 (begin-part (g .sites) S) loaded
+
+  K : H.Kept (kind-in (f .sites)) (length (f .sites)) (child-number (f .sites)) (r .items) (look (f .constraints)) (lowest (f .classes))
+  K = kept (r .items) l (went .part) (r .count) f (load-fair (g .sites) 0 (r .items) l S loaded) normalised
+
+  R : Ran (started l) f
+  R = ran (r .items) l (went .part) (r .count) f (load-fair (g .sites) 0 (r .items) l S loaded) normalised
+
+  pub well : Well (k .equals)
+  well = rw equals-are (R .well)
+
+  pub sound-after : Sound (h .sites)
+  sound-after = rw sites-are (R .sound)
+
+  pub items-grow : Extends (g .sites) (l .sites)
+  items-grow = went .extends
+
+  pub rounds-grow : Extends (l .sites) (h .sites)
+  rounds-grow = rw sites-are (R .extends)
+
+  pub named-inside : (i : Item) → List·Memᴰ i (r .items) → (at at′ : Given) → ((n : ℕ) → n < length (l .sites) → at n ≡ at′ n) → MeetsItem at i → MeetsItem at′ i
+  named-inside (Is n c) m at at′ same M =
+      let P = went .part in
+      let e = P .con-of n c m in
+      let q = same n (P .known n (P .named-con n c e)) in
+      record { value = M .value; there = sym q ∙ M .there; shaped = M .shaped }
+  named-inside (Equal a b) m at at′ same M =
+      let P = went .part in
+      let w = P .named-eq a b (P .eq-of a b m) in
+      let p = same a (P .known a (w .0)) in
+      let q = same b (P .known b (w .1)) in
+      record { value = M .value; one = sym p ∙ M .one; other = sym q ∙ M .other }
+
+  pub grow-input : (at : Given) → Input (l .sites) at → (at′ : Given) × Input (h .sites) at′ × ((n : ℕ) → n < length (l .sites) → at n ≡ at′ n)
+  grow-input at I = input-more (l .sites) (h .sites) at (went .part .sound) sound-after rounds-grow I
+
+  pub same-inputs : (at : Given) → Input (h .sites) at → Matches at (r .items) ↔ MatchesKept at k
+  same-inputs at I =
+      let w = H.kept-same (kind-in (f .sites)) (length (f .sites)) (child-number (f .sites)) (r .items) (look (f .constraints)) (lowest (f .classes)) K at (input-is (f .sites) at .0 (rw sites-are at I)) in
+      let v = fulfils-kept k well at in
+      (λ M. v .1 (rw (constraints-are, equals-are) (w .0 M)), λ M. w .1 (rw (constraints-are, equals-are) at (v .0 M)))
+
+  pub forced-shape : (n : ℕ) (c : Constraint) → (look (k .constraints) n ≡ some c) ↔ ((at : Given) → Input (h .sites) at → Matches at (r .items) → Meets at n c)
+  forced-shape n c =
+      let w = H.kept-shape (kind-in (f .sites)) (length (f .sites)) (child-number (f .sites)) (r .items) (look (f .constraints)) (lowest (f .classes)) K n c in (
+        λ e at I M. same-inputs at I .0 M .meets n c e,
+        λ F. ap (λ t. look t n) constraints-are ∙ w .1 (λ at I M. F at (rw sites-are (input-is (f .sites) at .1 I)) M),
+      )
+
+  pub forced-equal : (a b : ℕ) → (a ≡ b → ⊥) → look (k .constraints) a ≡ none → look (k .constraints) b ≡ none →
+      ((low : ℕ) × (look (k .equals) a ≡ some low) × (look (k .equals) b ≡ some low)) ↔ ((at : Given) → Input (h .sites) at → Matches at (r .items) → Agree at a b)
+  forced-equal a b d p q =
+      let w = H.kept-equal (kind-in (f .sites)) (length (f .sites)) (child-number (f .sites)) (r .items) (look (f .constraints)) (lowest (f .classes)) K a b d (rw constraints-are at p) (rw constraints-are at q) in (
+        λ e at I M. same-inputs at I .0 M .agrees a b (e .0) (e .1) (e .2),
+        λ F. held (w .1 (λ at I M. F at (rw sites-are (input-is (f .sites) at .1 I)) M)),
+      )
+    where
+      held : Held (lowest (f .classes)) a b → (low : ℕ) × (look (k .equals) a ≡ some low) × (look (k .equals) b ≡ some low)
+      held e =
+          let s : lowest (k .equals) a ≡ lowest (k .equals) b = rw equals-are (e .same) in
+          (lowest (k .equals) a, label-of (k .equals) well a b s d, label-of (k .equals) well b a (sym s) (λ z. d (sym z)) ∙ ap some (sym s))
+
+  pub has-input : (at : Given) × Input (h .sites) at × Matches at (r .items)
+  has-input =
+      let m = H.kept-matched (kind-in (f .sites)) (length (f .sites)) (child-number (f .sites)) (r .items) (look (f .constraints)) (lowest (f .classes)) K in
+      (m .0, put-in (m .0) (input-is (f .sites) (m .0) .1 (m .1)), m .2)
+    where
+      put-in : (at : Given) → Input (f .sites) at → Input (h .sites) at
+      put-in at I = rw sites-are I
