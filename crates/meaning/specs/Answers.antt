@@ -189,3 +189,50 @@ module _ (g : Set) (r : Written) (h : Set) (k : Kept) (S : Sound (g .sites)) (l 
     where
       put-in : (at : Given) → Input (f .sites) at → Input (h .sites) at
       put-in at I = rw sites-are I
+
+-- ---- over the sites of a rule: those that its items leave, or, where an item is refused, the set's
+
+abbrev pub left-by : Sites → Outcome Loading → Sites
+left-by t (done l) = l .sites
+left-by t (refused x) = t
+
+module _ (g : Set) (r : Written) (S : Sound (g .sites)) where
+  abbrev its : Sites
+  its = left-by (g .sites) (load-items (no-items (g .sites)) 0 (r .items))
+
+  pub refused-unmatched : (x : Refusal) → load g r ≡ refused x → Unmet x → (at : Given) → Input (left-by (g .sites) (load-items (no-items (g .sites)) 0 (r .items))) at → Matches at (r .items) → ⊥
+  refused-unmatched x e u at I M = refused-right g r x S e u at (λ l q. rw q at I) M
+
+  module _ (h : Set) (k : Kept) (loaded : load g r ≡ done h) (last : h .kept ≡ g .kept ++ (k ∷ [])) where
+    L : Solved-as g r h k
+    L = solved-as g r h k loaded last
+
+    its-are : its ≡ L .loading .sites
+    its-are = ap (left-by (g .sites)) (L .items)
+
+    pub same : (at : Given) → Input (h .sites) at → Matches at (r .items) ↔ MatchesKept at k
+    same = same-inputs g r h k S (L .loading) (L .solved) (L .items) (L .normalised) (L .sites-are) (L .constraints-are) (L .equals-are)
+
+    pub shapes : (n : ℕ) (c : Constraint) → (look (k .constraints) n ≡ some c) ↔ ((at : Given) → Input (h .sites) at → Matches at (r .items) → Meets at n c)
+    shapes = forced-shape g r h k S (L .loading) (L .solved) (L .items) (L .normalised) (L .sites-are) (L .constraints-are) (L .equals-are)
+
+    pub equals : (a b : ℕ) → (a ≡ b → ⊥) → look (k .constraints) a ≡ none → look (k .constraints) b ≡ none →
+        ((low : ℕ) × (look (k .equals) a ≡ some low) × (look (k .equals) b ≡ some low)) ↔ ((at : Given) → Input (h .sites) at → Matches at (r .items) → Agree at a b)
+    equals = forced-equal g r h k S (L .loading) (L .solved) (L .items) (L .normalised) (L .sites-are) (L .constraints-are) (L .equals-are)
+
+    pub matched : (at : Given) × Input (h .sites) at × Matches at (r .items)
+    matched = has-input g r h k S (L .loading) (L .solved) (L .items) (L .normalised) (L .sites-are) (L .constraints-are) (L .equals-are)
+
+    pub grown : Extends (g .sites) (left-by (g .sites) (load-items (no-items (g .sites)) 0 (r .items))) × Extends (left-by (g .sites) (load-items (no-items (g .sites)) 0 (r .items))) (h .sites) ×
+        ((at : Given) → Input (left-by (g .sites) (load-items (no-items (g .sites)) 0 (r .items))) at → (at′ : Given) × Input (h .sites) at′ × ((n : ℕ) → n < length (left-by (g .sites) (load-items (no-items (g .sites)) 0 (r .items))) → at n ≡ at′ n))
+    grown = rw its-are (items-grow g r h k S (L .loading) (L .solved) (L .items) (L .normalised) (L .sites-are) (L .constraints-are) (L .equals-are), rounds-grow g r h k S (L .loading) (L .solved) (L .items) (L .normalised) (L .sites-are) (L .constraints-are) (L .equals-are), grow-input g r h k S (L .loading) (L .solved) (L .items) (L .normalised) (L .sites-are) (L .constraints-are) (L .equals-are))
+
+  pub unmatched-refused : ((x : Refusal) → load g r ≡ refused x → Unmet x) → ((at : Given) → Input (left-by (g .sites) (load-items (no-items (g .sites)) 0 (r .items))) at → Matches at (r .items) → ⊥) → (x : Refusal) × (load g r ≡ refused x) × Unmet x
+  unmatched-refused others u = go (load g r) refl
+    where
+      go : (o : Outcome Set) → load g r ≡ o → (x : Refusal) × (load g r ≡ refused x) × Unmet x
+      go (refused x) e = (x, e, others x e)
+      go (done h) e =
+          let w = last-kept g r h e in
+          let m = matched h (w .0) e (w .1) in
+          absurd (u (m .0) (input-part its (h .sites) (m .0) (grown h (w .0) e (w .1) .1) (m .1)) (m .2))

@@ -17,3 +17,4 @@ pub mod Hangs
 pub mod Checks
 pub mod Loads
 pub mod Answers
+pub mod Demand3
