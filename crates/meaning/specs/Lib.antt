@@ -18,3 +18,4 @@ pub mod Checks
 pub mod Loads
 pub mod Answers
 pub mod Demand3
+pub mod Corollaries
