@@ -19,3 +19,4 @@ pub mod Loads
 pub mod Answers
 pub mod Demand3
 pub mod Corollaries
+pub mod Instance
