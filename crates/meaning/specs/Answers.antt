@@ -25,7 +25,8 @@ use Rattle.meaning.specs.Kinds.{kind-in, Fulfils, input-is}
 use Rattle.meaning.specs.Model.{Held}
 use Rattle.meaning.specs.Whole as H
 use Rattle.meaning.specs.Tables.{then-refused, demand-refused, Extends, extends-length}
-use Rattle.meaning.specs.Grow.{input-part, input-more}
+use Rattle.meaning.specs.Grow.{Full, full-of, input-part, input-more}
+use Rattle.meaning.specs.Entries.{Rising}
 use Rattle.meaning.specs.Joining.{Well, has-label, label-of}
 use Rattle.meaning.specs.Items.{Part, begin-part, Went, load-part, Unmet, not-unmet, items-clash}
 use Rattle.meaning.specs.Loads.{normalise-unmet, ran, kept}
@@ -83,6 +84,13 @@ fulfils-kept k W at = (
         let m = W .mate a low p in
         let g = F .agrees a (m .0) (record { same = sym (m .2); two = λ z. m .1 (sym z) }) in
         rw (← e) (record { value = g .value; one = g .one; other = g .one })
+
+-- a solved form: the children of its constrained sites are sites, what it names is rooted, and no class holds a constrained site
+pub record Stands (t : Sites) (k : Kept) : Type 0 where
+  pub rising : Rising 0 (k .constraints)
+  pub well : Well (k .equals)
+  pub full : Full t (look (k .constraints)) (lowest (k .equals))
+  pub free : (a b : ℕ) → lowest (k .equals) a ≡ lowest (k .equals) b → (a ≡ b → ⊥) → look (k .constraints) a ≡ none
 
 pub record Solved-as (g : Set) (r : Written) (h : Set) (k : Kept) : Type 0 where
   pub loading : Loading
@@ -190,6 +198,17 @@ module _ (g : Set) (r : Written) (h : Set) (k : Kept) (S : Sound (g .sites)) (l 
       put-in : (at : Given) → Input (f .sites) at → Input (h .sites) at
       put-in at I = rw sites-are I
 
+  -- and the kept rule is a solved form
+  pub stands : Stands (h .sites) k
+  stands =
+      let form = H.solved (kind-in (f .sites)) (length (f .sites)) (child-number (f .sites)) (r .items) (look (f .constraints)) (lowest (f .classes)) K in
+      record {
+        rising = rw constraints-are (R .rising);
+        well = well;
+        full = rw (sites-are, constraints-are, equals-are) (full-of (f .sites) (look (f .constraints)) (lowest (f .classes)) (form .kids) (form .rooted) (form .joined-rooted));
+        free = rw (constraints-are, equals-are) (form .joined-free);
+      }
+
 -- ---- over the sites of a rule: those that its items leave, or, where an item is refused, the set's
 
 abbrev pub left-by : Sites → Outcome Loading → Sites
@@ -219,6 +238,9 @@ module _ (g : Set) (r : Written) (S : Sound (g .sites)) where
     pub equals : (a b : ℕ) → (a ≡ b → ⊥) → look (k .constraints) a ≡ none → look (k .constraints) b ≡ none →
         ((low : ℕ) × (look (k .equals) a ≡ some low) × (look (k .equals) b ≡ some low)) ↔ ((at : Given) → Input (h .sites) at → Matches at (r .items) → Agree at a b)
     equals = forced-equal g r h k S (L .loading) (L .solved) (L .items) (L .normalised) (L .sites-are) (L .constraints-are) (L .equals-are)
+
+    pub new-stands : Stands (h .sites) k
+    new-stands = stands g r h k S (L .loading) (L .solved) (L .items) (L .normalised) (L .sites-are) (L .constraints-are) (L .equals-are)
 
     pub matched : (at : Given) × Input (h .sites) at × Matches at (r .items)
     matched = has-input g r h k S (L .loading) (L .solved) (L .items) (L .normalised) (L .sites-are) (L .constraints-are) (L .equals-are)

@@ -13,7 +13,7 @@ use Rattle.meaning.specs.Kinds.{Kind, outside, free, child-of, kind-of, 
 use Rattle.meaning.specs.Model.{Rooted, top, under}
 use Rattle.meaning.specs.Round.{State}
 use Rattle.meaning.specs.Eval.{input-grow}
-use Rattle.meaning.specs.Tables.{Extends, Has, get-inside, extends-length, inside-has, kind-stays, child-kind, places-of}
+use Rattle.meaning.specs.Tables.{Extends, Has, get-inside, extends-length, inside-has, kind-stays, child-kind, child-site, or-child, places-of}
 
 kind-inside : (t : Sites) (n m : ℕ) (p : Proj) → kind-in t n ≡ child-of m p → n < length t
 kind-inside t n m p e = go (getElem? t n) refl
@@ -48,6 +48,15 @@ full-state t con rep F = record {
   grown = record { kids = λ n c i e h. child-kind t n c i (F .has n c i e h) };
   rooted = F .rooted;
   joined-rooted = F .joined-rooted;
+}
+
+-- and back: a child whose number has its kind is there
+pub full-of : (t : Sites) (con : ℕ → Option Constraint) (rep : ℕ → ℕ) → ((n : ℕ) (c : Constraint) (i : ℕ) → con n ≡ some c → i < child-count c → kind-in t (child-number t n c i) ≡ child-of n (proj-at c i)) → ((n : ℕ) (c : Constraint) → con n ≡ some c → Rooted (kind-in t) con n) →
+    ((a b : ℕ) → rep a ≡ rep b → (a ≡ b → ⊥) → Rooted (kind-in t) con a) → Full t con rep
+full-of t con rep kids rooted joined = record {
+  has = λ n c i e h. (child-number t n c i, or-child (getElem? t (child-number t n c i)) n (proj-at c i) (kids n c i e h) ∙ ap some (sym (child-site n c i)));
+  rooted = rooted;
+  joined-rooted = joined;
 }
 
 pub full-grows : (t u : Sites) (con : ℕ → Option Constraint) (rep : ℕ → ℕ) → Extends t u → Full t con rep → Full u con rep

@@ -20,3 +20,5 @@ pub mod Answers
 pub mod Demand3
 pub mod Corollaries
 pub mod Instance
+pub mod Pairs
+pub mod Overlaps

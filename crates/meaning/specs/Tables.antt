@@ -142,7 +142,7 @@ child-site n (ConstInt t h l) i = refl
 child-site n (ConstPrim v) i = refl
 child-site n Some i = refl
 
-or-child : (o : Option Site) (m : ℕ) (p : Proj) → or-outside o ≡ child-of m p → o ≡ some (site-of m p)
+pub or-child : (o : Option Site) (m : ℕ) (p : Proj) → or-outside o ≡ child-of m p → o ≡ some (site-of m p)
 or-child none m p e = let z : _≡_ {A = ℕ} 0 1 = cc in absurd (omega arith)
 or-child (some s) m p e = ap some (kind-site s m p e)
 

@@ -27,7 +27,7 @@ con-stays kid con rep con′ rep′ low c R n d e = go (ℕ-discrete (rep n) (re
     go (yes q) = R .con-in n q ∙ ap some (sym (R .uniform n d q e))
     go (no q) = R .con-out n q ∙ e
 
-rooted-stays : (kind : ℕ → Kind) (con con′ : ℕ → Option Constraint) → ((n : ℕ) (d : Constraint) → con n ≡ some d → con′ n ≡ some d) → (n : ℕ) → Rooted kind con n → Rooted kind con′ n
+pub rooted-stays : (kind : ℕ → Kind) (con con′ : ℕ → Option Constraint) → ((n : ℕ) (d : Constraint) → con n ≡ some d → con′ n ≡ some d) → (n : ℕ) → Rooted kind con n → Rooted kind con′ n
 rooted-stays kind con con′ h n (top e) = top e
 rooted-stays kind con con′ h n (under m p c i e f g) = under m p c i e (h m c f) g
 
@@ -157,7 +157,7 @@ pub record Kept (kind : ℕ → Kind) (room : ℕ) (kid : ℕ → Constraint →
   pub ended : (a b : ℕ) → rep a ≡ rep b → (a ≡ b → ⊥) → con a ≡ none
 
 module _ (kind : ℕ → Kind) (room : ℕ) (kid : ℕ → Constraint → ℕ → ℕ) (items : List Item) (con : ℕ → Option Constraint) (rep : ℕ → ℕ) (K : Kept kind room kid items con rep) where
-  solved : Solved kind con kid rep
+  pub solved : Solved kind con kid rep
   solved = let S = rounds-state (K .rounds) (K .start) in record { kids = S .grown .kids; rooted = S .rooted; joined-rooted = S .joined-rooted; joined-free = K .ended }
 
   pub kept-same : (at : ℕ → Option Value) → Reads kind at → Matches at items ↔ Fulfils at con (Held rep)
