@@ -19,15 +19,15 @@ use Rattle.paper.specs.Numbers.{max-rules, max-items, number, Outcome, done, re
 use Rattle.paper.specs.Sites.{Sites, child-number, Sound}
 use Rattle.paper.specs.Inputs.{Given, Input, Meets, Agree, MeetsItem, Matches, MatchesKept}
 use Rattle.paper.specs.Loading.{Loading, Solving, Set, Written, Kept, started, lowest, load-items, normalise, with-rule, used, load}
+use Rattle.paper.specs.Adding.{Extends}
+use Rattle.paper.specs.Tables.{Rising, lowest-is}
 use Rattle.paper.specs.Fair.{no-items, load-fair}
 use Rattle.paper.specs.Making.{Loads, load-done}
 use Rattle.meaning.specs.Kinds.{kind-in, Fulfils, input-is}
 use Rattle.meaning.specs.Model.{Held}
 use Rattle.meaning.specs.Whole as H
-use Rattle.meaning.specs.Tables.{then-refused, demand-refused, Extends, extends-length}
 use Rattle.meaning.specs.Grow.{Full, full-of, input-part, input-more}
-use Rattle.meaning.specs.Entries.{Rising}
-use Rattle.meaning.specs.Joining.{Well, has-label, label-of}
+use Rattle.meaning.specs.Joining.{Well, label-of}
 use Rattle.meaning.specs.Items.{Part, begin-part, Went, load-part, Unmet, not-unmet, items-clash}
 use Rattle.meaning.specs.Loads.{normalise-unmet, ran, kept}
 use Rattle.meaning.specs.Rounds.{Ran}
@@ -79,7 +79,7 @@ fulfils-kept k W at = (
 )
   where
     agrees : Fulfils at (look (k .constraints)) (Held (lowest (k .equals))) → (a b low : ℕ) → look (k .equals) a ≡ some low → look (k .equals) b ≡ some low → Dec (a ≡ b) → Agree at a b
-    agrees F a b low p q (no d) = F .agrees a b (record { same = has-label (k .equals) a low p ∙ sym (has-label (k .equals) b low q); two = d })
+    agrees F a b low p q (no d) = F .agrees a b (record { same = lowest-is (k .equals) a low p ∙ sym (lowest-is (k .equals) b low q); two = d })
     agrees F a b low p q (yes e) =
         let m = W .mate a low p in
         let g = F .agrees a (m .0) (record { same = sym (m .2); two = λ z. m .1 (sym z) }) in
@@ -140,7 +140,7 @@ module _ (g : Set) (r : Written) (h : Set) (k : Kept) (S : Sound (g .sites)) (l 
   well = rw equals-are (R .well)
 
   pub sound-after : Sound (h .sites)
-  sound-after = rw sites-are (R .sound)
+  sound-after = rw sites-are (R .fair .sites)
 
   pub items-grow : Extends (g .sites) (l .sites)
   items-grow = went .extends
@@ -203,7 +203,7 @@ module _ (g : Set) (r : Written) (h : Set) (k : Kept) (S : Sound (g .sites)) (l 
   stands =
       let form = H.solved (kind-in (f .sites)) (length (f .sites)) (child-number (f .sites)) (r .items) (look (f .constraints)) (lowest (f .classes)) K in
       record {
-        rising = rw constraints-are (R .rising);
+        rising = rw constraints-are (R .fair .ascending);
         well = well;
         full = rw (sites-are, constraints-are, equals-are) (full-of (f .sites) (look (f .constraints)) (lowest (f .classes)) (form .kids) (form .rooted) (form .joined-rooted));
         free = rw (constraints-are, equals-are) (form .joined-free);

@@ -24,13 +24,19 @@ use Rattle.paper.specs.Walks.{returns-is}
 use Rattle.meaning.specs.Values.{Proj, proj-at, field, size, field-in, field-size}
 use Rattle.meaning.specs.Kinds.{kind-in, Places, Reads, Fulfils}
 use Rattle.meaning.specs.Model.{Rooted}
-use Rattle.meaning.specs.Refuse.{Grown, weight}
+use Rattle.meaning.specs.Round.{Grown}
 use Rattle.meaning.specs.Generic.{Ordered, freeValue, matches}
 use Rattle.meaning.specs.Eval.{value-of}
-use Rattle.meaning.specs.Tables.{Has, child-kind, places-of, first-none}
-use Rattle.meaning.specs.Entries.{Rising, in-look, look-in, in-keep, of-keep, least-none, least-some, first-some}
-use Rattle.meaning.specs.Joining.{Well, none-well, all-well, no-label}
+use Rattle.paper.specs.Tables.{in-look, look-in, in-keep, of-keep, lowest-own}
+use Rattle.meaning.specs.Places.{child-kind, places-of}
+use Rattle.meaning.specs.Lists.{least-none, least-some, first-some, first-none}
+use Rattle.meaning.specs.Joining.{Well, none-well, all-well}
 use Rattle.meaning.specs.Items.{Part, same-constraint-refl}
+
+-- the size of a value, or of none
+abbrev weight : Option Value → ℕ
+weight none = 0
+weight (some x) = size x
 
 -- ---- lists of like-numbered things
 
@@ -144,7 +150,7 @@ module _ (items : List Item) (l : Loading) (P : Part items l) where
   of-holders h m =
       let r = Memᴰ·of-map (holder (l .sites)) (l .constraints) m in
       let e : holder (l .sites) (r .0) ≡ h = r .2 in
-      rw (← e) (record { has = in-look 0 (l .constraints) (r .0 .0) (r .0 .1) (P .rising) (r .1); kids-are = refl })
+      rw (← e) (record { has = in-look 0 (l .constraints) (r .0) (P .rising) (r .1); kids-are = refl })
 
   in-holders : (n : ℕ) (c : Constraint) → con n ≡ some c → List·Memᴰ (holder (l .sites) (n, c)) hs
   unfolding holders
@@ -171,7 +177,7 @@ module _ (items : List Item) (l : Loading) (P : Part items l) where
   no-constraints : length (l .sites) ≡ 0 → (cs : Constraints) → l .constraints ≡ cs → cs ≡ []
   no-constraints z [] e = refl
   no-constraints z ((n, c) ∷ cs) e =
-      let q : con n ≡ some c = in-look 0 (l .constraints) n c (P .rising) (rw e (List·Memᴰ·head refl)) in
+      let q : con n ≡ some c = in-look 0 (l .constraints) (n, c) (P .rising) (rw e (List·Memᴰ·head refl)) in
       let h = P .known n (P .named-con n c q) in
       absurd (omega arith)
 
@@ -197,7 +203,7 @@ module _ (items : List Item) (l : Loading) (P : Part items l) where
       none-together z (like h g m n f t w) = let k = of-holders h m in let u = P .known (h .site) (P .named-con (h .site) (h .shape) (k .has)) in absurd (omega arith)
 
       own : length (l .sites) ≡ 0 → (n : ℕ) → lowest (closure l) n ≡ n
-      own z n = no-label (closure l) n (unfold look in (rw (empty-closure z)))
+      own z n = lowest-own (closure l) n (unfold look in (rw (empty-closure z)))
 
       go : (k : ℕ) → length (l .sites) ≡ k → (lowest (closure l) x ≡ lowest (closure l) y) ↔ Together (l .equalities) (holders l) x y
       go zero z = (λ e. let q : x ≡ y = sym (own z x) ∙ (e ∙ own z y) in rw q itself, λ t. ap (lowest (closure l)) (none-together z t))

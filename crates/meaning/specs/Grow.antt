@@ -6,14 +6,15 @@ use Prim.Native.Nat.{ℕ, zero, suc, _≤_, _<_}
 use native.Mathlib.Omega.{arith}
 use lib.ListN.{getElem?, length}
 use Rattle.paper.specs.declared.Constraint.{Constraint}
-use Rattle.paper.specs.Sites.{Site, Sites, constBool, constInt, constPrim, argument, extractor, constructor, iterator, makeVariant, matchVariant, makeStruct, extractStruct, makeSome, matchSome, matchTuple, child, child-count, child-number, Sound}
+use Rattle.paper.specs.Sites.{Site, Sites, site-at, constBool, constInt, constPrim, argument, extractor, constructor, iterator, makeVariant, matchVariant, makeStruct, extractStruct, makeSome, matchSome, matchTuple, child, child-count, child-number, Sound}
 use Rattle.paper.specs.Inputs.{Given, Input}
 use Rattle.meaning.specs.Values.{Proj, proj-at}
 use Rattle.meaning.specs.Kinds.{Kind, outside, free, child-of, kind-of, or-outside, kind-in, input-is}
 use Rattle.meaning.specs.Model.{Rooted, top, under}
 use Rattle.meaning.specs.Round.{State}
 use Rattle.meaning.specs.Eval.{input-grow}
-use Rattle.meaning.specs.Tables.{Extends, Has, get-inside, extends-length, inside-has, kind-stays, child-kind, child-site, or-child, places-of}
+use Rattle.paper.specs.Adding.{Extends, Has, get-inside, inside-has}
+use Rattle.meaning.specs.Places.{kind-stays, child-kind, child-site, or-child, places-of}
 
 kind-inside : (t : Sites) (n m : ℕ) (p : Proj) → kind-in t n ≡ child-of m p → n < length t
 kind-inside t n m p e = go (getElem? t n) refl
@@ -96,8 +97,4 @@ input-more t u at S S′ x I =
     (r .0, input-is u (r .0) .1 (r .1), r .2)
   where
     inside : (n : ℕ) → n < length t → kind-in t n ≡ outside → ⊥
-    inside n h e = go (getElem? t n) refl e
-      where
-        go : (o : Option Site) → getElem? t n ≡ o → or-outside o ≡ outside → ⊥
-        go none q f = inside-has t n h q
-        go (some s) q f = is-inside s f
+    inside n h e = is-inside (site-at t n) (sym (ap or-outside (inside-has t n h)) ∙ e)

@@ -11,12 +11,13 @@ use Rattle.paper.specs.Words.{look, any, least, keep}
 use Rattle.paper.specs.Sites.{Site, Sites, constBool, constInt, constPrim, argument, extractor, constructor, iterator, makeVariant, matchVariant, makeStruct, extractStruct, makeSome, matchSome, matchTuple, parent, child, child-count, children, site-at, same-site}
 use Rattle.paper.specs.Loading.{Loading, has-child, not-child, hangs, hanging}
 use Rattle.paper.specs.Laws.{same-site-true}
-use Rattle.paper.specs.Labels.{never}
+use Rattle.paper.specs.Adding.{inside-has, has-site-at}
+use Rattle.paper.specs.Tables.{in-keep}
 use Rattle.meaning.specs.Values.{Proj, variant-at, struct-at, inner-at, proj-at, field-of, field-of-proj-at}
 use Rattle.meaning.specs.Kinds.{Kind, free, child-of, kind-of, or-outside, kind-in}
 use Rattle.meaning.specs.Model.{Rooted, top, under}
-use Rattle.meaning.specs.Tables.{get-has, child-site, kind-of-site, of-children}
-use Rattle.meaning.specs.Entries.{of-any, in-keep, least-none}
+use Rattle.meaning.specs.Places.{child-site, kind-of-site, of-children}
+use Rattle.meaning.specs.Lists.{of-any, least-none}
 
 -- the kinds with a parent are the children
 data Lies (s : Site) : Option ℕ → Type 0 where
@@ -40,12 +41,6 @@ lies (makeSome s) = freely refl
 lies (matchSome s) = beneath
 lies (matchTuple s f) = freely refl
 
-get-site : (t : Sites) (n : ℕ) (s : Site) → getElem? t n ≡ some s → site-at t n ≡ s
-unfolding site-at
-get-site [] n s e = absurd (never e)
-get-site (x ∷ t) zero s e = cc
-get-site (x ∷ t) (suc n) s e = get-site t n s e
-
 module _ (l : Loading) (fine : hanging l ≡ none) where
   stands : (n : ℕ) → List·Memᴰ n (l .named) → hangs l n ≡ false
   unfolding hanging
@@ -57,7 +52,7 @@ module _ (l : Loading) (fine : hanging l ≡ none) where
 
   pub named-rooted : (n : ℕ) → List·Memᴰ n (l .named) → n < length (l .sites) → Rooted (kind-in (l .sites)) (look (l .constraints)) n
   unfolding hangs
-  named-rooted n m h = go (get-has (l .sites) n h)
+  named-rooted n m h = go (site-at (l .sites) n, inside-has (l .sites) n h)
     where
       under-child : (s : Site) (p : ℕ) (c : Constraint) → getElem? (l .sites) n ≡ some s → look (l .constraints) p ≡ some c → any (same-site s) (children p c) ≡ true → Rooted (kind-in (l .sites)) (look (l .constraints)) n
       under-child s p c e q a =
@@ -80,4 +75,4 @@ module _ (l : Loading) (fine : hanging l ≡ none) where
       at s e (beneath {m = p}) a = has s p (look (l .constraints) p) e refl a
 
       go : (s : Site) × (getElem? (l .sites) n ≡ some s) → Rooted (kind-in (l .sites)) (look (l .constraints)) n
-      go (s, e) = at s e (lies s) (ap (λ (x : Site). not-child (l .constraints) x (parent x)) (sym (get-site (l .sites) n s e)) ∙ stands n m)
+      go (s, e) = at s e (lies s) (ap (λ (x : Site). not-child (l .constraints) x (parent x)) (sym (has-site-at (l .sites) n s e)) ∙ stands n m)

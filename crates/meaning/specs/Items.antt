@@ -23,8 +23,10 @@ use Rattle.paper.specs.Fair.{no-items}
 use Rattle.paper.specs.Loading.{Loading, constrain, load-item, load-items}
 use Rattle.paper.specs.Laws.{same-constraint-true, same-list-refl}
 use Rattle.paper.specs.Labels.{never, put-here, put-there}
-use Rattle.meaning.specs.Tables.{then-done, then-refused, demand-done, demand-refused, Extends, Has, extends-length, Grown-by, add-all-grown, in-children}
-use Rattle.meaning.specs.Entries.{Rising, put-rising}
+use Rattle.paper.specs.Outcomes.{done-once, bind-done, demand-done}
+use Rattle.paper.specs.Adding.{Extends, Has, extends-length, add-all-sound, add-all-extends, add-all-has}
+use Rattle.paper.specs.Tables.{Rising, put-rising}
+use Rattle.meaning.specs.Places.{in-children}
 
 -- ---- what holds after some items
 
@@ -41,7 +43,7 @@ pub record Part (items : List Item) (l : Loading) : Type 0 where
   pub known : (n : ℕ) → List·Memᴰ n (l .named) → n < length (l .sites)
 
 pub begin-part : (t : Sites) → Sound t → Part [] (no-items t)
-unfolding look Rising
+unfolding look
 begin-part t S = record {
   sound = S;
   rising = tt;
@@ -137,7 +139,7 @@ part-again items l s c P e ls = record {
 part-new : (items : List Item) (l : Loading) (s : ℕ) (c : Constraint) (at : ℕ) (t : Sites) → Part items l → look (l .constraints) s ≡ none → s < length (l .sites) → add-all (l .sites) at (children s c) ≡ done t →
     Part (items ++ (Is s c ∷ [])) (record { sites = t; constraints = put s c (l .constraints); equalities = l .equalities; named = s ∷ l .named })
 part-new items l s c at t P e ls grew = record {
-  sound = G .sound (P .sound);
+  sound = add-all-sound (l .sites) at (children s c) t (P .sound) grew;
   rising = put-rising 0 s c (l .constraints) (omega arith) (P .rising);
   has = λ n d i q h. has n d i h (new-con n d q (ℕ-discrete s n));
   con-of = λ n d q. con-of n d (List·Memᴰ·append-cases items q);
@@ -149,11 +151,11 @@ part-new items l s c at t P e ls grew = record {
   known = known;
 }
   where
-    G : Grown-by (l .sites) (children s c) t
-    G = add-all-grown (l .sites) at (children s c) t grew
+    more : Extends (l .sites) t
+    more = add-all-extends (l .sites) at (children s c) t grew
 
     longer : length (l .sites) ≤ length t
-    longer = extends-length (l .sites) t (G .extends)
+    longer = extends-length (l .sites) t more
 
     -- where a constraint comes from
     new-con : (n : ℕ) (d : Constraint) → look (put s c (l .constraints)) n ≡ some d → Dec (s ≡ n) → ((n ≡ s) × (d ≡ c)) ⊎ (look (l .constraints) n ≡ some d)
@@ -161,8 +163,8 @@ part-new items l s c at t P e ls grew = record {
     new-con n d q (no p) = inr (sym (put-there s n c (l .constraints) p) ∙ q)
 
     has : (n : ℕ) (d : Constraint) (i : ℕ) → i < child-count d → ((n ≡ s) × (d ≡ c)) ⊎ (look (l .constraints) n ≡ some d) → Has t (child n d i)
-    has n d i h (inl q) = let k : i < child-count c = rw (q .1) at h in rw (q .0, q .1) (G .has (child s c i) (in-children s c i k))
-    has n d i h (inr q) = let r = P .has n d i q h in (r .0, G .extends (r .0) (child n d i) (r .1))
+    has n d i h (inl q) = let k : i < child-count c = rw (q .1) at h in rw (q .0, q .1) (add-all-has (l .sites) at (children s c) t grew (child s c i) (in-children s c i k))
+    has n d i h (inr q) = let r = P .has n d i q h in (r .0, more (r .0) (child n d i) (r .1))
 
     old-con : (n : ℕ) (d : Constraint) → look (l .constraints) n ≡ some d → Dec (s ≡ n) → look (put s c (l .constraints)) n ≡ some d
     old-con n d q (yes p) = absurd (never (sym e ∙ (ap (look (l .constraints)) p ∙ q)))
@@ -194,35 +196,32 @@ pub record Went (items : List Item) (l f : Loading) : Type 0 where
   pub part : Part items f
   pub extends : Extends (l .sites) (f .sites)
 
-is-known : (t : Sites) (n : ℕ) (r : Refusal) (u : Unit {0}) → demand (known t n) r ≡ done u → n < length t
+is-known : (t : Sites) (n : ℕ) → known t n ≡ true → n < length t
 unfolding known
-is-known t n r u e = ltb-true n (length t) (demand-done _ r u e)
+is-known t n e = ltb-true n (length t) e
 
 part-item : (before : List Item) (l f : Loading) (at : ℕ) (i : Item) → Part before l → load-item l at i ≡ done f → Went (before ++ (i ∷ [])) l f
 unfolding load-item
 part-item before l f at (Is s c) P e =
-    let x = then-done (demand (known (l .sites) s) (Unknown s)) (λ _. demand (leb (fields c) max-fields) (TooManyFields (fields c) at) >>= λ _. constrain l at s c (look (l .constraints) s)) f e in
-    let y = then-done (demand (leb (fields c) max-fields) (TooManyFields (fields c) at)) (λ _. constrain l at s c (look (l .constraints) s)) f (x .2) in
-    go (is-known (l .sites) s (Unknown s) (x .0) (x .1)) (look (l .constraints) s) refl (y .2)
+    let x = demand-done (known (l .sites) s) (Unknown s) _ f e in
+    let y = demand-done (leb (fields c) max-fields) (TooManyFields (fields c) at) _ f (x .1) in
+    go (is-known (l .sites) s (x .0)) (look (l .constraints) s) refl (y .1)
   where
     go : s < length (l .sites) → (o : Option Constraint) → look (l .constraints) s ≡ o → constrain l at s c o ≡ done f → Went (before ++ (Is s c ∷ [])) l f
     go k none q h =
-        let w = then-done (add-all (l .sites) at (children s c)) (λ t. done (record { sites = t; constraints = put s c (l .constraints); equalities = l .equalities; named = s ∷ l .named })) f h in
-        let y : _≡_ {A = Outcome Loading} (done (record { sites = w .0; constraints = put s c (l .constraints); equalities = l .equalities; named = s ∷ l .named })) (done f) = w .2 in
-        let z : _≡_ {A = Loading} (record { sites = w .0; constraints = put s c (l .constraints); equalities = l .equalities; named = s ∷ l .named }) f = cc in
-        rw (← z) (record { part = part-new before l s c at (w .0) P q k (w .1); extends = add-all-grown (l .sites) at (children s c) (w .0) (w .1) .extends })
+        let w = bind-done (add-all (l .sites) at (children s c)) _ f h in
+        let z = done-once (w .2) in
+        rw (← z) (record { part = part-new before l s c at (w .0) P q k (w .1); extends = add-all-extends (l .sites) at (children s c) (w .0) (w .1) })
     go k (some d) q h =
-        let w = then-done (demand (same-constraint c d) (Unreachable s s)) (λ _. done (record { sites = l .sites; constraints = l .constraints; equalities = l .equalities; named = s ∷ l .named })) f h in
-        let y : _≡_ {A = Outcome Loading} (done (record { sites = l .sites; constraints = l .constraints; equalities = l .equalities; named = s ∷ l .named })) (done f) = w .2 in
-        let z : _≡_ {A = Loading} (record { sites = l .sites; constraints = l .constraints; equalities = l .equalities; named = s ∷ l .named }) f = cc in
-        let v = same-constraint-true c d (demand-done _ _ _ (w .1)) in
+        let w = demand-done (same-constraint c d) (Unreachable s s) _ f h in
+        let z = done-once (w .1) in
+        let v = same-constraint-true c d (w .0) in
         rw (← z) (record { part = part-again before l s c P (q ∙ ap some (sym v)) k; extends = λ i u p. p })
 part-item before l f at (Equal a b) P e =
-    let x = then-done (demand (known (l .sites) a) (Unknown a)) (λ _. demand (known (l .sites) b) (Unknown b) >>= λ _. done (record { sites = l .sites; constraints = l .constraints; equalities = l .equalities ++ ((a, b) ∷ []); named = a ∷ b ∷ l .named })) f e in
-    let w = then-done (demand (known (l .sites) b) (Unknown b)) (λ _. done (record { sites = l .sites; constraints = l .constraints; equalities = l .equalities ++ ((a, b) ∷ []); named = a ∷ b ∷ l .named })) f (x .2) in
-    let y : _≡_ {A = Outcome Loading} (done (record { sites = l .sites; constraints = l .constraints; equalities = l .equalities ++ ((a, b) ∷ []); named = a ∷ b ∷ l .named })) (done f) = w .2 in
-    let z : _≡_ {A = Loading} (record { sites = l .sites; constraints = l .constraints; equalities = l .equalities ++ ((a, b) ∷ []); named = a ∷ b ∷ l .named }) f = cc in
-    rw (← z) (record { part = part-equal before l a b P (is-known (l .sites) a (Unknown a) (x .0) (x .1)) (is-known (l .sites) b (Unknown b) (w .0) (w .1)); extends = λ i u p. p })
+    let x = demand-done (known (l .sites) a) (Unknown a) _ f e in
+    let y = demand-done (known (l .sites) b) (Unknown b) _ f (x .1) in
+    let z = done-once (y .1) in
+    rw (← z) (record { part = part-equal before l a b P (is-known (l .sites) a (x .0)) (is-known (l .sites) b (y .0)); extends = λ i u p. p })
 
 went-on : (before : List Item) (i : Item) (rest : List Item) (l l′ f : Loading) → Extends (l .sites) (l′ .sites) → Went ((before ++ (i ∷ [])) ++ rest) l′ f → Went (before ++ (i ∷ rest)) l f
 went-on before i rest l l′ f x W = record { part = rw append-assoc at (W .part); extends = λ n s q. W .extends n s (x n s q) }
@@ -230,12 +229,20 @@ went-on before i rest l l′ f x W = record { part = rw append-assoc at (W .part
 pub load-part : (before items : List Item) (l f : Loading) (at : ℕ) → Part before l → load-items l at items ≡ done f → Went (before ++ items) l f
 unfolding load-items
 load-part before [] l f at P e = let q : l ≡ f = cc in rw (append-nil, ← q) (record { part = P; extends = λ i s h. h })
-load-part before (i ∷ rest) l f at P e = go (λ l′ P′ h. load-part (before ++ (i ∷ [])) rest l′ f (suc at) P′ h) (then-done (load-item l at i) (λ l′. load-items l′ (suc at) rest) f e)
+load-part before (i ∷ rest) l f at P e = go (λ l′ P′ h. load-part (before ++ (i ∷ [])) rest l′ f (suc at) P′ h) (bind-done (load-item l at i) (λ l′. load-items l′ (suc at) rest) f e)
   where
     go : ((l′ : Loading) → Part (before ++ (i ∷ [])) l′ → load-items l′ (suc at) rest ≡ done f → Went ((before ++ (i ∷ [])) ++ rest) l′ f) → (l′ : Loading) × (load-item l at i ≡ done l′) × (load-items l′ (suc at) rest ≡ done f) → Went (before ++ (i ∷ rest)) l f
     go k (l′, q, h) = let w = part-item before l l′ at i P q in went-on before i rest l l′ f (w .extends) (k l′ (w .part) h)
 
 -- ---- refusals among the items
+
+pub then-refused : {A B : Type 0} (o : Outcome A) (f : A → Outcome B) (x : Refusal) → (o >>= f) ≡ refused x → (o ≡ refused x) ⊎ ((a : A) × (o ≡ done a) × (f a ≡ refused x))
+then-refused (done a) f x e = inr (a, refl, e)
+then-refused (refused r) f x e = let q : r ≡ x = cc in inl (ap refused q)
+
+demand-refused : (b : Bool) (r x : Refusal) → demand b r ≡ refused x → (b ≡ false) × (r ≡ x)
+demand-refused true r x e = let z : _≡_ {A = ℕ} 0 1 = cc in absurd (omega arith)
+demand-refused false r x e = (refl, (cc))
 
 abbrev pub Unmet : Refusal → Type 0
 Unmet x = (number x ≡ 4) ⊎ (number x ≡ 6)

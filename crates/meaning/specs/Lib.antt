@@ -3,12 +3,11 @@ pub mod Kinds
 pub mod Eval
 pub mod Model
 pub mod Round
-pub mod Refuse
 pub mod Generic
 pub mod Whole
-pub mod Tables
+pub mod Places
 pub mod Grow
-pub mod Entries
+pub mod Lists
 pub mod Joining
 pub mod Exec
 pub mod Rounds

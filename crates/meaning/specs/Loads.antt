@@ -22,19 +22,20 @@ use Rattle.paper.specs.Loading.{Loading, Solving, Constraints, Labels, Holder, 
 use Rattle.paper.specs.Joins as J
 use Rattle.paper.specs.Labels.{never, none-sound}
 use Rattle.paper.specs.Fair.{Fair}
-use Rattle.paper.specs.Ends.{until}
+use Rattle.paper.specs.Outcomes.{done-once, bind-done, demand-done}
+use Rattle.paper.specs.Ends.{unconstrained}
 use Rattle.meaning.specs.Kinds.{kind-in, Reads, Fulfils, input-is}
 use Rattle.meaning.specs.Model.{Rooted, Held}
 use Rattle.meaning.specs.Whole.{Wrote, given, self-w, back-w, via-w, Loaded, Kept, written-same}
 use Rattle.meaning.specs.Eval.{value-of, value-of-input}
-use Rattle.meaning.specs.Tables.{then-done, then-refused, demand-done, demand-refused, Extends, places-of}
+use Rattle.meaning.specs.Places.{places-of}
 use Rattle.meaning.specs.Grow.{rooted-grows, Full, full-state, full-grows}
-use Rattle.meaning.specs.Entries.{look-in, first-some}
-use Rattle.meaning.specs.Joining.{Well, none-well, all-well, all-lowest, no-label, label-of}
-use Rattle.meaning.specs.Items.{Part, Unmet, not-unmet, add-all-fine}
+use Rattle.meaning.specs.Lists.{first-some}
+use Rattle.meaning.specs.Joining.{Well, none-well, all-well, all-lowest, label-of}
+use Rattle.meaning.specs.Items.{Part, Unmet, not-unmet, then-refused, add-all-fine}
 use Rattle.meaning.specs.Hangs.{named-rooted}
 use Rattle.meaning.specs.Checks as C
-use Rattle.meaning.specs.Rounds.{take-none, Good, Ran, rounds-ran}
+use Rattle.meaning.specs.Rounds.{Good, Ran, rounds-ran}
 
 -- ---- the checks taken apart
 
@@ -71,19 +72,18 @@ pub record Passes (l : Loading) (count : ℕ) (f : Solving) : Type 0 where
 pub normalise-done : (l : Loading) (count : ℕ) (f : Solving) → normalise l count ≡ done f → Passes l count f
 unfolding normalise
 normalise-done l count f e =
-    let a = then-done (no-hanging (hanging l)) _ f e in
-    let b = then-done (check-4 (closure l) (holders l) (conflict (closure l) (holders l))) _ f (a .2) in
-    let c = then-done (no-endless (endless (steps (closure l) (holders l)))) _ f (b .2) in
-    let d = then-done (rounds most-rounds count (started l)) _ f (c .2) in
+    let a = bind-done (no-hanging (hanging l)) _ f e in
+    let b = bind-done (check-4 (closure l) (holders l) (conflict (closure l) (holders l))) _ f (a .2) in
+    let c = bind-done (no-endless (endless (steps (closure l) (holders l)))) _ f (b .2) in
+    let d = bind-done (rounds most-rounds count (started l)) _ f (c .2) in
     let s = d .0 in
-    let x = then-done (demand (leb (length (s .constraints)) max-constrained) (TooManyConstrained (length (s .constraints)))) _ f (d .2) in
-    let y = then-done (demand (leb (length (s .classes)) max-equal) (TooManyEqual (length (s .classes)))) (λ _. done s) f (x .2) in
-    let z : _≡_ {A = Outcome Solving} (done s) (done f) = y .2 in
+    let x = demand-done (leb (length (s .constraints)) max-constrained) (TooManyConstrained (length (s .constraints))) _ f (d .2) in
+    let y = demand-done (leb (length (s .classes)) max-equal) (TooManyEqual (length (s .classes))) (λ _. done s) f (x .1) in
     record {
       not-5 = no-hanging-done (hanging l) (a .0) (a .1);
       not-4 = check-4-done (closure l) (holders l) (b .0) (b .1);
       not-6 = no-endless-done (endless (steps (closure l) (holders l))) (c .0) (c .1);
-      ran = d .1 ∙ z;
+      ran = d .1 ∙ y .1;
     }
 
 -- ---- refusals of the rounds are of other numbers
@@ -242,9 +242,8 @@ module _ (items : List Item) (l : Loading) (P : Part items l) (count : ℕ) (f :
 
   good : Good u (started l)
   good = record {
-    sound = P .sound;
+    fair = fair;
     well = all-well (l .equalities) [] none-well;
-    rising = P .rising;
     full = full₀;
     matched = written-same (kind-in (l .sites)) (child-number (l .sites)) items con₀ rep₀ loaded₀ (full-state (l .sites) con₀ rep₀ full₀) at₀ reads₀ .0 met₀;
   }
@@ -254,14 +253,7 @@ module _ (items : List Item) (l : Loading) (P : Part items l) (count : ℕ) (f :
 
   -- no class holds a constrained site
   ended : (a b : ℕ) → lowest (f .classes) a ≡ lowest (f .classes) b → (a ≡ b → ⊥) → look (f .constraints) a ≡ none
-  ended a b e d = go (look (f .constraints) a) refl
-    where
-      go : (o : Option Constraint) → look (f .constraints) a ≡ o → look (f .constraints) a ≡ none
-      go none q = q
-      go (some c) q =
-          absurd (take-none (f .classes) (f .constraints) (f .classes) (until (started l) fair count f (N .ran)) a (lowest (f .classes) a) a c
-          (look-in (f .classes) a (lowest (f .classes) a) (label-of (f .classes) (ran .well) a b e d))
-          (look-in (f .constraints) a c q) refl)
+  ended a b e d = unconstrained (started l) fair count f (N .ran) a (lowest (f .classes) a) (label-of (f .classes) (ran .well) a b e d)
 
   pub kept : Kept (kind-in (f .sites)) (length (f .sites)) (child-number (f .sites)) items (look (f .constraints)) (lowest (f .classes))
   kept =
@@ -270,7 +262,7 @@ module _ (items : List Item) (l : Loading) (P : Part items l) (count : ℕ) (f :
       record {
         con₀ = con₀;
         rep₀ = rep₀;
-        table = places-of (f .sites) (ran .sound);
+        table = places-of (f .sites) (ran .fair .sites);
         loaded = record {
           con-of = loaded₀ .con-of;
           of-con = loaded₀ .of-con;

@@ -20,14 +20,15 @@ use Rattle.paper.specs.Rules.{other-there, same-there, differ, within, no-equal
 use Rattle.paper.specs.Laws.{same-constraint-true}
 use Rattle.paper.specs.Labels.{never}
 use Rattle.paper.specs.Adding.{Extends, add-extends}
+use Rattle.paper.specs.Tables.{look-in, in-look}
 use Rattle.paper.specs.Making.{made-sound}
 use Rattle.meaning.specs.Values.{proj-at}
 use Rattle.meaning.specs.Kinds.{child-of, kind-in, Fulfils, input-is}
 use Rattle.meaning.specs.Model.{Rooted, Held, Solved, model-exists, forced-shape}
 use Rattle.meaning.specs.Whole.{rooted-stays}
-use Rattle.meaning.specs.Tables.{places-of, child-kind}
+use Rattle.meaning.specs.Places.{places-of, child-kind}
 use Rattle.meaning.specs.Grow.{Full, full-grows}
-use Rattle.meaning.specs.Entries.{Rising, look-in, in-look, of-any, in-any}
+use Rattle.meaning.specs.Lists.{of-any, in-any}
 use Rattle.meaning.specs.Items.{same-constraint-refl}
 use Rattle.meaning.specs.Answers as A
 use Rattle.meaning.specs.Answers.{Stands, fulfils-kept, last-kept}
@@ -126,7 +127,7 @@ compare-no t a b W e at M N = go (compared a b) e
         clash : (x : ℕ × Constraint) × List·Memᴰ x (a .constraints) × (other-there (look (b .constraints) (x .0)) (x .1) ≡ true) → ⊥
         clash ((n, c), m, o) =
             let r = other-is (look (b .constraints) n) c o in
-            let x = M .meets n c (in-look 0 (a .constraints) n c (W .rising) m) in
+            let x = M .meets n c (in-look 0 (a .constraints) (n, c) (W .rising) m) in
             let y = N .meets n (r .0) (r .1) in
             let xt = x .there in
             let yt = y .there in
@@ -242,12 +243,12 @@ subset-compare t S small large W X ns nl h = go (compared small large)
         (λ at I F. h at (input-is t at .1 I) (fulfils-kept large (X .well) at .1 F) .meets n c e)
 
     one : (x : ℕ × Constraint) → List·Memᴰ x (small .constraints) → same-there (look (large .constraints) (x .0)) (x .1) ≡ true
-    one (n, c) m = let e = forced n c (in-look 0 (small .constraints) n c (W .rising) m) in rw e (same-constraint-refl c)
+    one (n, c) m = let e = forced n c (in-look 0 (small .constraints) (n, c) (W .rising) m) in rw e (same-constraint-refl c)
 
     clash : (x : ℕ × Constraint) × List·Memᴰ x (small .constraints) × (other-there (look (large .constraints) (x .0)) (x .1) ≡ true) → ⊥
     clash ((n, c), m, o) =
         let r = other-is (look (large .constraints) n) c o in
-        let e = forced n c (in-look 0 (small .constraints) n c (W .rising) m) in
+        let e = forced n c (in-look 0 (small .constraints) (n, c) (W .rising) m) in
         let q : some c ≡ some (r .0) = sym e ∙ r .1 in
         r .2 (let w : c ≡ r .0 = cc in w)
 

@@ -11,7 +11,10 @@ use Rattle.paper.specs.Sites.{child-count}
 use Rattle.meaning.specs.Values.{Proj, proj-at, field-of, field, field-has, field-ext}
 use Rattle.meaning.specs.Kinds.{Kind, free, child-of, Reads, Fulfils}
 use Rattle.meaning.specs.Model.{Rooted, top, under, Held}
-use Rattle.meaning.specs.Refuse.{Grown}
+
+-- the children of the constrained sites are in the table
+pub record Grown (kind : ℕ → Kind) (con : ℕ → Option Constraint) (kid : ℕ → Constraint → ℕ → ℕ) : Type 0 where
+  pub kids : (n : ℕ) (c : Constraint) (i : ℕ) → con n ≡ some c → i < child-count c → kind (kid n c i) ≡ child-of n (proj-at c i)
 
 -- A state between rounds: constraints, and classes by representative. Its children are in the table; what it names is rooted.
 pub record State (kind : ℕ → Kind) (con : ℕ → Option Constraint) (kid : ℕ → Constraint → ℕ → ℕ) (rep : ℕ → ℕ) : Type 0 where

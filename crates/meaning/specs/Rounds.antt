@@ -1,74 +1,35 @@
 -- The rounds of paper keep the matching inputs: each is a `Round`, all over the last table (`rounds-ran`).
 use mathlib.Core.Path.{_≡_, refl, sym, ap, _∙_}
 use mathlib.Core.Option.{Option, none, some}
-use mathlib.Core.Bool.{Bool, true, false}
 use mathlib.Core.Logic.{_⊎_, inl, inr}
 use mathlib.Core.List.{List, [], _∷_, _++_, List·Memᴰ, List·Memᴰ·head, List·Memᴰ·tail, List·Memᴰ·append-cases, Memᴰ·append-left, Memᴰ·append-right}
 use Prim.Native.Nat.{ℕ, zero, suc, _≤_, _<_}
 use native.Mathlib.Omega.{arith}
 use native.Mathlib.Decide.{ℕ-discrete}
-use lib.ListN.{getElem?, length}
-use lib.Dec.{eqb}
-use borrow.Author.Tests.{eqb-true, eqb-false, eq-eqb, ne-eqb}
+use lib.ListN.{length}
 use Rattle.paper.specs.declared.Constraint.{Constraint}
-use Rattle.paper.specs.Words.{look, put, first, below}
+use Rattle.paper.specs.Words.{look, put}
 use Rattle.paper.specs.Numbers.{Outcome, done, refused, _>>=_}
-use Rattle.paper.specs.Sites.{Site, Sites, child, child-count, children, child-number, add-all, Sound}
+use Rattle.paper.specs.Sites.{Sites, child, child-count, child-number, Sound}
 use Rattle.paper.specs.Inputs.{Value, Given, Meets, Agree, shape}
-use Rattle.paper.specs.Loading.{Constraints, Labels, Solving, lowest, join-all, members, dissolve, others, like-children, first-constrained, with-low, take-class, give-all, grow-all, join-children, round, rounds}
-use Rattle.paper.specs.Joins.{Lowest, joinAll}
+use Rattle.paper.specs.Loading.{Constraints, Labels, Solving, lowest, join-all, members, dissolve, others, like-children, take-class, give-all, grow-all, join-children, round, rounds}
+use Rattle.paper.specs.Joins.{joinAll}
 use Rattle.paper.specs.Labels.{never, put-here, put-there}
 use Rattle.paper.specs.Closure.{of-below, in-below}
+use Rattle.paper.specs.Outcomes.{done-once, bind-done}
+use Rattle.paper.specs.Adding.{Extends, Has}
+use Rattle.paper.specs.Tables.{lowest-is, lowest-own, of-members, in-members}
+use Rattle.paper.specs.Fair.{Fair, grow-all-sound, grow-all-extends, grow-all-has, round-fair}
+use Rattle.paper.specs.Taking.{Taken, taken}
 use Rattle.meaning.specs.Kinds.{kind-in, Reads, Fulfils}
 use Rattle.meaning.specs.Model.{Rooted, Held}
-use Rattle.meaning.specs.Refuse.{Grown}
 use Rattle.meaning.specs.Round.{State, Left, old, kids, self, back, via, Round, class-same, round-same}
 use Rattle.meaning.specs.Whole.{Rounds, no-more, one-more, state-after}
 use Rattle.meaning.specs.Eval.{value-of, value-of-input, value-of-grow, Lower}
-use Rattle.meaning.specs.Tables.{then-done, Extends, Has, extends-length, kind-stays, child-stays, child-kind, places-of, add-all-grown, in-children, first-none}
-use Rattle.meaning.specs.Grow.{rooted-grows, rooted-inside, Full, full-state, full-grows}
-use Rattle.meaning.specs.Entries.{Rising, put-rising, look-in, in-look, first-some}
-use Rattle.meaning.specs.Joining.{Well, has-label, no-label, label-of, all-well, all-lowest, all-append, of-members, in-members, of-others, in-others, apart, dissolved, dissolve-well}
+use Rattle.meaning.specs.Places.{kind-stays, child-stays, child-kind, places-of}
+use Rattle.meaning.specs.Grow.{rooted-inside, Full, full-state, full-grows}
+use Rattle.meaning.specs.Joining.{Well, all-well, all-lowest, all-append, of-others, in-others, apart, dissolve-is, dissolve-well}
 use Rattle.meaning.specs.Exec.{Pairs, round-is}
-
--- ---- what is taken
-
-pub record Taken (k : Labels) (cs : Constraints) (ps : Labels) (low : ℕ) (c : Constraint) : Type 0 where
-  pub member : ℕ
-  pub listed : List·Memᴰ (member, low) ps
-  pub seen : ℕ
-  pub holds : List·Memᴰ (seen, c) cs
-  pub there : lowest k seen ≡ low
-
-taken-first : (k : Labels) (cs : Constraints) (low : ℕ) (q : ℕ × Constraint) → first-constrained k cs low ≡ some q → List·Memᴰ q cs × (lowest k (q .0) ≡ low)
-unfolding first-constrained
-taken-first k cs low q e = let r = first-some (λ (p : ℕ × Constraint). eqb (lowest k (p .0)) low) cs q e in (r .0, eqb-true (lowest k (q .0)) low (r .1))
-
-pub take-some : (k : Labels) (cs : Constraints) (ps : Labels) (low : ℕ) (c : Constraint) → take-class k cs ps ≡ some (low, c) → Taken k cs ps low c
-unfolding take-class
-take-some k cs [] low c e = absurd (never e)
-take-some k cs ((m, v) ∷ ps) low c e = go (first-constrained k cs v) refl e (λ q. take-some k cs ps low c q)
-  where
-    go : (o : Option (ℕ × Constraint)) → first-constrained k cs v ≡ o → _≡_ {A = Option (ℕ × Constraint)} (elim (with-low v o) as (λ _. Option (ℕ × Constraint)) [ some q ↦ some q | none ↦ take-class k cs ps ]) (some (low, c)) → (take-class k cs ps ≡ some (low, c) → Taken k cs ps low c) → Taken k cs ((m, v) ∷ ps) low c
-    go none f q r = let t = r q in record { member = t .member; listed = List·Memᴰ·tail (t .listed); seen = t .seen; holds = t .holds; there = t .there }
-    go (some (n, d)) f q r =
-        let w = taken-first k cs v (n, d) f in
-        let z : _≡_ {A = ℕ × Constraint} (v, d) (low, c) = cc in
-        let a : v ≡ low = ap (λ (x : ℕ × Constraint). x .0) z in
-        let b : d ≡ c = ap (λ (x : ℕ × Constraint). x .1) z in
-        rw (← a, ← b) (record { member = m; listed = List·Memᴰ·head refl; seen = n; holds = w .0; there = w .1 })
-
-pub take-none : (k : Labels) (cs : Constraints) (ps : Labels) → take-class k cs ps ≡ none → (m v n : ℕ) (d : Constraint) → List·Memᴰ (m, v) ps → List·Memᴰ (n, d) cs → lowest k n ≡ v → ⊥
-unfolding take-class
-take-none k cs ((x, y) ∷ ps) e m v n d w h q = go (first-constrained k cs y) refl e w (λ f i. take-none k cs ps f m v n d i h q)
-  where
-    go : (o : Option (ℕ × Constraint)) → first-constrained k cs y ≡ o → _≡_ {A = Option (ℕ × Constraint)} (elim (with-low y o) as (λ _. Option (ℕ × Constraint)) [ some q ↦ some q | none ↦ take-class k cs ps ]) none → List·Memᴰ (m, v) ((x, y) ∷ ps) → (take-class k cs ps ≡ none → List·Memᴰ (m, v) ps → ⊥) → ⊥
-    go none f g (List·Memᴰ·head z) r =
-        let a : v ≡ y = ap (λ (x : ℕ × ℕ). x .1) z in
-        let b : eqb (lowest k n) y ≡ false = unfold first-constrained in first-none (λ (p : ℕ × Constraint). eqb (lowest k (p .0)) y) cs f (n, d) h in
-        eqb-false (lowest k n) y b (q ∙ a)
-    go none f g (List·Memᴰ·tail z) r = r g z
-    go (some p) f g z r = never (sym g)
 
 -- ---- what a round does
 
@@ -88,33 +49,6 @@ give-out : (ns : List ℕ) (c : Constraint) (cs : Constraints) (n : ℕ) → (Li
 unfolding give-all
 give-out [] c cs n h = refl
 give-out (m ∷ ns) c cs n h = give-out ns c (put m c cs) n (λ q. h (List·Memᴰ·tail q)) ∙ put-there m n c cs (λ e. h (List·Memᴰ·head (sym e)))
-
-give-rising : (ns : List ℕ) (c : Constraint) (cs : Constraints) → Rising 0 cs → Rising 0 (give-all ns c cs)
-unfolding give-all
-give-rising [] c cs R = R
-give-rising (n ∷ ns) c cs R = give-rising ns c (put n c cs) (put-rising 0 n c cs (omega arith) R)
-
-record Grows (t : Sites) (ns : List ℕ) (c : Constraint) (u : Sites) : Type 0 where
-  extends : Extends t u
-  has : (n i : ℕ) → List·Memᴰ n ns → i < child-count c → Has u (child n c i)
-  sound : Sound t → Sound u
-
-grow-grows : (t : Sites) (at : ℕ) (ns : List ℕ) (c : Constraint) (u : Sites) → grow-all t at ns c ≡ done u → Grows t ns c u
-unfolding grow-all
-grow-grows t at [] c u e = let q : t ≡ u = cc in rw (← q) (record { extends = λ i s f. f; has = λ n i m. elim m [ ]; sound = λ S. S })
-grow-grows t at (n ∷ ns) c u e =
-    let x = then-done (add-all t at (children n c)) (λ t′. grow-all t′ at ns c) u e in
-    let G = add-all-grown t at (children n c) (x .0) (x .1) in
-    let N = grow-grows (x .0) at ns c u (x .2) in
-    record {
-      extends = λ i s f. N .extends i s (G .extends i s f);
-      has = λ m i w h. has (x .0) (λ j l. G .has (child n c j) (in-children n c j l)) N m i w h;
-      sound = λ S. N .sound (G .sound S);
-    }
-  where
-    has : (t′ : Sites) → ((j : ℕ) → j < child-count c → Has t′ (child n c j)) → Grows t′ ns c u → (m i : ℕ) → List·Memᴰ m (n ∷ ns) → i < child-count c → Has u (child m c i)
-    has t′ f N m i (List·Memᴰ·head e) h = let r = f i h in rw e (r .0, N .extends (r .0) (child n c i) (r .1))
-    has t′ f N m i (List·Memᴰ·tail w) h = N .has m i w h
 
 all-pairs : Sites → ℕ → Constraint → List ℕ → List (ℕ × ℕ)
 all-pairs t low c [] = []
@@ -142,9 +76,8 @@ of-all t low c (k ∷ ns) p m = go (λ q. of-all t low c ns p q) (List·Memᴰ·
 -- ---- what holds from round to round, u being the values of the free sites in a matching input
 
 pub record Good (u : ℕ → Value) (s : Solving) : Type 0 where
-  pub sound : Sound (s .sites)
+  pub fair : Fair s
   pub well : Well (s .classes)
-  pub rising : Rising 0 (s .constraints)
   pub full : Full (s .sites) (look (s .constraints)) (lowest (s .classes))
   pub matched : Fulfils (value-of (kind-in (s .sites)) u) (look (s .constraints)) (Held (lowest (s .classes)))
 
@@ -181,7 +114,7 @@ matched-uniform con rep at M n m d c e f g =
 after : Solving → Sites → ℕ → Constraint → Solving
 after s t low c = record { sites = t; constraints = give-all (members (s .classes) low) c (s .constraints); classes = join-children t low c (others (s .classes) low) (dissolve (s .classes) low) }
 
-module _ (u : ℕ → Value) (s : Solving) (G : Good u s) (low : ℕ) (c : Constraint) (T : Taken (s .classes) (s .constraints) (s .classes) low c) (t′ : Sites) (grew : Grows (s .sites) (members (s .classes) low) c t′) where
+module _ (u : ℕ → Value) (s : Solving) (G : Good u s) (low : ℕ) (c : Constraint) (T : Taken s low c) (t′ : Sites) (at-item : ℕ) (grew : grow-all (s .sites) at-item (members (s .classes) low) c ≡ done t′) where
   abbrev k : Labels
   k = s .classes
 
@@ -194,24 +127,24 @@ module _ (u : ℕ → Value) (s : Solving) (G : Good u s) (low : ℕ) (c : Const
   abbrev s′ : Solving
   s′ = after s t′ low c
 
-  has-low : look k (T .member) ≡ some low
-  has-low = in-look 0 k (T .member) low (G .well .rising) (T .listed)
-
   is-low : rep low ≡ low
-  is-low = let e = has-label k (T .member) low has-low in ap rep (sym e) ∙ (G .well .sound .function .idem (T .member) ∙ e)
+  is-low = lowest-is k low low (T .own)
 
-  seen-con : con (T .seen) ≡ some c
-  seen-con = in-look 0 (s .constraints) (T .seen) c (G .rising) (T .holds)
+  seen-in : rep (T .member) ≡ low
+  seen-in = lowest-is k (T .member) low (T .labelled)
 
   in-class : (n : ℕ) → rep n ≡ low → look k n ≡ some low
   in-class n e = go (look k n) refl
     where
       go : (o : Option ℕ) → look k n ≡ o → look k n ≡ some low
-      go (some v) q = q ∙ ap some (sym (has-label k n v q) ∙ e)
-      go none q =
-          let z : n ≡ low = sym (no-label k n q) ∙ e in
-          let m : T .member ≡ n = G .well .sound .lone n (T .member) q (has-label k (T .member) low has-low ∙ sym z) in
-          absurd (never (sym q ∙ (ap (look k) (sym m) ∙ has-low)))
+      go (some v) q = q ∙ ap some (sym (lowest-is k n v q) ∙ e)
+      go none q = let z : n ≡ low = sym (lowest-own k n q) ∙ e in absurd (never (sym q ∙ (ap (look k) z ∙ T .own)))
+
+  extends : Extends (s .sites) t′
+  extends = grow-all-extends (s .sites) at-item (members k low) c t′ grew
+
+  members-have : (n i : ℕ) → rep n ≡ low → i < child-count c → Has t′ (child n c i)
+  members-have n i e h = grow-all-has (s .sites) at-item (members k low) c t′ grew n (in-members k low n (in-class n e)) i h
 
   con′ : ℕ → Option Constraint
   con′ = look (give-all (members k low) c (s .constraints))
@@ -222,25 +155,25 @@ module _ (u : ℕ → Value) (s : Solving) (G : Good u s) (low : ℕ) (c : Const
 
   con-out : (n : ℕ) → (rep n ≡ low → ⊥) → con′ n ≡ con n
   unfolding con′
-  con-out n e = give-out (members k low) c (s .constraints) n (λ m. e (has-label k n low (of-members k low n (G .well) m)))
+  con-out n e = give-out (members k low) c (s .constraints) n (λ m. e (lowest-is k n low (of-members k low n (G .well .rising) m)))
 
   full₀ : Full t′ con rep
-  full₀ = full-grows (s .sites) t′ con rep (grew .extends) (G .full)
+  full₀ = full-grows (s .sites) t′ con rep extends (G .full)
 
   abbrev at : Given
   at = value-of (kind-in t′) u
 
   sound′ : Sound t′
-  sound′ = grew .sound (G .sound)
+  sound′ = grow-all-sound (s .sites) at-item (members k low) c t′ (G .fair .sites) grew
 
   reads : Reads (kind-in t′) at
   reads = value-of-input (kind-in t′) u (places-of t′ sound′ .lower)
 
   matched₀ : Fulfils at con (Held rep)
-  matched₀ = matched-grows u (s .sites) t′ con rep (places-of (s .sites) (G .sound) .lower) (grew .extends) (G .full) (G .matched)
+  matched₀ = matched-grows u (s .sites) t′ con rep (places-of (s .sites) (G .fair .sites) .lower) extends (G .full) (G .matched)
 
   uniform : (n : ℕ) (d : Constraint) → rep n ≡ low → con n ≡ some d → d ≡ c
-  uniform n d e f = matched-uniform con rep at matched₀ n (T .seen) d c (e ∙ sym (T .there)) f seen-con
+  uniform n d e f = matched-uniform con rep at matched₀ n (T .member) d c (e ∙ sym seen-in) f (T .constrained)
 
   ps : List (ℕ × ℕ)
   ps = all-pairs t′ low c (others k low)
@@ -251,7 +184,7 @@ module _ (u : ℕ → Value) (s : Solving) (G : Good u s) (low : ℕ) (c : Const
     each = λ n i e d h. in-all t′ low c (others k low) n i (in-others k low n (in-class n e) d) h;
     none-else = λ p m.
         let r = of-all t′ low c (others k low) p m in
-        (r .0, r .1, has-label k (r .0) low (of-others k low (r .0) (G .well) (r .2) .0), r .3, r .4);
+        (r .0, r .1, lowest-is k (r .0) low (of-others k low (r .0) (G .well .rising) (r .2)), r .3, r .4);
   }
 
   rep′ : ℕ → ℕ
@@ -262,11 +195,11 @@ module _ (u : ℕ → Value) (s : Solving) (G : Good u s) (low : ℕ) (c : Const
   classes-are =
       ap lowest (children-joined t′ low c (others k low) (dissolve k low))
       ∙ (all-lowest (all-pairs t′ low c (others k low)) (dissolve k low) (dissolve-well k low (G .well) .sound)
-      ∙ ap (joinAll (all-pairs t′ low c (others k low))) (dissolved k low (G .well)))
+      ∙ ap (joinAll (all-pairs t′ low c (others k low))) (dissolve-is k low (G .well)))
 
   is-round : Round (child-number t′) con rep con′ rep′ low c
   unfolding rep′
-  is-round = round-is (child-number t′) con con′ rep low c ps (G .well .sound .function) is-low pairs (T .seen) (T .there) seen-con uniform con-in con-out
+  is-round = round-is (child-number t′) con con′ rep low c ps (G .well .sound .function) is-low pairs (T .member) seen-in (T .constrained) uniform con-in con-out
 
   has′ : (n : ℕ) (d : Constraint) (i : ℕ) → con′ n ≡ some d → i < child-count d → Has t′ (child n d i)
   has′ n d i e h = go (ℕ-discrete (rep n) low)
@@ -275,7 +208,7 @@ module _ (u : ℕ → Value) (s : Solving) (G : Good u s) (low : ℕ) (c : Const
       go (yes q) =
           let z : some c ≡ some d = sym (con-in n q) ∙ e in
           let y : c ≡ d = cc in
-          rw (← y) (grew .has n i (in-members k low n (in-class n q)) (rw y h))
+          rw (← y) (members-have n i q (rw y h))
       go (no q) = full₀ .has n d i (sym (con-out n q) ∙ e) h
 
   state′ : State (kind-in t′) con′ (child-number t′) rep′
@@ -288,12 +221,15 @@ module _ (u : ℕ → Value) (s : Solving) (G : Good u s) (low : ℕ) (c : Const
   unfolding after
   well′ = rw (children-joined t′ low c (others k low) (dissolve k low)) (all-well (all-pairs t′ low c (others k low)) (dissolve k low) (dissolve-well k low (G .well)))
 
+  is-done : round s at-item low c ≡ done s′
+  unfolding round after
+  is-done = rw grew
+
   good-next : Good u s′
   unfolding after con′
   good-next = record {
-    sound = sound′;
+    fair = round-fair s (G .fair) at-item low c s′ (T .own) is-done;
     well = well′;
-    rising = give-rising (members k low) c (s .constraints) (G .rising);
     full = rw classes-are full′;
     matched = rw classes-are (round-same (kind-in t′) (child-number t′) con rep con′ rep′ low c is-round at reads state′ .0 matched₀);
   }
@@ -303,7 +239,7 @@ module _ (u : ℕ → Value) (s : Solving) (G : Good u s) (low : ℕ) (c : Const
   round-next = rw classes-are is-round
 
   round-has : (n i : ℕ) → rep n ≡ rep low → i < child-count c → Has t′ (child n c i)
-  round-has n i e h = grew .has n i (in-members k low n (in-class n (e ∙ is-low))) h
+  round-has n i e h = members-have n i (e ∙ is-low) h
 
 -- ---- a round over a larger table
 
@@ -330,49 +266,44 @@ round-kid kid kid′ con rep con′ rep′ low c h R = record {
 
 pub record Ran (s f : Solving) : Type 0 where
   pub extends : Extends (s .sites) (f .sites)
-  pub sound : Sound (f .sites)
+  pub fair : Fair f
   pub well : Well (f .classes)
-  pub rising : Rising 0 (f .constraints)
   pub rounds : Rounds (kind-in (f .sites)) (child-number (f .sites)) (look (s .constraints)) (lowest (s .classes)) (look (f .constraints)) (lowest (f .classes))
 
--- one more round in front
-before : (u : ℕ → Value) (s f : Solving) (G : Good u s) (low : ℕ) (c : Constraint) (T : Taken (s .classes) (s .constraints) (s .classes) low c) (t′ : Sites) → Grows (s .sites) (members (s .classes) low) c t′ → Ran (after s t′ low c) f → Ran s f
+-- no more rounds; one more round in front
+rests : (u : ℕ → Value) (s : Solving) → Good u s → Ran s s
+rests u s G = record { extends = λ i x h. h; fair = G .fair; well = G .well; rounds = no-more }
+
+before : (u : ℕ → Value) (s f : Solving) (G : Good u s) (low : ℕ) (c : Constraint) (T : Taken s low c) (t′ : Sites) (at : ℕ) (grew : grow-all (s .sites) at (members (s .classes) low) c ≡ done t′) → Ran (after s t′ low c) f → Ran s f
 unfolding after
-before u s f G low c T t′ g N =
+before u s f G low c T t′ at g N =
     let x = N .extends in
     let s′ = after s t′ low c in
     record {
-      extends = λ i q h. x i q (g .extends i q h);
-      sound = N .sound;
+      extends = λ i q h. x i q (extends u s G low c T t′ at g i q h);
+      fair = N .fair;
       well = N .well;
-      rising = N .rising;
       rounds = one-more low c
           (round-kid (child-number t′) (child-number (f .sites)) (look (s .constraints)) (lowest (s .classes)) (look (s′ .constraints)) (lowest (s′ .classes)) low c
-          (λ n i q h. child-stays t′ (f .sites) x (N .sound) n c i (round-has u s G low c T t′ g n i q h)) (round-next u s G low c T t′ g))
-          (full-state (f .sites) (look (s′ .constraints)) (lowest (s′ .classes)) (full-grows t′ (f .sites) (look (s′ .constraints)) (lowest (s′ .classes)) x (good-next u s G low c T t′ g .full)) .grown)
+          (λ n i q h. child-stays t′ (f .sites) x (N .fair .sites) n c i (round-has u s G low c T t′ at g n i q h)) (round-next u s G low c T t′ at g))
+          (full-state (f .sites) (look (s′ .constraints)) (lowest (s′ .classes)) (full-grows t′ (f .sites) (look (s′ .constraints)) (lowest (s′ .classes)) x (good-next u s G low c T t′ at g .full)) .grown)
           (N .rounds);
     }
 
 pub rounds-ran : (u : ℕ → Value) (j at : ℕ) (s f : Solving) → Good u s → rounds j at s ≡ done f → Ran s f
 unfolding rounds
-rounds-ran u zero at s f G e =
-    let q : s ≡ f = cc in
-    rw (← q) (record { extends = λ i x h. h; sound = G .sound; well = G .well; rising = G .rising; rounds = no-more })
+rounds-ran u zero at s f G e = let q = done-once e in rw (← q) (rests u s G)
 rounds-ran u (suc j) at s f G e = go (take-class (s .classes) (s .constraints) (s .classes)) refl e (λ s′ G′ q. rounds-ran u j at s′ f G′ q)
   where
     go : (o : Option (ℕ × Constraint)) → take-class (s .classes) (s .constraints) (s .classes) ≡ o → elim o as (λ _. Outcome Solving) [ none ↦ done s | some p ↦ round s at (p .0) (p .1) >>= rounds j at ] ≡ done f → ((s′ : Solving) → Good u s′ → rounds j at s′ ≡ done f → Ran s′ f) → Ran s f
-    go none q h r =
-        let q : s ≡ f = cc in
-        rw (← q) (record { extends = λ i x h. h; sound = G .sound; well = G .well; rising = G .rising; rounds = no-more })
-    go (some (low, c)) q h r = next (then-done (round s at low c) (rounds j at) f h)
+    go none q h r = let z = done-once h in rw (← z) (rests u s G)
+    go (some (low, c)) q h r = next (bind-done (round s at low c) (rounds j at) f h)
       where
-        T : Taken (s .classes) (s .constraints) (s .classes) low c
-        T = take-some (s .classes) (s .constraints) (s .classes) low c q
+        T : Taken s low c
+        T = taken s (G .fair) low c q
 
         next : (s′ : Solving) × (round s at low c ≡ done s′) × (rounds j at s′ ≡ done f) → Ran s f
         next (s′, w, v) =
-            let x = then-done (grow-all (s .sites) at (members (s .classes) low) c) (λ t. done (after s t low c)) s′ (unfold round in unfold after in w) in
-            let g = grow-grows (s .sites) at (members (s .classes) low) c (x .0) (x .1) in
-            let y : _≡_ {A = Outcome Solving} (done (after s (x .0) low c)) (done s′) = x .2 in
-            let z : after s (x .0) low c ≡ s′ = cc in
-            before u s f G low c T (x .0) g (r (after s (x .0) low c) (good-next u s G low c T (x .0) g) (rw z v))
+            let x = bind-done (grow-all (s .sites) at (members (s .classes) low) c) (λ t. done (after s t low c)) s′ (unfold round in unfold after in w) in
+            let z = done-once (x .2) in
+            before u s f G low c T (x .0) at (x .1) (r (after s (x .0) low c) (good-next u s G low c T (x .0) at (x .1)) (rw z v))

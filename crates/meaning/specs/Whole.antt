@@ -14,8 +14,7 @@ use Rattle.paper.specs.declared.Item.the-variants.{Is, Equal}
 use Rattle.meaning.specs.Values.{Proj, proj-at, field-of, field-of-proj-at}
 use Rattle.meaning.specs.Kinds.{Kind, free, child-of, Places, Reads, Fulfils}
 use Rattle.meaning.specs.Model.{Rooted, top, under, Held, Solved, model-exists, forced-shape, forced-equal}
-use Rattle.meaning.specs.Refuse.{Grown}
-use Rattle.meaning.specs.Round.{State, Left, old, kids, self, back, via, Round, class-same, rooted-has, round-same}
+use Rattle.meaning.specs.Round.{Grown, State, Left, old, kids, self, back, via, Round, class-same, rooted-has, round-same}
 
 -- ---- a round keeps what a state promises
 
