@@ -1,10 +1,10 @@
 -- What paper's `load` answers means: the proofs of Demand3.antt.
 use mathlib.Core.Path.{_≡_, refl, sym, ap, _∙_}
-use mathlib.Core.Option.{Option, none, some}
+use mathlib.Core.Option.{none, some}
 use mathlib.Core.Bool.{Bool, true, false, not}
-use mathlib.Core.Logic.{_↔_, _⊎_, inl, inr}
+use mathlib.Core.Logic.{_↔_}
 use mathlib.Core.List.{List, [], _∷_, _++_, List·Memᴰ}
-use Prim.Native.Nat.{ℕ, zero, suc, _≤_, _<_}
+use Prim.Native.Nat.{ℕ, suc, _<_}
 use native.Mathlib.Omega.{arith}
 use native.Mathlib.Decide.{ℕ-discrete}
 use lib.ListN.{length}
@@ -22,13 +22,13 @@ use Rattle.paper.specs.Loading.{Loading, Solving, Set, Written, Kept, started, 
 use Rattle.paper.specs.Adding.{Extends}
 use Rattle.paper.specs.Tables.{Rising, lowest-is}
 use Rattle.paper.specs.Fair.{no-items, load-fair}
-use Rattle.paper.specs.Making.{Loads, load-done}
+use Rattle.paper.specs.Making.{load-done}
 use Rattle.meaning.specs.Kinds.{kind-in, Fulfils, input-is}
 use Rattle.meaning.specs.Model.{Held}
 use Rattle.meaning.specs.Whole as H
 use Rattle.meaning.specs.Grow.{Full, full-of, input-part, input-more}
 use Rattle.meaning.specs.Joining.{Well, label-of}
-use Rattle.meaning.specs.Items.{Part, begin-part, Went, load-part, Unmet, not-unmet, items-clash}
+use Rattle.meaning.specs.Items.{begin-part, Went, load-part, Unmet, not-unmet, items-clash}
 use Rattle.meaning.specs.Loads.{normalise-unmet, ran, kept}
 use Rattle.meaning.specs.Rounds.{Ran}
 

@@ -1,7 +1,7 @@
 -- The class check of paper, both ways: what 4 and 6 refuse no input matches, and what they let pass some input matches.
-use mathlib.Core.Path.{_≡_, refl, sym, ap, ap₂, _∙_, subst}
+use mathlib.Core.Path.{_≡_, refl, sym, ap, ap₂, _∙_}
 use mathlib.Core.Option.{Option, none, some}
-use mathlib.Core.Bool.{Bool, true, false, not, _&&_}
+use mathlib.Core.Bool.{Bool, true, false, not}
 use mathlib.Core.Logic.{_↔_, _⊎_, inl, inr}
 use mathlib.Core.List.{List, [], _∷_, _++_, map, List·Memᴰ, List·Memᴰ·head, List·Memᴰ·tail, List·Memᴰ·append-cases, Memᴰ·append-left, Memᴰ·append-right, Memᴰ·map, Memᴰ·of-map}
 use Prim.Native.Nat.{ℕ, zero, suc, _+_, _≤_, _<_}
@@ -10,19 +10,18 @@ use native.Mathlib.Omega.{arith}
 use native.Mathlib.Decide.{ℕ-discrete}
 use lib.ListN.{length, length-append}
 use lib.Dec.{eqb}
-use borrow.Author.Tests.{eqb-true, eqb-false, eq-eqb, ne-eqb}
+use borrow.Author.Tests.{eqb-true, eqb-false}
 use Rattle.paper.specs.declared.Constraint.{Constraint}
 use Rattle.paper.specs.declared.Item.{Item}
-use Rattle.paper.specs.Words.{if_then_else_, or-else, look, below, zip, joined, pairs, first, keep, least, Edges, Walk, one, more, returns}
-use Rattle.paper.specs.Sites.{Sites, same-constraint, child, child-count, child-number}
-use Rattle.paper.specs.Inputs.{Value, Given, Meets, Agree, shape, and-then}
+use Rattle.paper.specs.Words.{if_then_else_, look, below, zip, joined, pairs, keep, Edges, Walk, one, more, returns}
+use Rattle.paper.specs.Sites.{same-constraint, child-count, child-number}
+use Rattle.paper.specs.Inputs.{Value, Given, shape, and-then}
 use Rattle.paper.specs.Loading.{Loading, Labels, Constraints, Holder, holder, holders, lowest, join-all, Together, written-so, itself, back, through, like, alike, turn, pass, same-classes, close, closure, first-holder, differs, conflict, steps, endless}
-use Rattle.paper.specs.Labels.{never}
 use Rattle.paper.specs.Laws.{same-constraint-true}
 use Rattle.paper.specs.Closure.{of-below, in-below, closure-is}
 use Rattle.paper.specs.Walks.{returns-is}
-use Rattle.meaning.specs.Values.{Proj, proj-at, field, size, field-in, field-size}
-use Rattle.meaning.specs.Kinds.{kind-in, Places, Reads, Fulfils}
+use Rattle.meaning.specs.Values.{proj-at, field, size, field-in, field-size}
+use Rattle.meaning.specs.Kinds.{kind-in, Reads, Fulfils}
 use Rattle.meaning.specs.Model.{Rooted}
 use Rattle.meaning.specs.Round.{Grown}
 use Rattle.meaning.specs.Generic.{Ordered, freeValue, matches}

@@ -1,10 +1,9 @@
 -- What follows from demand 3 at once.
-use mathlib.Core.Path.{_≡_, refl, sym, ap, _∙_}
-use mathlib.Core.Option.{Option, none, some}
+use mathlib.Core.Path.{_≡_, refl, sym, _∙_}
+use mathlib.Core.Option.{none, some}
 use mathlib.Core.Logic.{_↔_, _⊎_, inl, inr}
-use mathlib.Core.List.{List, [], _∷_, _++_, List·Memᴰ}
+use mathlib.Core.List.{List, List·Memᴰ}
 use Prim.Native.Nat.{ℕ, _<_}
-use native.Mathlib.Omega.{arith}
 use lib.ListN.{length}
 use Rattle.paper.specs.declared.Constraint.{Constraint}
 use Rattle.paper.specs.declared.Item.{Item}
@@ -15,11 +14,11 @@ use Rattle.paper.specs.Numbers.{Outcome, done, refused}
 use Rattle.paper.specs.Sites.{Sites, Sound}
 use Rattle.paper.specs.Inputs.{Given, Input, Meets, Agree, MeetsItem, Matches, MatchesKept}
 use Rattle.paper.specs.Loading.{Set, Written, Kept, load}
-use Rattle.paper.specs.Adding.{Extends, extends-length}
+use Rattle.paper.specs.Adding.{Extends}
 use Rattle.paper.specs.Making.{load-sound}
 use Rattle.meaning.specs.Grow.{input-part, input-more}
 use Rattle.meaning.specs.Answers as A
-use Rattle.meaning.specs.Demand3.{rule-sites, Unmatched, Four-or-six, Keeps, Holds-equal, demand-2, demand-2-old, demand-3, demand-4}
+use Rattle.meaning.specs.Demand3.{rule-sites, Four-or-six, Keeps, Holds-equal, demand-2, demand-2-old, demand-3, demand-4}
 
 -- A kept rule has a matching input.
 pub kept-matched : (g : Set) (r : Written) (h : Set) (k : Kept) → Sound (g .sites) → Keeps g r h k → (at : Given) × Input (h .sites) at × Matches at (r .items)

@@ -1,7 +1,7 @@
 -- B, the other way round: any values of the free sites make an input, and a table that grows keeps the values that it had.
 use mathlib.Core.Path.{_≡_, refl, sym, ap, _∙_}
 use mathlib.Core.Option.{Option, none, some}
-use Prim.Native.Nat.{ℕ, zero, suc, _+_, _≤_, _<_}
+use Prim.Native.Nat.{ℕ, zero, suc, _<_}
 use native.Mathlib.Omega.{arith}
 use Rattle.paper.specs.Inputs.{Value, absent, and-then}
 use Rattle.meaning.specs.Values.{Proj, field}

@@ -2,13 +2,13 @@
 -- With `Refuse.antt` this is both halves of "refused 4 or 6 exactly when no finite input matches".
 use mathlib.Core.Path.{_≡_, refl, sym, ap, _∙_}
 use mathlib.Core.Option.{Option, none, some}
-use Prim.Native.Nat.{ℕ, zero, suc, _+_, _≤_, _<_}
+use Prim.Native.Nat.{ℕ, zero, suc, _<_}
 use native.Mathlib.Omega.{arith}
-use Rattle.paper.specs.Inputs.{Value, int, shape, and-then, value-at, Meets, Agree}
+use Rattle.paper.specs.Inputs.{Value, int, and-then}
 use Rattle.paper.specs.declared.Constraint.{Constraint}
 use Rattle.paper.specs.Sites.{child-count}
 use Rattle.meaning.specs.Values.{Proj, make, proj-at, field-of, field, tab, count-tab, at-tab, tab-ext, shape-make, field-make, field-of-inv}
-use Rattle.meaning.specs.Kinds.{Kind, outside, free, child-of, Places, Reads, Fulfils}
+use Rattle.meaning.specs.Kinds.{Kind, free, child-of, Places, Reads, Fulfils}
 use Rattle.meaning.specs.Model.{Rooted, top, under}
 use Rattle.meaning.specs.Eval.{value-of, value-of-free, value-of-child, value-of-input}
 

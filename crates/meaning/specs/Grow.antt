@@ -1,15 +1,14 @@
 -- What a state promises over a table, and over a table that extends it.
 use mathlib.Core.Path.{_≡_, refl, sym, ap, _∙_}
 use mathlib.Core.Option.{Option, none, some}
-use mathlib.Core.List.{List, [], _∷_}
-use Prim.Native.Nat.{ℕ, zero, suc, _≤_, _<_}
+use Prim.Native.Nat.{ℕ, _<_}
 use native.Mathlib.Omega.{arith}
 use lib.ListN.{getElem?, length}
 use Rattle.paper.specs.declared.Constraint.{Constraint}
 use Rattle.paper.specs.Sites.{Site, Sites, site-at, constBool, constInt, constPrim, argument, extractor, constructor, iterator, makeVariant, matchVariant, makeStruct, extractStruct, makeSome, matchSome, matchTuple, child, child-count, child-number, Sound}
 use Rattle.paper.specs.Inputs.{Given, Input}
 use Rattle.meaning.specs.Values.{Proj, proj-at}
-use Rattle.meaning.specs.Kinds.{Kind, outside, free, child-of, kind-of, or-outside, kind-in, input-is}
+use Rattle.meaning.specs.Kinds.{outside, free, child-of, kind-of, or-outside, kind-in, input-is}
 use Rattle.meaning.specs.Model.{Rooted, top, under}
 use Rattle.meaning.specs.Round.{State}
 use Rattle.meaning.specs.Eval.{input-grow}

@@ -2,19 +2,19 @@
 use mathlib.Core.Path.{_≡_, refl, sym, ap, _∙_}
 use mathlib.Core.Option.{Option, none, some}
 use mathlib.Core.Bool.{Bool, true, false, not}
-use mathlib.Core.List.{List, [], _∷_, List·Memᴰ}
-use Prim.Native.Nat.{ℕ, zero, suc, _<_}
+use mathlib.Core.List.{List·Memᴰ}
+use Prim.Native.Nat.{ℕ, _<_}
 use native.Mathlib.Omega.{arith}
-use lib.ListN.{getElem?, getD, length}
+use lib.ListN.{getElem?, length}
 use Rattle.paper.specs.declared.Constraint.{Constraint}
-use Rattle.paper.specs.Words.{look, any, least, keep}
-use Rattle.paper.specs.Sites.{Site, Sites, constBool, constInt, constPrim, argument, extractor, constructor, iterator, makeVariant, matchVariant, makeStruct, extractStruct, makeSome, matchSome, matchTuple, parent, child, child-count, children, site-at, same-site}
+use Rattle.paper.specs.Words.{look, any, keep}
+use Rattle.paper.specs.Sites.{Site, constBool, constInt, constPrim, argument, extractor, constructor, iterator, makeVariant, matchVariant, makeStruct, extractStruct, makeSome, matchSome, matchTuple, parent, child, children, site-at, same-site}
 use Rattle.paper.specs.Loading.{Loading, has-child, not-child, hangs, hanging}
 use Rattle.paper.specs.Laws.{same-site-true}
 use Rattle.paper.specs.Adding.{inside-has, has-site-at}
 use Rattle.paper.specs.Tables.{in-keep}
-use Rattle.meaning.specs.Values.{Proj, variant-at, struct-at, inner-at, proj-at, field-of, field-of-proj-at}
-use Rattle.meaning.specs.Kinds.{Kind, free, child-of, kind-of, or-outside, kind-in}
+use Rattle.meaning.specs.Values.{proj-at, field-of-proj-at}
+use Rattle.meaning.specs.Kinds.{free, kind-of, or-outside, kind-in}
 use Rattle.meaning.specs.Model.{Rooted, top, under}
 use Rattle.meaning.specs.Places.{child-site, kind-of-site, of-children}
 use Rattle.meaning.specs.Lists.{of-any, least-none}

@@ -1,25 +1,23 @@
 -- Demand 3 of two of 01's trials, end to end: "0 = 1, 0 structure of two fields" is kept, "0 structure of one field, site 2 that field, 0 = 2" is refused 6.
-use mathlib.Core.Path.{_≡_, refl, sym, ap, _∙_}
-use mathlib.Core.Option.{Option, none, some}
-use mathlib.Core.Logic.{_⊎_, inl, inr}
-use mathlib.Core.List.{List, [], _∷_, _++_, List·Memᴰ, List·Memᴰ·head, List·Memᴰ·tail}
+use mathlib.Core.Path.{_≡_, refl, sym, _∙_}
+use mathlib.Core.Option.{some}
+use mathlib.Core.Logic.{inr}
+use mathlib.Core.List.{[], _∷_, List·Memᴰ·head, List·Memᴰ·tail}
 use Prim.Native.Nat.{ℕ, zero, suc}
 use native.Mathlib.Omega.{arith}
 use lib.ListN.{getElem?}
 use Rattle.paper.specs.declared.Constraint.{Constraint}
 use Rattle.paper.specs.declared.Constraint.the-variants.{Struct}
-use Rattle.paper.specs.declared.Item.{Item}
 use Rattle.paper.specs.declared.Item.the-variants.{Is, Equal}
-use Rattle.paper.specs.declared.Refusal.{Refusal}
 use Rattle.paper.specs.declared.Refusal.the-variants.{Endless}
 use Rattle.paper.specs.Words.{look}
-use Rattle.paper.specs.Numbers.{number, done, refused}
-use Rattle.paper.specs.Sites.{Site, Sites, argument, extractStruct, Sound}
-use Rattle.paper.specs.Inputs.{Value, int, structure, nil, more, count, value-at, shape, struct-field, Given, Input, Fits, Meets, Agree, MeetsItem, Matches, MatchesKept}
-use Rattle.paper.specs.Loading.{Set, Written, Kept, load, Made, begun, site-added, empty-set, with-sites, all-loading}
+use Rattle.paper.specs.Numbers.{number, refused}
+use Rattle.paper.specs.Sites.{argument, extractStruct, Sound}
+use Rattle.paper.specs.Inputs.{Value, int, structure, nil, more, count, value-at, shape, struct-field, Given, Input, Meets, Agree, Matches, MatchesKept}
+use Rattle.paper.specs.Loading.{Set, Written, Kept, load, begun, site-added, empty-set, with-sites, all-loading}
 use Rattle.paper.specs.Making.{made-sound}
 use Rattle.paper.specs.Labels.{never}
-use Rattle.meaning.specs.Demand3.{rule-sites, Unmatched, Keeps, demand-1, demand-2, demand-3, demand-4}
+use Rattle.meaning.specs.Demand3.{Unmatched, Keeps, demand-1, demand-2, demand-3, demand-4}
 
 -- "Sites 0 and 1 are Arguments 0 and 1."
 abbrev two-arguments : Set

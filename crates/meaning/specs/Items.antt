@@ -4,7 +4,7 @@ use mathlib.Core.Option.{Option, none, some}
 use mathlib.Core.Bool.{Bool, true, false, not}
 use mathlib.Core.Logic.{_⊎_, inl, inr}
 use mathlib.Core.List.{List, [], _∷_, _++_, List·Memᴰ, List·Memᴰ·head, List·Memᴰ·tail, List·Memᴰ·append-cases, List·Memᴰ·eq-of-singleton, Memᴰ·append-left, Memᴰ·append-right, append-assoc, append-nil}
-use Prim.Native.Nat.{ℕ, zero, suc, _≤_, _<_}
+use Prim.Native.Nat.{ℕ, suc, _≤_, _<_}
 use native.Mathlib.Omega.{arith}
 use native.Mathlib.Decide.{ℕ-discrete}
 use lib.ListN.{length}
@@ -18,7 +18,7 @@ use Rattle.paper.specs.declared.Refusal.the-variants.{Unknown, Unreachable, Too
 use Rattle.paper.specs.Words.{look, put, first}
 use Rattle.paper.specs.Numbers.{max-sites, max-sources, max-fields, max-term, number, Outcome, done, refused, _>>=_, demand}
 use Rattle.paper.specs.Sites.{Site, Sites, same-constraint, fields, child, child-count, children, known, sources, term-of, number-of, missing-source, term-fits, Added, or-next, add, add-all, Sound}
-use Rattle.paper.specs.Inputs.{Given, Meets, Agree, MeetsItem, Matches, shape}
+use Rattle.paper.specs.Inputs.{Given, Meets, MeetsItem, Matches, shape}
 use Rattle.paper.specs.Fair.{no-items}
 use Rattle.paper.specs.Loading.{Loading, constrain, load-item, load-items}
 use Rattle.paper.specs.Laws.{same-constraint-true, same-list-refl}

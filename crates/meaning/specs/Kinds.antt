@@ -2,15 +2,12 @@
 use mathlib.Core.Path.{_≡_, refl, sym, ap, _∙_}
 use mathlib.Core.Option.{Option, none, some}
 use mathlib.Core.Logic.{_↔_}
-use mathlib.Core.List.{List, [], _∷_}
-use Prim.Native.Nat.{ℕ, zero, suc, _<_}
-use native.Mathlib.Nat.{not-suc-le-zero}
+use Prim.Native.Nat.{ℕ, _<_}
 use native.Mathlib.Omega.{arith}
-use lib.ListN.{getElem?, length}
+use lib.ListN.{getElem?}
 use Rattle.paper.specs.declared.Constraint.{Constraint}
 use Rattle.paper.specs.Sites.{Site, Sites, constBool, constInt, constPrim, argument, extractor, constructor, iterator, makeVariant, matchVariant, makeStruct, extractStruct, makeSome, matchSome, matchTuple}
-use Rattle.paper.specs.Inputs.{Value, Given, HasOne, Fits, Input, Meets, Agree, and-then, variant-field, struct-field, inner-of}
-use Rattle.paper.specs.Labels.{never}
+use Rattle.paper.specs.Inputs.{Value, Given, HasOne, Fits, Input, Meets, Agree, and-then}
 use Rattle.meaning.specs.Values.{Proj, variant-at, struct-at, inner-at, taken, field, field-is}
 
 -- it is not in the table; its value is any; or it is a field of its source's

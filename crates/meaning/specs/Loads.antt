@@ -1,37 +1,36 @@
 -- From the items of a rule over the checks and the rounds to the kept rule: what paper's `normalise` answers means.
 use mathlib.Core.Path.{_≡_, refl, sym, ap, _∙_}
 use mathlib.Core.Option.{Option, none, some}
-use mathlib.Core.Bool.{Bool, true, false, not}
-use mathlib.Core.Logic.{_↔_, _⊎_, inl, inr}
-use mathlib.Core.List.{List, [], _∷_, _++_, List·Memᴰ}
-use Prim.Native.Nat.{ℕ, zero, suc, _≤_, _<_}
+use mathlib.Core.Bool.{Bool, true, false}
+use mathlib.Core.Logic.{_⊎_, inl, inr}
+use mathlib.Core.List.{List, [], _∷_, List·Memᴰ}
+use Prim.Native.Nat.{ℕ, zero, suc}
 use native.Mathlib.Omega.{arith}
-use native.Mathlib.Decide.{ℕ-discrete}
 use lib.ListN.{length}
 use lib.Dec.{leb}
 use Rattle.paper.specs.declared.Constraint.{Constraint}
 use Rattle.paper.specs.declared.Item.{Item}
 use Rattle.paper.specs.declared.Item.the-variants.{Is, Equal}
 use Rattle.paper.specs.declared.Refusal.{Refusal}
-use Rattle.paper.specs.declared.Refusal.the-variants.{Unreachable, Hanging, Endless, TooManyConstrained, TooManyEqual}
-use Rattle.paper.specs.Words.{look, first}
+use Rattle.paper.specs.declared.Refusal.the-variants.{Hanging, TooManyConstrained, TooManyEqual}
+use Rattle.paper.specs.Words.{look}
 use Rattle.paper.specs.Numbers.{most-rounds, max-constrained, max-equal, number, Outcome, done, refused, _>>=_, demand}
-use Rattle.paper.specs.Sites.{Sites, child-count, children, child-number, add-all, Sound}
-use Rattle.paper.specs.Inputs.{Value, Given, Input, Meets, Agree, MeetsItem, Matches}
-use Rattle.paper.specs.Loading.{Loading, Solving, Constraints, Labels, Holder, started, lowest, join-all, hanging, holders, closure, first-holder, differs, conflict, told-4, check-4, steps, endless, no-hanging, no-endless, take-class, members, others, dissolve, give-all, grow-all, join-children, round, rounds, normalise}
+use Rattle.paper.specs.Sites.{Sites, children, child-number, add-all}
+use Rattle.paper.specs.Inputs.{Value, Given, Input, Matches}
+use Rattle.paper.specs.Loading.{Loading, Solving, Labels, Holder, started, lowest, join-all, hanging, holders, closure, first-holder, differs, conflict, told-4, check-4, steps, endless, no-hanging, no-endless, take-class, members, others, dissolve, give-all, grow-all, join-children, round, rounds, normalise}
 use Rattle.paper.specs.Joins as J
-use Rattle.paper.specs.Labels.{never, none-sound}
+use Rattle.paper.specs.Labels.{none-sound}
 use Rattle.paper.specs.Fair.{Fair}
-use Rattle.paper.specs.Outcomes.{done-once, bind-done, demand-done}
+use Rattle.paper.specs.Outcomes.{bind-done, demand-done}
 use Rattle.paper.specs.Ends.{unconstrained}
 use Rattle.meaning.specs.Kinds.{kind-in, Reads, Fulfils, input-is}
-use Rattle.meaning.specs.Model.{Rooted, Held}
+use Rattle.meaning.specs.Model.{Rooted}
 use Rattle.meaning.specs.Whole.{Wrote, given, self-w, back-w, via-w, Loaded, Kept, written-same}
 use Rattle.meaning.specs.Eval.{value-of, value-of-input}
 use Rattle.meaning.specs.Places.{places-of}
 use Rattle.meaning.specs.Grow.{rooted-grows, Full, full-state, full-grows}
 use Rattle.meaning.specs.Lists.{first-some}
-use Rattle.meaning.specs.Joining.{Well, none-well, all-well, all-lowest, label-of}
+use Rattle.meaning.specs.Joining.{none-well, all-well, all-lowest, label-of}
 use Rattle.meaning.specs.Items.{Part, Unmet, not-unmet, then-refused, add-all-fine}
 use Rattle.meaning.specs.Hangs.{named-rooted}
 use Rattle.meaning.specs.Checks as C

@@ -3,12 +3,12 @@ use mathlib.Core.Path.{_≡_, refl, sym, ap, _∙_}
 use mathlib.Core.Option.{Option, none, some}
 use Prim.Native.Nat.{ℕ, zero, suc, _+_, _≤_, _<_}
 use native.Mathlib.Omega.{arith}
-use Rattle.paper.specs.Inputs.{Value, int, shape, and-then, value-at, count, Meets, Agree}
+use Rattle.paper.specs.Inputs.{Value, int, shape, and-then, value-at, Meets, Agree}
 use Rattle.paper.specs.declared.Constraint.{Constraint}
 use Rattle.paper.specs.declared.Constraint.the-variants.{ConstInt}
 use Rattle.paper.specs.Sites.{child-count}
 use Rattle.paper.specs.Labels.{never}
-use Rattle.meaning.specs.Values.{Proj, parts, make, proj-at, field-of, field, tab, count-tab, at-tab, tab-ext, shape-make, field-make, field-of-inv}
+use Rattle.meaning.specs.Values.{Proj, make, proj-at, field-of, field, tab, count-tab, at-tab, tab-ext, shape-make, field-make, field-of-inv}
 use Rattle.meaning.specs.Kinds.{Kind, outside, free, child-of, Places, Reads, Fulfils}
 
 -- A named child site is a child of a constrained one (check 5).

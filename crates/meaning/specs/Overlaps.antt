@@ -1,14 +1,13 @@
 -- 01, "Two rules, many rules": what the comparison of two kept rules of a set means. (Pairs.antt has the proofs.)
-use mathlib.Core.Path.{_≡_, refl, sym, ap, _∙_}
-use mathlib.Core.Bool.{Bool, true, false}
+use mathlib.Core.Path.{_≡_}
+use mathlib.Core.Bool.{true}
 use mathlib.Core.Logic.{_↔_}
 use mathlib.Core.List.{List, List·Memᴰ}
-use Prim.Native.Nat.{ℕ, _≤_, _<_}
+use Prim.Native.Nat.{_≤_, _<_}
 use native.Mathlib.Omega.{arith}
 use lib.ListN.{length}
-use lib.Dec.{leb}
 use borrow.Author.Tests.{le-leb, lt-leb}
-use Rattle.paper.specs.declared.Overlap.the-variants.{No, Yes, Subset}
+use Rattle.paper.specs.declared.Overlap.the-variants.{No, Subset}
 use Rattle.paper.specs.Inputs.{Given, Input, MatchesKept}
 use Rattle.paper.specs.Loading.{Set, Kept, Made}
 use Rattle.paper.specs.Rules.{no-equals, compare-with, may-overlap, rank, masks}

@@ -2,20 +2,20 @@
 use mathlib.Core.Path.{_≡_, refl, sym, ap, _∙_}
 use mathlib.Core.Option.{Option, none, some}
 use mathlib.Core.Bool.{Bool, true, false, not, _&&_}
-use mathlib.Core.Logic.{_↔_, _⊎_, inl, inr}
+use mathlib.Core.Logic.{_⊎_, inl, inr}
 use mathlib.Core.List.{List, [], _∷_, _++_, List·Memᴰ, List·Memᴰ·head, List·Memᴰ·tail, List·Memᴰ·append-cases, List·Memᴰ·eq-of-singleton}
-use Prim.Native.Nat.{ℕ, zero, suc, _+_, _≤_, _<_}
+use Prim.Native.Nat.{ℕ, _+_, _≤_, _<_}
 use native.Mathlib.Omega.{arith}
 use lib.ListN.{length}
 use lib.Dec.{leb, ltb}
-use borrow.Author.Tests.{leb-true, leb-false, ltb-true, not-false}
+use borrow.Author.Tests.{leb-true, leb-false, ltb-true}
 use Rattle.paper.specs.declared.Constraint.{Constraint}
 use Rattle.paper.specs.declared.Overlap.{Overlap}
 use Rattle.paper.specs.declared.Overlap.the-variants.{No, Yes, Subset}
-use Rattle.paper.specs.Words.{if_then_else_, look, any, every}
+use Rattle.paper.specs.Words.{if_then_else_, look, every}
 use Rattle.paper.specs.Sites.{Sites, same-constraint, child-count, child-number, Sound}
-use Rattle.paper.specs.Inputs.{Given, Input, Meets, Agree, MatchesKept, shape}
-use Rattle.paper.specs.Loading.{Set, Kept, Labels, Constraints, Made, begun, site-added, rule-loaded, lowest, load, empty-set, with-sites}
+use Rattle.paper.specs.Inputs.{Given, Input, MatchesKept, shape}
+use Rattle.paper.specs.Loading.{Set, Kept, Labels, Constraints, Made, begun, site-added, rule-loaded, lowest, empty-set, with-sites}
 use Rattle.paper.specs.Rules.{other-there, same-there, differ, within, no-equals, compare-with, may-overlap, total, rank, subset?, masks}
 use Rattle.paper.specs.Laws.{same-constraint-true}
 use Rattle.paper.specs.Labels.{never}
@@ -23,11 +23,11 @@ use Rattle.paper.specs.Adding.{Extends, add-extends}
 use Rattle.paper.specs.Tables.{look-in, in-look}
 use Rattle.paper.specs.Making.{made-sound}
 use Rattle.meaning.specs.Values.{proj-at}
-use Rattle.meaning.specs.Kinds.{child-of, kind-in, Fulfils, input-is}
-use Rattle.meaning.specs.Model.{Rooted, Held, Solved, model-exists, forced-shape}
+use Rattle.meaning.specs.Kinds.{child-of, kind-in, input-is}
+use Rattle.meaning.specs.Model.{Rooted, Solved, model-exists, forced-shape}
 use Rattle.meaning.specs.Whole.{rooted-stays}
 use Rattle.meaning.specs.Places.{places-of, child-kind}
-use Rattle.meaning.specs.Grow.{Full, full-grows}
+use Rattle.meaning.specs.Grow.{full-grows}
 use Rattle.meaning.specs.Lists.{of-any, in-any}
 use Rattle.meaning.specs.Items.{same-constraint-refl}
 use Rattle.meaning.specs.Answers as A

@@ -1,8 +1,8 @@
 -- What stands where in a table of sites: its kinds, the numbers of children, and that both stay in a table that extends it.
 use mathlib.Core.Path.{_≡_, refl, sym, ap, _∙_}
 use mathlib.Core.Option.{Option, none, some}
-use mathlib.Core.List.{List, [], _∷_, List·Memᴰ, List·Memᴰ·head}
-use Prim.Native.Nat.{ℕ, zero, suc, _≤_, _<_}
+use mathlib.Core.List.{List·Memᴰ, List·Memᴰ·head}
+use Prim.Native.Nat.{ℕ, _<_}
 use native.Mathlib.Omega.{arith}
 use lib.ListN.{getElem?, length}
 use Rattle.paper.specs.declared.Constraint.{Constraint}
@@ -11,7 +11,7 @@ use Rattle.paper.specs.Sites.{Site, Sites, constBool, constInt, constPrim, argu
 use Rattle.paper.specs.Closure.{of-below, in-below}
 use Rattle.paper.specs.Adding.{Extends, Has, get-inside, inside-has, child-there}
 use Rattle.meaning.specs.Values.{Proj, variant-at, struct-at, inner-at, proj-at}
-use Rattle.meaning.specs.Kinds.{Kind, outside, free, child-of, kind-of, or-outside, kind-in, Places}
+use Rattle.meaning.specs.Kinds.{outside, free, child-of, kind-of, or-outside, kind-in, Places}
 
 -- ---- kinds
 

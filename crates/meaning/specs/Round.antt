@@ -1,15 +1,14 @@
 -- E. One round of normalising keeps the set of matching inputs.
 use mathlib.Core.Path.{_≡_, refl, sym, ap, _∙_}
-use mathlib.Core.Option.{Option, none, some}
+use mathlib.Core.Option.{Option, some}
 use mathlib.Core.Logic.{_↔_}
-use Prim.Native.Nat.{ℕ, zero, suc, _<_}
-use native.Mathlib.Omega.{arith}
+use Prim.Native.Nat.{ℕ, _<_}
 use native.Mathlib.Decide.{ℕ-discrete}
-use Rattle.paper.specs.Inputs.{Value, shape, and-then, Meets, Agree}
+use Rattle.paper.specs.Inputs.{Value, and-then, Meets, Agree}
 use Rattle.paper.specs.declared.Constraint.{Constraint}
 use Rattle.paper.specs.Sites.{child-count}
-use Rattle.meaning.specs.Values.{Proj, proj-at, field-of, field, field-has, field-ext}
-use Rattle.meaning.specs.Kinds.{Kind, free, child-of, Reads, Fulfils}
+use Rattle.meaning.specs.Values.{proj-at, field, field-has, field-ext}
+use Rattle.meaning.specs.Kinds.{Kind, child-of, Reads, Fulfils}
 use Rattle.meaning.specs.Model.{Rooted, top, under, Held}
 
 -- the children of the constrained sites are in the table

@@ -3,15 +3,14 @@ use mathlib.Core.Path.{_≡_, refl, sym, ap, _∙_}
 use mathlib.Core.Option.{Option, none, some}
 use mathlib.Core.Logic.{_⊎_, inl, inr}
 use mathlib.Core.List.{List, [], _∷_, _++_, List·Memᴰ, List·Memᴰ·head, List·Memᴰ·tail, List·Memᴰ·append-cases, Memᴰ·append-left, Memᴰ·append-right}
-use Prim.Native.Nat.{ℕ, zero, suc, _≤_, _<_}
-use native.Mathlib.Omega.{arith}
+use Prim.Native.Nat.{ℕ, zero, suc, _<_}
 use native.Mathlib.Decide.{ℕ-discrete}
 use lib.ListN.{length}
 use Rattle.paper.specs.declared.Constraint.{Constraint}
 use Rattle.paper.specs.Words.{look, put}
-use Rattle.paper.specs.Numbers.{Outcome, done, refused, _>>=_}
+use Rattle.paper.specs.Numbers.{Outcome, done, _>>=_}
 use Rattle.paper.specs.Sites.{Sites, child, child-count, child-number, Sound}
-use Rattle.paper.specs.Inputs.{Value, Given, Meets, Agree, shape}
+use Rattle.paper.specs.Inputs.{Value, Given, shape}
 use Rattle.paper.specs.Loading.{Constraints, Labels, Solving, lowest, join-all, members, dissolve, others, like-children, take-class, give-all, grow-all, join-children, round, rounds}
 use Rattle.paper.specs.Joins.{joinAll}
 use Rattle.paper.specs.Labels.{never, put-here, put-there}

@@ -2,17 +2,15 @@
 use mathlib.Core.Path.{_≡_, refl, sym, ap, _∙_}
 use mathlib.Core.Option.{Option, none, some}
 use mathlib.Core.Logic.{_↔_, _⊎_, inl, inr}
-use mathlib.Core.List.{List, [], _∷_, List·Memᴰ, List·Memᴰ·head, List·Memᴰ·tail}
-use Prim.Native.Nat.{ℕ, zero, suc, _<_}
-use native.Mathlib.Omega.{arith}
+use mathlib.Core.List.{List, List·Memᴰ}
+use Prim.Native.Nat.{ℕ}
 use native.Mathlib.Decide.{ℕ-discrete}
-use Rattle.paper.specs.Inputs.{Value, shape, Meets, Agree, MeetsItem, Matches}
+use Rattle.paper.specs.Inputs.{Value, Meets, Agree, MeetsItem, Matches}
 use Rattle.paper.specs.declared.Constraint.{Constraint}
-use Rattle.paper.specs.Sites.{child-count}
 use Rattle.paper.specs.declared.Item.{Item}
 use Rattle.paper.specs.declared.Item.the-variants.{Is, Equal}
-use Rattle.meaning.specs.Values.{Proj, proj-at, field-of, field-of-proj-at}
-use Rattle.meaning.specs.Kinds.{Kind, free, child-of, Places, Reads, Fulfils}
+use Rattle.meaning.specs.Values.{proj-at, field-of-proj-at}
+use Rattle.meaning.specs.Kinds.{Kind, Places, Reads, Fulfils}
 use Rattle.meaning.specs.Model.{Rooted, top, under, Held, Solved, model-exists, forced-shape, forced-equal}
 use Rattle.meaning.specs.Round.{Grown, State, Left, old, kids, self, back, via, Round, class-same, rooted-has, round-same}
 
