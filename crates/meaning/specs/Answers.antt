@@ -148,7 +148,8 @@ module _ (g : Set) (r : Written) (h : Set) (k : Kept) (S : Sound (g .sites)) (l 
   pub rounds-grow : Extends (l .sites) (h .sites)
   rounds-grow = rw sites-are (R .extends)
 
-  pub named-inside : (i : Item) → List·Memᴰ i (r .items) → (at at′ : Given) → ((n : ℕ) → n < length (l .sites) → at n ≡ at′ n) → MeetsItem at i → MeetsItem at′ i
+  -- what the items ask hangs on their own sites
+  named-inside : (i : Item) → List·Memᴰ i (r .items) → (at at′ : Given) → ((n : ℕ) → n < length (l .sites) → at n ≡ at′ n) → MeetsItem at i → MeetsItem at′ i
   named-inside (Is n c) m at at′ same M =
       let P = went .part in
       let e = P .con-of n c m in
@@ -160,6 +161,9 @@ module _ (g : Set) (r : Written) (h : Set) (k : Kept) (S : Sound (g .sites)) (l 
       let p = same a (P .known a (w .0)) in
       let q = same b (P .known b (w .1)) in
       record { value = M .value; one = sym p ∙ M .one; other = sym q ∙ M .other }
+
+  pub items-inside : (at at′ : Given) → ((n : ℕ) → n < length (l .sites) → at n ≡ at′ n) → Matches at (r .items) → Matches at′ (r .items)
+  items-inside at at′ same M i m = named-inside i m at at′ same (M i m)
 
   pub grow-input : (at : Given) → Input (l .sites) at → (at′ : Given) × Input (h .sites) at′ × ((n : ℕ) → n < length (l .sites) → at n ≡ at′ n)
   grow-input at I = input-more (l .sites) (h .sites) at (went .part .sound) sound-after rounds-grow I
@@ -248,6 +252,9 @@ module _ (g : Set) (r : Written) (S : Sound (g .sites)) where
     pub grown : Extends (g .sites) (left-by (g .sites) (load-items (no-items (g .sites)) 0 (r .items))) × Extends (left-by (g .sites) (load-items (no-items (g .sites)) 0 (r .items))) (h .sites) ×
         ((at : Given) → Input (left-by (g .sites) (load-items (no-items (g .sites)) 0 (r .items))) at → (at′ : Given) × Input (h .sites) at′ × ((n : ℕ) → n < length (left-by (g .sites) (load-items (no-items (g .sites)) 0 (r .items))) → at n ≡ at′ n))
     grown = rw its-are (items-grow g r h k S (L .loading) (L .solved) (L .items) (L .normalised) (L .sites-are) (L .constraints-are) (L .equals-are), rounds-grow g r h k S (L .loading) (L .solved) (L .items) (L .normalised) (L .sites-are) (L .constraints-are) (L .equals-are), grow-input g r h k S (L .loading) (L .solved) (L .items) (L .normalised) (L .sites-are) (L .constraints-are) (L .equals-are))
+
+    pub same-on-old : (at at′ : Given) → ((n : ℕ) → n < length (left-by (g .sites) (load-items (no-items (g .sites)) 0 (r .items))) → at n ≡ at′ n) → Matches at (r .items) → Matches at′ (r .items)
+    same-on-old = rw its-are (items-inside g r h k S (L .loading) (L .solved) (L .items) (L .normalised) (L .sites-are) (L .constraints-are) (L .equals-are))
 
   pub unmatched-refused : ((x : Refusal) → load g r ≡ refused x → Unmet x) → ((at : Given) → Input (left-by (g .sites) (load-items (no-items (g .sites)) 0 (r .items))) at → Matches at (r .items) → ⊥) → (x : Refusal) × (load g r ≡ refused x) × Unmet x
   unmatched-refused others u = go (load g r) refl

@@ -28,6 +28,12 @@ kept-matched g r h k S K = A.matched g r S h k (K .loaded) (K .last)
 pub refused-unmatched : (g : Set) (r : Written) (x : Refusal) → Sound (g .sites) → load g r ≡ refused x → Four-or-six x → (t : Sites) → Extends (rule-sites g r) t → (at : Given) → Input t at → Matches at (r .items) → ⊥
 refused-unmatched g r x S e u t more at I M = A.refused-unmatched g r S x e u at (input-part (rule-sites g r) t at more I) M
 
+-- An input of the rule's sites matches the written rule exactly if an input of the set, with its values there, matches the kept rule.
+pub same-on-old : (g : Set) (r : Written) (h : Set) (k : Kept) → Sound (g .sites) → Keeps g r h k → (at at′ : Given) → Input (h .sites) at′ → ((n : ℕ) → n < length (rule-sites g r) → at n ≡ at′ n) → Matches at (r .items) ↔ MatchesKept at′ k
+same-on-old g r h k S K at at′ I same =
+    let w = demand-2 g r h k S K at′ I in
+    (λ M. w .0 (A.same-on-old g r S h k (K .loaded) (K .last) at at′ same M), λ M. A.same-on-old g r S h k (K .loaded) (K .last) at′ at (λ n l. sym (same n l)) (w .1 M))
+
 -- Every loaded rule is kept as some k, with the place and the priority as handed over.
 pub loaded-keeps : (g : Set) (r : Written) (h : Set) → load g r ≡ done h → (k : Kept) × Keeps g r h k × (k .place ≡ r .place) × (k .priority ≡ r .priority)
 loaded-keeps g r h e = let w = A.last-kept g r h e in (w .0, record { loaded = e; last = w .1 }, w .2, w .3)

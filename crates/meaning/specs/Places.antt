@@ -90,9 +90,6 @@ child-stays t u x S n c i h =
 pub child-kind : (t : Sites) (n : ℕ) (c : Constraint) (i : ℕ) → Has t (child n c i) → kind-in t (child-number t n c i) ≡ child-of n (proj-at c i)
 child-kind t n c i h = ap or-outside (child-there t n c i h) ∙ (ap kind-of (child-site n c i) ∙ kind-of-site n (proj-at c i))
 
-pub child-in : (t : Sites) (n : ℕ) (c : Constraint) (i : ℕ) → Has t (child n c i) → child-number t n c i < length t
-child-in t n c i h = get-inside t (child-number t n c i) (child n c i) (child-there t n c i h)
-
 pub in-children : (n : ℕ) (c : Constraint) (i : ℕ) → i < child-count c → List·Memᴰ (child n c i) (children n c)
 unfolding children
 in-children n c i h = in-below (child-count c) (child n c) i h
