@@ -24,7 +24,7 @@ use Rattle.meaning.specs.Values.{proj-at, field, size, field-in, field-s
 use Rattle.meaning.specs.Kinds.{kind-in, Reads, Fulfils}
 use Rattle.meaning.specs.Model.{Rooted}
 use Rattle.meaning.specs.Round.{Grown}
-use Rattle.meaning.specs.Generic.{Ordered, freeValue, matches}
+use Rattle.meaning.specs.Generic.{Ordered, free-value, matches}
 use Rattle.meaning.specs.Eval.{value-of}
 use Rattle.paper.specs.Tables.{in-look, look-in, in-keep, of-keep, lowest-own}
 use Rattle.meaning.specs.Places.{child-kind, places-of}
@@ -472,7 +472,7 @@ module _ (items : List Item) (l : Loading) (P : Part items l) where
 
     -- the values of the free sites
     pub values : ℕ → Value
-    values = freeValue con kid rep boss height 0
+    values = free-value con kid rep boss height 0
 
     pub passed-matched : Fulfils (value-of (kind-in (l .sites)) values) (look (l .constraints)) (λ a b. List·Memᴰ (a, b) (l .equalities))
     unfolding values

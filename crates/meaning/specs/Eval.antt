@@ -1,9 +1,9 @@
--- B, the other way round: any values of the free sites make an input, and a table that grows keeps the values that it had.
+-- Any values of the free sites make an input; a table that grows keeps the values that it had, and an input of it is part of one of the larger.
 use mathlib.Core.Path.{_≡_, refl, sym, ap, _∙_}
 use mathlib.Core.Option.{Option, none, some}
 use Prim.Native.Nat.{ℕ, zero, suc, _<_}
 use native.Mathlib.Omega.{arith}
-use Rattle.paper.specs.Inputs.{Value, absent, and-then}
+use Rattle.paper.specs.Inputs.{Value, absent, and-then, Given}
 use Rattle.meaning.specs.Values.{Proj, field}
 use Rattle.meaning.specs.Kinds.{Kind, outside, free, child-of, Reads}
 
@@ -63,7 +63,7 @@ abbrev orAbsent : Option Value → Value
 orAbsent none = absent
 orAbsent (some x) = x
 
-module _ (kind kind′ : ℕ → Kind) (low : Lower kind) (low′ : Lower kind′) (top : ℕ) (same : (n : ℕ) → n < top → kind′ n ≡ kind n) (inside : (n : ℕ) → n < top → kind n ≡ outside → ⊥) (at : ℕ → Option Value) (I : Reads kind at) where
+module _ (kind kind′ : ℕ → Kind) (low : Lower kind) (low′ : Lower kind′) (top : ℕ) (same : (n : ℕ) → n < top → kind′ n ≡ kind n) (inside : (n : ℕ) → n < top → kind n ≡ outside → ⊥) (at : Given) (I : Reads kind at) where
   freely : ℕ → Value
   freely n = orAbsent (at n)
 
@@ -78,5 +78,5 @@ module _ (kind kind′ : ℕ → Kind) (low : Lower kind) (low′ : Lower kind�
       let l = low n m p e in
       I .child-has n m p e ∙ (ap (λ x. and-then x (field p)) (agrees k m (kind m) refl (omega arith) (omega arith)) ∙ sym (value-of-child kind′ freely low′ n m p (same n t ∙ e)))
 
-  pub input-grow : (at′ : ℕ → Option Value) × Reads kind′ at′ × ((n : ℕ) → n < top → at n ≡ at′ n)
+  pub input-grow : (at′ : Given) × Reads kind′ at′ × ((n : ℕ) → n < top → at n ≡ at′ n)
   input-grow = (value-of kind′ freely, value-of-input kind′ freely low′, λ n h. agrees (suc n) n (kind n) refl (omega arith) h)

@@ -1,10 +1,10 @@
--- D, for classes that may hold constrained sites: a rule whose classes hold no differing constraints and go round in no circle has a matching input.
--- With `Refuse.antt` this is both halves of "refused 4 or 6 exactly when no finite input matches".
+-- A rule whose classes hold no differing constraints and go round in no circle has a matching input: each class has one value, of the shape of its
+-- constrained members over the values of their children's classes, or an integer of its own.
 use mathlib.Core.Path.{_≡_, refl, sym, ap, _∙_}
 use mathlib.Core.Option.{Option, none, some}
 use Prim.Native.Nat.{ℕ, zero, suc, _<_}
 use native.Mathlib.Omega.{arith}
-use Rattle.paper.specs.Inputs.{Value, int, and-then}
+use Rattle.paper.specs.Inputs.{Value, int, and-then, Given}
 use Rattle.paper.specs.declared.Constraint.{Constraint}
 use Rattle.paper.specs.Sites.{child-count}
 use Rattle.meaning.specs.Values.{Proj, make, proj-at, field-of, field, tab, count-tab, at-tab, tab-ext, shape-make, field-make, field-of-inv}
@@ -28,12 +28,12 @@ gen con kid rep boss t (suc k) r = elim (con (boss r)) [
   | some c ↦ make c (tab (child-count c) (λ i. gen con kid rep boss t k (rep (kid (boss r) c i))))
 ]
 
--- the value of each class, and of each free site: computed with no proof in hand, so that a loop's measure can name it
-pub classValue : (ℕ → Option Constraint) → (ℕ → Constraint → ℕ → ℕ) → (ℕ → ℕ) → (ℕ → ℕ) → (ℕ → ℕ) → ℕ → ℕ → Value
-classValue con kid rep boss height t r = gen con kid rep boss t (suc (height r)) r
+-- the value of each class, and of each free site: computed with no proof in hand
+pub class-value : (ℕ → Option Constraint) → (ℕ → Constraint → ℕ → ℕ) → (ℕ → ℕ) → (ℕ → ℕ) → (ℕ → ℕ) → ℕ → ℕ → Value
+class-value con kid rep boss height t r = gen con kid rep boss t (suc (height r)) r
 
-pub freeValue : (ℕ → Option Constraint) → (ℕ → Constraint → ℕ → ℕ) → (ℕ → ℕ) → (ℕ → ℕ) → (ℕ → ℕ) → ℕ → ℕ → Value
-freeValue con kid rep boss height t n = classValue con kid rep boss height t (rep n)
+pub free-value : (ℕ → Option Constraint) → (ℕ → Constraint → ℕ → ℕ) → (ℕ → ℕ) → (ℕ → ℕ) → (ℕ → ℕ) → ℕ → ℕ → Value
+free-value con kid rep boss height t n = class-value con kid rep boss height t (rep n)
 
 module _ (con : ℕ → Option Constraint) (kid : ℕ → Constraint → ℕ → ℕ) (rep boss : ℕ → ℕ) (t : ℕ) where
   gen-none : (k r : ℕ) → con (boss r) ≡ none → gen con kid rep boss t k r ≡ int t 0 r
@@ -60,13 +60,13 @@ module _ (kind : ℕ → Kind) (room : ℕ) (con : ℕ → Option Constraint) (k
       ∙ sym (gen-some con kid rep boss t j (rep n) c e))
 
   abbrev the : ℕ → Value
-  the r = classValue con kid rep boss height t r
+  the r = class-value con kid rep boss height t r
 
   abbrev values : ℕ → Value
-  values n = freeValue con kid rep boss height t n
+  values n = free-value con kid rep boss height t n
 
   the-some : (n : ℕ) (c : Constraint) → con n ≡ some c → the (rep n) ≡ make c (tab (child-count c) (λ i. the (rep (kid n c i))))
-  unfolding classValue
+  unfolding class-value
   the-some n c e =
       let b = S .uniform n c e in
       let q = S .boss-in n c b in
@@ -81,11 +81,11 @@ module _ (kind : ℕ → Kind) (room : ℕ) (con : ℕ → Option Constraint) (k
   the-field : (m : ℕ) (c : Constraint) (p : Proj) (i : ℕ) → con m ≡ some c → field-of c p ≡ some i → field p (the (rep m)) ≡ some (the (rep (kid m c i)))
   the-field m c p i e g = rw (the-some m c e) (field-make c p _ (count-tab (child-count c) _) ∙ rw g (at-tab (child-count c) _ i (field-of-inv c p i g .1)))
 
-  abbrev pub at : ℕ → Option Value
+  abbrev pub at : Given
   at = value-of kind values
 
   free-at : (n : ℕ) → kind n ≡ free → at n ≡ some (the (rep n))
-  unfolding freeValue
+  unfolding free-value
   free-at n e = value-of-free kind values n e
 
   -- every named site has its class's value

@@ -1,14 +1,24 @@
+-- Theorems about the definitions of paper. Code never needs them; readers do. These three state them:
+pub mod Demand3
+pub mod Corollaries
+pub mod Overlaps
+-- one instance end to end
+pub mod Instance
+-- values, kinds of sites, inputs
 pub mod Values
 pub mod Kinds
 pub mod Eval
+-- solved forms and their inputs; the rounds
 pub mod Model
 pub mod Round
-pub mod Generic
 pub mod Whole
+pub mod Generic
+-- paper's tables, labels and lists
 pub mod Places
 pub mod Grow
 pub mod Lists
 pub mod Joining
+-- paper's loader: a round, the rounds, the items, checks 5, 4 and 6, and the whole
 pub mod Exec
 pub mod Rounds
 pub mod Items
@@ -16,8 +26,5 @@ pub mod Hangs
 pub mod Checks
 pub mod Loads
 pub mod Answers
-pub mod Demand3
-pub mod Corollaries
-pub mod Instance
+-- paper's comparison of two kept rules
 pub mod Pairs
-pub mod Overlaps

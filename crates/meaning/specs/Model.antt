@@ -1,9 +1,9 @@
--- D. Every solved form has a matching input, and one that forces nothing which the form does not say.
+-- Every solved form has a matching input, and one that forces nothing which the form does not say.
 use mathlib.Core.Path.{_≡_, refl, sym, ap, _∙_}
 use mathlib.Core.Option.{Option, none, some}
 use Prim.Native.Nat.{ℕ, zero, suc, _+_, _≤_, _<_}
 use native.Mathlib.Omega.{arith}
-use Rattle.paper.specs.Inputs.{Value, int, shape, and-then, value-at, Meets, Agree}
+use Rattle.paper.specs.Inputs.{Value, int, shape, and-then, value-at, Meets, Agree, Given}
 use Rattle.paper.specs.declared.Constraint.{Constraint}
 use Rattle.paper.specs.declared.Constraint.the-variants.{ConstInt}
 use Rattle.paper.specs.Sites.{child-count}
@@ -109,7 +109,7 @@ module _ (kind : ℕ → Kind) (room : ℕ) (con : ℕ → Option Constraint) (k
   the : ℕ → Value
   the n = gen con kid rep t (suc room) n
 
-  at : ℕ → Option Value
+  at : Given
   at n = placed-at con (kind n) (the n)
 
   the-none : (n : ℕ) → con n ≡ none → the n ≡ leaf t (rep n)
@@ -199,11 +199,11 @@ module _ (kind : ℕ → Kind) (room : ℕ) (con : ℕ → Option Constraint) (k
 
 module _ (kind : ℕ → Kind) (room : ℕ) (con : ℕ → Option Constraint) (kid : ℕ → Constraint → ℕ → ℕ) (rep : ℕ → ℕ) (T : Places kind room) (S : Solved kind con kid rep) where
   -- some finite input matches it
-  pub model-exists : (at : ℕ → Option Value) × Reads kind at × Fulfils at con (Held rep)
+  pub model-exists : (at : Given) × Reads kind at × Fulfils at con (Held rep)
   model-exists = (at kind room con kid rep T S 0, input kind room con kid rep T S 0, matches kind room con kid rep T S 0)
 
   -- a shape that every matching input has at a site is the constraint there
-  pub forced-shape : (n : ℕ) (c : Constraint) → ((at : ℕ → Option Value) → Reads kind at → Fulfils at con (Held rep) → Meets at n c) → con n ≡ some c
+  pub forced-shape : (n : ℕ) (c : Constraint) → ((at : Given) → Reads kind at → Fulfils at con (Held rep) → Meets at n c) → con n ≡ some c
   forced-shape n c h = go (con n) refl
     where
       in-model : (t : ℕ) → Meets (at kind room con kid rep T S t) n c
@@ -223,7 +223,7 @@ module _ (kind : ℕ → Kind) (room : ℕ) (con : ℕ → Option Constraint) (k
           e ∙ u
 
   -- two unconstrained sites that every matching input makes equal are held equal
-  pub forced-equal : (a b : ℕ) → (a ≡ b → ⊥) → con a ≡ none → con b ≡ none → ((at : ℕ → Option Value) → Reads kind at → Fulfils at con (Held rep) → Agree at a b) → Held rep a b
+  pub forced-equal : (a b : ℕ) → (a ≡ b → ⊥) → con a ≡ none → con b ≡ none → ((at : Given) → Reads kind at → Fulfils at con (Held rep) → Agree at a b) → Held rep a b
   forced-equal a b ne e f h =
       record {
         same = plain-equal kind room con kid rep T S 0 a b e f (h (at kind room con kid rep T S 0) (input kind room con kid rep T S 0) (matches kind room con kid rep T S 0));

@@ -1,10 +1,10 @@
--- E. One round of normalising keeps the set of matching inputs.
+-- One round of normalising keeps the set of matching inputs.
 use mathlib.Core.Path.{_≡_, refl, sym, ap, _∙_}
 use mathlib.Core.Option.{Option, some}
 use mathlib.Core.Logic.{_↔_}
 use Prim.Native.Nat.{ℕ, _<_}
 use native.Mathlib.Decide.{ℕ-discrete}
-use Rattle.paper.specs.Inputs.{Value, and-then, Meets, Agree}
+use Rattle.paper.specs.Inputs.{Value, and-then, Meets, Agree, Given}
 use Rattle.paper.specs.declared.Constraint.{Constraint}
 use Rattle.paper.specs.Sites.{child-count}
 use Rattle.meaning.specs.Values.{proj-at, field, field-has, field-ext}
@@ -41,7 +41,7 @@ pub record Round (kid : ℕ → Constraint → ℕ → ℕ) (con : ℕ → Optio
   pub only : (a b : ℕ) → rep′ a ≡ rep′ b → Left kid rep low c a b
 
 -- in a matching input every rooted site has a value
-pub rooted-has : (kind : ℕ → Kind) (con : ℕ → Option Constraint) (at : ℕ → Option Value) → Reads kind at → ((n : ℕ) (c : Constraint) → con n ≡ some c → Meets at n c) → (n : ℕ) → Rooted kind con n → (x : Value) × (at n ≡ some x)
+pub rooted-has : (kind : ℕ → Kind) (con : ℕ → Option Constraint) (at : Given) → Reads kind at → ((n : ℕ) (c : Constraint) → con n ≡ some c → Meets at n c) → (n : ℕ) → Rooted kind con n → (x : Value) × (at n ≡ some x)
 rooted-has kind con at I M n (top e) = I .free-has n e
 rooted-has kind con at I M n (under m p c i e f g) =
     let x = M m c f in
@@ -49,7 +49,7 @@ rooted-has kind con at I M n (under m p c i e f g) =
     (y .0, I .child-has n m p e ∙ rw (x .there) (y .1))
 
 -- the sites of one class agree, also a site with itself
-pub class-same : (con : ℕ → Option Constraint) (rep : ℕ → ℕ) (at : ℕ → Option Value) → Fulfils at con (Held rep) → (a b : ℕ) → rep a ≡ rep b → at a ≡ at b
+pub class-same : (con : ℕ → Option Constraint) (rep : ℕ → ℕ) (at : Given) → Fulfils at con (Held rep) → (a b : ℕ) → rep a ≡ rep b → at a ≡ at b
 class-same con rep at M a b e = go (ℕ-discrete a b)
   where
     go : Dec (a ≡ b) → at a ≡ at b
@@ -57,7 +57,7 @@ class-same con rep at M a b e = go (ℕ-discrete a b)
     go (no q) = let h = M .agrees a b (record { same = e; two = q }) in h .one ∙ sym (h .other)
 
 module _ (kind : ℕ → Kind) (kid : ℕ → Constraint → ℕ → ℕ) (con : ℕ → Option Constraint) (rep : ℕ → ℕ) (con′ : ℕ → Option Constraint) (rep′ : ℕ → ℕ) (low : ℕ) (c : Constraint)
-    (R : Round kid con rep con′ rep′ low c) (at : ℕ → Option Value) (I : Reads kind at) where
+    (R : Round kid con rep con′ rep′ low c) (at : Given) (I : Reads kind at) where
   module _ (S′ : State kind con′ kid rep′) where
     kid-at : (n : ℕ) (i : ℕ) → rep n ≡ rep low → i < child-count c → at (kid n c i) ≡ and-then (at n) (field (proj-at c i))
     kid-at n i e h = I .child-has (kid n c i) n (proj-at c i) (S′ .grown .kids n c i (R .con-in n e) h)

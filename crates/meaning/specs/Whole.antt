@@ -1,11 +1,11 @@
--- The whole of demand 3, from the written items over the rounds to the kept rule.
+-- From the written items over the rounds to the kept rule, with constraints and classes as functions of a site: a solved form with the same inputs.
 use mathlib.Core.Path.{_≡_, refl, sym, ap, _∙_}
 use mathlib.Core.Option.{Option, none, some}
 use mathlib.Core.Logic.{_↔_, _⊎_, inl, inr}
 use mathlib.Core.List.{List, List·Memᴰ}
 use Prim.Native.Nat.{ℕ}
 use native.Mathlib.Decide.{ℕ-discrete}
-use Rattle.paper.specs.Inputs.{Value, Meets, Agree, MeetsItem, Matches}
+use Rattle.paper.specs.Inputs.{Meets, Agree, MeetsItem, Matches, Given}
 use Rattle.paper.specs.declared.Constraint.{Constraint}
 use Rattle.paper.specs.declared.Item.{Item}
 use Rattle.paper.specs.declared.Item.the-variants.{Is, Equal}
@@ -88,7 +88,7 @@ pub rounds-state : {kind : ℕ → Kind} {kid : ℕ → Constraint → ℕ → �
 rounds-state no-more S = S
 rounds-state {kind} {kid} (one-more {con = con} {con₁ = con₁} {rep = rep} {rep₁ = rep₁} low c R G N) S = rounds-state N (state-after kind kid con rep con₁ rep₁ low c R S G)
 
-pub rounds-same : {kind : ℕ → Kind} {kid : ℕ → Constraint → ℕ → ℕ} {con con′ : ℕ → Option Constraint} {rep rep′ : ℕ → ℕ} → Rounds kind kid con rep con′ rep′ → State kind con kid rep → (at : ℕ → Option Value) → Reads kind at → Fulfils at con (Held rep) ↔ Fulfils at con′ (Held rep′)
+pub rounds-same : {kind : ℕ → Kind} {kid : ℕ → Constraint → ℕ → ℕ} {con con′ : ℕ → Option Constraint} {rep rep′ : ℕ → ℕ} → Rounds kind kid con rep con′ rep′ → State kind con kid rep → (at : Given) → Reads kind at → Fulfils at con (Held rep) ↔ Fulfils at con′ (Held rep′)
 rounds-same no-more S at I = (λ m. m, λ m. m)
 rounds-same {kind} {kid} (one-more {con = con} {con₁ = con₁} {rep = rep} {rep₁ = rep₁} low c R G N) S at I =
     let S₁ = state-after kind kid con rep con₁ rep₁ low c R S G in
@@ -113,7 +113,7 @@ pub record Loaded (kind : ℕ → Kind) (items : List Item) (con : ℕ → Optio
   pub only : (a b : ℕ) → rep a ≡ rep b → Wrote items a b
   pub named : (a b : ℕ) → List·Memᴰ (Equal a b) items → Rooted kind con a × Rooted kind con b
 
-module _ (kind : ℕ → Kind) (kid : ℕ → Constraint → ℕ → ℕ) (items : List Item) (con : ℕ → Option Constraint) (rep : ℕ → ℕ) (L : Loaded kind items con rep) (S : State kind con kid rep) (at : ℕ → Option Value) (I : Reads kind at) where
+module _ (kind : ℕ → Kind) (kid : ℕ → Constraint → ℕ → ℕ) (items : List Item) (con : ℕ → Option Constraint) (rep : ℕ → ℕ) (L : Loaded kind items con rep) (S : State kind con kid rep) (at : Given) (I : Reads kind at) where
   wrote-same : (h : (i : Item) → List·Memᴰ i items → MeetsItem at i) {a b : ℕ} → Wrote items a b → at a ≡ at b
   wrote-same h (given {a = a} {b = b} m) = let g = h (Equal a b) m in g .one ∙ sym (g .other)
   wrote-same h self-w = refl
@@ -157,22 +157,22 @@ module _ (kind : ℕ → Kind) (room : ℕ) (kid : ℕ → Constraint → ℕ �
   pub solved : Solved kind con kid rep
   solved = let S = rounds-state (K .rounds) (K .start) in record { kids = S .grown .kids; rooted = S .rooted; joined-rooted = S .joined-rooted; joined-free = K .ended }
 
-  pub kept-same : (at : ℕ → Option Value) → Reads kind at → Matches at items ↔ Fulfils at con (Held rep)
+  pub kept-same : (at : Given) → Reads kind at → Matches at items ↔ Fulfils at con (Held rep)
   kept-same at I =
       let w = written-same kind kid items (K .con₀) (K .rep₀) (K .loaded) (K .start) at I in
       let r = rounds-same (K .rounds) (K .start) at I in
       (λ m. r .0 (w .0 m), λ m. w .1 (r .1 m))
 
-  pub kept-matched : (at : ℕ → Option Value) × Reads kind at × Matches at items
+  pub kept-matched : (at : Given) × Reads kind at × Matches at items
   kept-matched = let m = model-exists kind room con kid rep (K .table) solved in (m .0, m .1, kept-same (m .0) (m .1) .1 (m .2))
 
-  pub kept-shape : (n : ℕ) (c : Constraint) → (con n ≡ some c) ↔ ((at : ℕ → Option Value) → Reads kind at → Matches at items → Meets at n c)
+  pub kept-shape : (n : ℕ) (c : Constraint) → (con n ≡ some c) ↔ ((at : Given) → Reads kind at → Matches at items → Meets at n c)
   kept-shape n c = (
     λ e at I m. kept-same at I .0 m .meets n c e,
     λ h. forced-shape kind room con kid rep (K .table) solved n c (λ at I m. h at I (kept-same at I .1 m)),
   )
 
-  pub kept-equal : (a b : ℕ) → (a ≡ b → ⊥) → con a ≡ none → con b ≡ none → Held rep a b ↔ ((at : ℕ → Option Value) → Reads kind at → Matches at items → Agree at a b)
+  pub kept-equal : (a b : ℕ) → (a ≡ b → ⊥) → con a ≡ none → con b ≡ none → Held rep a b ↔ ((at : Given) → Reads kind at → Matches at items → Agree at a b)
   kept-equal a b ne e f = (
     λ k at I m. kept-same at I .0 m .agrees a b k,
     λ h. forced-equal kind room con kid rep (K .table) solved a b ne e f (λ at I m. h at I (kept-same at I .1 m)),
