@@ -1,7 +1,8 @@
--- Theorems about the definitions of paper. Code never needs them; readers do. These three state them:
+-- Theorems about the definitions of paper. Code never needs them; readers do. These four state them:
 pub mod Demand3
 pub mod Corollaries
 pub mod Overlaps
+pub mod Only
 -- one instance end to end
 pub mod Instance
 -- values, kinds of sites, inputs
