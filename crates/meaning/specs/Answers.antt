@@ -1,7 +1,7 @@
 -- What paper's `load` answers means: the proofs of Demand3.antt.
 use mathlib.Core.Path.{_≡_, refl, sym, ap, _∙_}
 use mathlib.Core.Option.{none, some}
-use mathlib.Core.Bool.{Bool, true, false, not}
+use mathlib.Core.Bool.{not}
 use mathlib.Core.Logic.{_↔_}
 use mathlib.Core.List.{List, [], _∷_, _++_, List·Memᴰ}
 use Prim.Native.Nat.{ℕ, suc, _<_}
@@ -15,7 +15,7 @@ use Rattle.paper.specs.declared.Item.the-variants.{Is, Equal}
 use Rattle.paper.specs.declared.Refusal.{Refusal}
 use Rattle.paper.specs.declared.Refusal.the-variants.{TooManyRules, TooManyItems, PlaceUsed}
 use Rattle.paper.specs.Words.{look}
-use Rattle.paper.specs.Numbers.{max-rules, max-items, number, Outcome, done, refused, _>>=_, demand}
+use Rattle.paper.specs.Numbers.{max-rules, max-items, number, Outcome, done, refused, demand}
 use Rattle.paper.specs.Sites.{Sites, child-number, Sound}
 use Rattle.paper.specs.Inputs.{Given, Input, Meets, Agree, MeetsItem, Matches, MatchesKept}
 use Rattle.paper.specs.Loading.{Loading, Solving, Set, Written, Kept, started, lowest, load-items, normalise, with-rule, used, load}
@@ -28,42 +28,22 @@ use Rattle.meaning.specs.Model.{Held}
 use Rattle.meaning.specs.Whole as H
 use Rattle.meaning.specs.Grow.{Full, full-of, input-part, input-more}
 use Rattle.meaning.specs.Joining.{Well, label-of}
-use Rattle.meaning.specs.Items.{begin-part, Went, load-part, Unmet, not-unmet, items-clash}
-use Rattle.meaning.specs.Loads.{normalise-unmet, ran, kept}
+use Rattle.meaning.specs.Items.{begin-part, Went, load-part, items-clear}
+use Rattle.meaning.specs.Clear.{Four-or-six, other-number, Clear, clear-done, clear-demand, clear-then}
+use Rattle.meaning.specs.Loads.{normalise-clear, ran, kept}
 use Rattle.meaning.specs.Rounds.{Ran}
 
--- ---- a refusal with 4 or 6
+-- ---- a matched rule is not refused with 4 or 6
 
-data Why (g : Set) (r : Written) (x : Refusal) : Type 0 where
-  among-items : load-items (no-items (g .sites)) 0 (r .items) ≡ refused x → Why g r x
-  after-items : (l : Loading) → load-items (no-items (g .sites)) 0 (r .items) ≡ done l → normalise l (r .count) ≡ refused x → Why g r x
-
-load-refused : (g : Set) (r : Written) (x : Refusal) → load g r ≡ refused x → Unmet x → Why g r x
+load-clear : (g : Set) (r : Written) (at : Given) → Sound (g .sites) → ((l : Loading) → load-items (no-items (g .sites)) 0 (r .items) ≡ done l → Input (l .sites) at) → Matches at (r .items) → Clear (load g r)
 unfolding load number
-load-refused g r x e u = one (ltb (length (g .kept)) max-rules) (leb (r .count) max-items) (used g (r .place)) e
-  where
-    five : (l : Loading) → load-items (no-items (g .sites)) 0 (r .items) ≡ done l → (o : Outcome Solving) → normalise l (r .count) ≡ o → _≡_ {A = Outcome Set} (o >>= λ s. done (with-rule g r s)) (refused x) → Why g r x
-    five l p (done s) q h = let z : _≡_ {A = ℕ} 0 1 = cc in absurd (omega arith)
-    five l p (refused y) q h = let z : y ≡ x = cc in after-items l p (q ∙ ap refused z)
-
-    four : (o : Outcome Loading) → load-items (no-items (g .sites)) 0 (r .items) ≡ o → _≡_ {A = Outcome Set} (o >>= λ l. normalise l (r .count) >>= λ s. done (with-rule g r s)) (refused x) → Why g r x
-    four (done l) q h = five l q (normalise l (r .count)) refl h
-    four (refused y) q h = let z : y ≡ x = cc in among-items (q ∙ ap refused z)
-
-    one : (a b c : Bool) → _≡_ {A = Outcome Set} (demand a (TooManyRules (suc (length (g .kept)))) >>= λ _. demand b (TooManyItems (r .count)) >>= λ _. demand (not c) (PlaceUsed (r .place)) >>= λ _. load-items (no-items (g .sites)) 0 (r .items) >>= λ l. normalise l (r .count) >>= λ s. done (with-rule g r s)) (refused x) → Why g r x
-    one true true false h = four (load-items (no-items (g .sites)) 0 (r .items)) refl h
-    one true true true h = absurd (not-unmet (PlaceUsed (r .place)) x 8 (cc) refl (λ q. omega arith) (λ q. omega arith) u)
-    one true false c h = absurd (not-unmet (TooManyItems (r .count)) x 7 (cc) refl (λ q. omega arith) (λ q. omega arith) u)
-    one false b c h = absurd (not-unmet (TooManyRules (suc (length (g .kept)))) x 7 (cc) refl (λ q. omega arith) (λ q. omega arith) u)
-
--- no input of the sites that its items leave matches it
-pub refused-right : (g : Set) (r : Written) (x : Refusal) → Sound (g .sites) → load g r ≡ refused x → Unmet x → (at : Given) →
-    ((l : Loading) → load-items (no-items (g .sites)) 0 (r .items) ≡ done l → Input (l .sites) at) → Matches at (r .items) → ⊥
-refused-right g r x S e u at I M = go (load-refused g r x e u)
-  where
-    go : Why g r x → ⊥
-    go (among-items q) = items-clash [] (r .items) (no-items (g .sites)) 0 x (begin-part (g .sites) S) q u at M
-    go (after-items l q n) = normalise-unmet (r .items) l (r .count) x (load-part [] (r .items) (no-items (g .sites)) l 0 (begin-part (g .sites) S) q .part) n u at (I l q) M
+load-clear g r at S I M =
+    clear-then (demand (ltb (length (g .kept)) max-rules) (TooManyRules (suc (length (g .kept))))) _ (clear-demand (ltb (length (g .kept)) max-rules) (TooManyRules (suc (length (g .kept)))) (other-number (TooManyRules (suc (length (g .kept)))) 7 refl (λ q. omega arith) (λ q. omega arith))) (λ _ e.
+    clear-then (demand (leb (r .count) max-items) (TooManyItems (r .count))) _ (clear-demand (leb (r .count) max-items) (TooManyItems (r .count)) (other-number (TooManyItems (r .count)) 7 refl (λ q. omega arith) (λ q. omega arith))) (λ _ e.
+    clear-then (demand (not (used g (r .place))) (PlaceUsed (r .place))) _ (clear-demand (not (used g (r .place))) (PlaceUsed (r .place)) (other-number (PlaceUsed (r .place)) 8 refl (λ q. omega arith) (λ q. omega arith))) (λ _ e.
+    clear-then (load-items (no-items (g .sites)) 0 (r .items)) _ (items-clear [] (r .items) (no-items (g .sites)) 0 at (begin-part (g .sites) S) M) (λ l e.
+    clear-then (normalise l (r .count)) _ (normalise-clear (r .items) l (r .count) at (load-part [] (r .items) (no-items (g .sites)) l 0 (begin-part (g .sites) S) e .part) (I l e) M) (λ s e.
+    clear-done (with-rule g r s))))))
 
 -- ---- a rule that is kept
 
@@ -223,8 +203,8 @@ module _ (g : Set) (r : Written) (S : Sound (g .sites)) where
   abbrev its : Sites
   its = left-by (g .sites) (load-items (no-items (g .sites)) 0 (r .items))
 
-  pub refused-unmatched : (x : Refusal) → load g r ≡ refused x → Unmet x → (at : Given) → Input (left-by (g .sites) (load-items (no-items (g .sites)) 0 (r .items))) at → Matches at (r .items) → ⊥
-  refused-unmatched x e u at I M = refused-right g r x S e u at (λ l q. rw q at I) M
+  pub refused-unmatched : (x : Refusal) → load g r ≡ refused x → Four-or-six x → (at : Given) → Input (left-by (g .sites) (load-items (no-items (g .sites)) 0 (r .items))) at → Matches at (r .items) → ⊥
+  refused-unmatched x e u at I M = load-clear g r at S (λ l q. rw q at I) M x e u
 
   module _ (h : Set) (k : Kept) (loaded : load g r ≡ done h) (last : h .kept ≡ g .kept ++ (k ∷ [])) where
     L : Solved-as g r h k
@@ -256,10 +236,10 @@ module _ (g : Set) (r : Written) (S : Sound (g .sites)) where
     pub same-on-old : (at at′ : Given) → ((n : ℕ) → n < length (left-by (g .sites) (load-items (no-items (g .sites)) 0 (r .items))) → at n ≡ at′ n) → Matches at (r .items) → Matches at′ (r .items)
     same-on-old = rw its-are (items-inside g r h k S (L .loading) (L .solved) (L .items) (L .normalised) (L .sites-are) (L .constraints-are) (L .equals-are))
 
-  pub unmatched-refused : ((x : Refusal) → load g r ≡ refused x → Unmet x) → ((at : Given) → Input (left-by (g .sites) (load-items (no-items (g .sites)) 0 (r .items))) at → Matches at (r .items) → ⊥) → (x : Refusal) × (load g r ≡ refused x) × Unmet x
+  pub unmatched-refused : ((x : Refusal) → load g r ≡ refused x → Four-or-six x) → ((at : Given) → Input (left-by (g .sites) (load-items (no-items (g .sites)) 0 (r .items))) at → Matches at (r .items) → ⊥) → (x : Refusal) × (load g r ≡ refused x) × Four-or-six x
   unmatched-refused others u = go (load g r) refl
     where
-      go : (o : Outcome Set) → load g r ≡ o → (x : Refusal) × (load g r ≡ refused x) × Unmet x
+      go : (o : Outcome Set) → load g r ≡ o → (x : Refusal) × (load g r ≡ refused x) × Four-or-six x
       go (refused x) e = (x, e, others x e)
       go (done h) e =
           let w = last-kept g r h e in

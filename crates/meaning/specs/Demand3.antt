@@ -1,19 +1,20 @@
 -- Demand 3 of 01, of paper's `load`, for any sound set and any rule as handed over. (Answers.antt has the proofs.)
 use mathlib.Core.Path.{_≡_}
 use mathlib.Core.Option.{none, some}
-use mathlib.Core.Logic.{_↔_, _⊎_}
+use mathlib.Core.Logic.{_↔_}
 use mathlib.Core.List.{[], _∷_, _++_}
 use Prim.Native.Nat.{ℕ, _<_}
 use lib.ListN.{length}
 use Rattle.paper.specs.declared.Constraint.{Constraint}
 use Rattle.paper.specs.declared.Refusal.{Refusal}
 use Rattle.paper.specs.Words.{look}
-use Rattle.paper.specs.Numbers.{number, done, refused}
+use Rattle.paper.specs.Numbers.{done, refused}
 use Rattle.paper.specs.Sites.{Sites, Sound}
 use Rattle.paper.specs.Inputs.{Given, Input, Meets, Agree, Matches, MatchesKept}
 use Rattle.paper.specs.Loading.{Set, Written, Kept, load, load-items}
 use Rattle.paper.specs.Adding.{Extends}
 use Rattle.paper.specs.Fair.{no-items}
+use Rattle.meaning.specs.Clear.{Four-or-six}
 use Rattle.meaning.specs.Answers as A
 
 -- The sites that a rule speaks of: the set's, and the children that its constrained sites have got when its items are loaded.
@@ -23,9 +24,6 @@ rule-sites g r = A.left-by (g .sites) (load-items (no-items (g .sites)) 0 (r .it
 -- No finite input matches the rule as written. (Change request [5] puts its inputs in the place of `Input` here, and only here.)
 abbrev pub Unmatched : Set → Written → Type 0
 Unmatched g r = (at : Given) → Input (rule-sites g r) at → Matches at (r .items) → ⊥
-
-abbrev pub Four-or-six : Refusal → Type 0
-Four-or-six x = (number x ≡ 4) ⊎ (number x ≡ 6)
 
 -- The rule is kept: k is the last rule of the set h that loading it leaves.
 pub record Keeps (g : Set) (r : Written) (h : Set) (k : Kept) : Type 0 where

@@ -1,23 +1,22 @@
--- The items of a rule as loaded: what they leave (`load-part`), and that 4 among them is right (`items-clash`).
+-- The items of a rule as loaded: what they leave (`load-part`), and that 4 among them is right (`items-clear`).
 use mathlib.Core.Path.{_≡_, refl, sym, ap, _∙_}
 use mathlib.Core.Option.{Option, none, some}
-use mathlib.Core.Bool.{Bool, true, false, not}
+use mathlib.Core.Bool.{Bool, true, false}
 use mathlib.Core.Logic.{_⊎_, inl, inr}
 use mathlib.Core.List.{List, [], _∷_, _++_, List·Memᴰ, List·Memᴰ·head, List·Memᴰ·tail, List·Memᴰ·append-cases, List·Memᴰ·eq-of-singleton, Memᴰ·append-left, Memᴰ·append-right, append-assoc, append-nil}
 use Prim.Native.Nat.{ℕ, suc, _≤_, _<_}
 use native.Mathlib.Omega.{arith}
 use native.Mathlib.Decide.{ℕ-discrete}
 use lib.ListN.{length}
-use lib.Dec.{ltb, leb}
+use lib.Dec.{leb}
 use borrow.Author.Tests.{ltb-true}
 use Rattle.paper.specs.declared.Constraint.{Constraint}
 use Rattle.paper.specs.declared.Item.{Item}
 use Rattle.paper.specs.declared.Item.the-variants.{Is, Equal}
-use Rattle.paper.specs.declared.Refusal.{Refusal}
-use Rattle.paper.specs.declared.Refusal.the-variants.{Unknown, Unreachable, TooManySites, TooManySources, TooManyFields, TermTooHigh}
-use Rattle.paper.specs.Words.{look, put, first}
-use Rattle.paper.specs.Numbers.{max-sites, max-sources, max-fields, max-term, number, Outcome, done, refused, _>>=_, demand}
-use Rattle.paper.specs.Sites.{Site, Sites, same-constraint, fields, child, child-count, children, known, sources, term-of, number-of, missing-source, term-fits, Added, or-next, add, add-all, Sound}
+use Rattle.paper.specs.declared.Refusal.the-variants.{Unknown, Unreachable, TooManyFields}
+use Rattle.paper.specs.Words.{look, put}
+use Rattle.paper.specs.Numbers.{max-fields, number, done, demand}
+use Rattle.paper.specs.Sites.{Sites, same-constraint, fields, child, child-count, children, known, add-all, Sound}
 use Rattle.paper.specs.Inputs.{Given, Meets, MeetsItem, Matches, shape}
 use Rattle.paper.specs.Fair.{no-items}
 use Rattle.paper.specs.Loading.{Loading, constrain, load-item, load-items}
@@ -27,6 +26,7 @@ use Rattle.paper.specs.Outcomes.{done-once, bind-done, demand-done}
 use Rattle.paper.specs.Adding.{Extends, Has, extends-length, add-all-sound, add-all-extends, add-all-has}
 use Rattle.paper.specs.Tables.{Rising, put-rising}
 use Rattle.meaning.specs.Places.{in-children}
+use Rattle.meaning.specs.Clear.{other-number, Clear, clear-done, clear-demand, clear-then, add-all-clear}
 
 -- ---- what holds after some items
 
@@ -234,73 +234,9 @@ load-part before (i ∷ rest) l f at P e = go (λ l′ P′ h. load-part (before
     go : ((l′ : Loading) → Part (before ++ (i ∷ [])) l′ → load-items l′ (suc at) rest ≡ done f → Went ((before ++ (i ∷ [])) ++ rest) l′ f) → (l′ : Loading) × (load-item l at i ≡ done l′) × (load-items l′ (suc at) rest ≡ done f) → Went (before ++ (i ∷ rest)) l f
     go k (l′, q, h) = let w = part-item before l l′ at i P q in went-on before i rest l l′ f (w .extends) (k l′ (w .part) h)
 
--- ---- refusals among the items
+-- ---- 4 among the items: no values at all meet them
 
-pub then-refused : {A B : Type 0} (o : Outcome A) (f : A → Outcome B) (x : Refusal) → (o >>= f) ≡ refused x → (o ≡ refused x) ⊎ ((a : A) × (o ≡ done a) × (f a ≡ refused x))
-then-refused (done a) f x e = inr (a, refl, e)
-then-refused (refused r) f x e = let q : r ≡ x = cc in inl (ap refused q)
-
-demand-refused : (b : Bool) (r x : Refusal) → demand b r ≡ refused x → (b ≡ false) × (r ≡ x)
-demand-refused true r x e = let z : _≡_ {A = ℕ} 0 1 = cc in absurd (omega arith)
-demand-refused false r x e = (refl, (cc))
-
-abbrev pub Unmet : Refusal → Type 0
-Unmet x = (number x ≡ 4) ⊎ (number x ≡ 6)
-
-pub other-number : (x : Refusal) (n : ℕ) → number x ≡ n → (n ≡ 4 → ⊥) → (n ≡ 6 → ⊥) → Unmet x → ⊥
-other-number x n e p q (inl f) = p (sym e ∙ f)
-other-number x n e p q (inr f) = q (sym e ∙ f)
-
--- a refusal that is neither
-pub not-unmet : (r x : Refusal) (n : ℕ) → r ≡ x → number r ≡ n → (n ≡ 4 → ⊥) → (n ≡ 6 → ⊥) → Unmet x → ⊥
-not-unmet r x n e f p q u = other-number x n (ap number (sym e) ∙ f) p q u
-
-missing-fine : (o : Option ℕ) (x : Refusal) → missing-source o ≡ refused x → Unmet x → ⊥
-unfolding number
-missing-fine none x e u = let z : _≡_ {A = ℕ} 0 1 = cc in omega arith
-missing-fine (some n) x e u = not-unmet (Unknown n) x 2 (cc) refl (λ q. omega arith) (λ q. omega arith) u
-
-term-fine : (o : Option ℕ) (x : Refusal) → term-fits o ≡ refused x → Unmet x → ⊥
-unfolding number
-term-fine none x e u = let z : _≡_ {A = ℕ} 0 1 = cc in omega arith
-term-fine (some n) x e u = not-unmet (TermTooHigh n) x 7 (demand-refused (leb n max-term) (TermTooHigh n) x e .1) refl (λ q. omega arith) (λ q. omega arith) u
-
-next-fine : (t : Sites) (at : ℕ) (s : Site) (o : Option ℕ) (x : Refusal) → or-next t at s o ≡ refused x → Unmet x → ⊥
-unfolding number
-next-fine t at s (some n) x e u = let z : _≡_ {A = ℕ} 0 1 = cc in omega arith
-next-fine t at s none x e u = go (ltb (length t) max-sites) e
-  where
-    go : (b : Bool) → _≡_ {A = Outcome Added} (demand b (TooManySites (suc (length t)) at) >>= λ _. done (record { sites = t ++ (s ∷ []); number = length t })) (refused x) → ⊥
-    go true q = let z : _≡_ {A = ℕ} 0 1 = cc in omega arith
-    go false q = not-unmet (TooManySites (suc (length t)) at) x 7 (cc) refl (λ q. omega arith) (λ q. omega arith) u
-
-add-fine : (t : Sites) (at : ℕ) (s : Site) (x : Refusal) → add t at s ≡ refused x → Unmet x → ⊥
-unfolding add number
-add-fine t at s x e u = one (first (λ n. not (known t n)) (sources s)) (then-refused _ _ x e)
-  where
-    three : (term-fits (term-of s) ≡ refused x) ⊎ ((a : Unit {0}) × (term-fits (term-of s) ≡ done a) × (or-next t at s (number-of t s) ≡ refused x)) → ⊥
-    three (inl q) = term-fine (term-of s) x q u
-    three (inr q) = next-fine t at s (number-of t s) x (q .2) u
-
-    two : (demand (leb (length (sources s)) max-sources) (TooManySources (length (sources s)) at) ≡ refused x) ⊎ ((a : Unit {0}) × (demand (leb (length (sources s)) max-sources) (TooManySources (length (sources s)) at) ≡ done a) × ((term-fits (term-of s) >>= λ _. or-next t at s (number-of t s)) ≡ refused x)) → ⊥
-    two (inl q) = not-unmet (TooManySources (length (sources s)) at) x 7 (demand-refused (leb (length (sources s)) max-sources) (TooManySources (length (sources s)) at) x q .1) refl (λ q. omega arith) (λ q. omega arith) u
-    two (inr q) = three (then-refused _ _ x (q .2))
-
-    one : (o : Option ℕ) → (missing-source o ≡ refused x) ⊎ ((a : Unit {0}) × (missing-source o ≡ done a) × ((demand (leb (length (sources s)) max-sources) (TooManySources (length (sources s)) at) >>= λ _. (term-fits (term-of s) >>= λ _. or-next t at s (number-of t s))) ≡ refused x)) → ⊥
-    one o (inl q) = missing-fine o x q u
-    one o (inr q) = two (then-refused _ _ x (q .2))
-
-pub add-all-fine : (t : Sites) (at : ℕ) (ss : List Site) (x : Refusal) → add-all t at ss ≡ refused x → Unmet x → ⊥
-unfolding add-all
-add-all-fine t at [] x e u = let z : _≡_ {A = ℕ} 0 1 = cc in omega arith
-add-all-fine t at (s ∷ ss) x e u = go (λ t′ q. add-all-fine t′ at ss x q u) (then-refused (add t at s) (λ a. add-all (a .sites) at ss) x e)
-  where
-    go : ((t′ : Sites) → add-all t′ at ss ≡ refused x → ⊥) → (add t at s ≡ refused x) ⊎ ((a : Added) × (add t at s ≡ done a) × (add-all (a .sites) at ss ≡ refused x)) → ⊥
-    go r (inl q) = add-fine t at s x q u
-    go r (inr q) = r (q .0 .sites) (q .2)
-
--- 4 on one site: no values at all meet the items up to there
-clash : (before : List Item) (l : Loading) (s : ℕ) (c d : Constraint) (at : Given) → Part before l → look (l .constraints) s ≡ some d → ((j : Item) → List·Memᴰ j before → MeetsItem at j) → Meets at s c → c ≡ d
+clash : (before : List Item) (l : Loading) (s : ℕ) (c d : Constraint) (at : Given) → Part before l → look (l .constraints) s ≡ some d → Matches at before → Meets at s c → c ≡ d
 clash before l s c d at P e all m =
     let x = all (Is s d) (P .of-con s d e) in
     let xt = x .there in
@@ -309,45 +245,32 @@ clash before l s c d at P e all m =
     let q : some c ≡ some d = sym (m .shaped) ∙ (ap shape v ∙ x .shaped) in
     cc
 
-item-clash : (before : List Item) (l : Loading) (k : ℕ) (i : Item) (x : Refusal) → Part before l → load-item l k i ≡ refused x → Unmet x → (at : Given) → ((j : Item) → List·Memᴰ j before → MeetsItem at j) → MeetsItem at i → ⊥
+item-clear : (before : List Item) (l : Loading) (k : ℕ) (i : Item) (at : Given) → Part before l → Matches at before → MeetsItem at i → Clear (load-item l k i)
 unfolding load-item number
-item-clash before l k (Is s c) x P e u at all m = one (then-refused (demand (known (l .sites) s) (Unknown s)) (λ _. demand (leb (fields c) max-fields) (TooManyFields (fields c) k) >>= λ _. constrain l k s c (look (l .constraints) s)) x e)
+item-clear before l k (Is s c) at P all m =
+    clear-then (demand (known (l .sites) s) (Unknown s)) _ (clear-demand (known (l .sites) s) (Unknown s) (other-number (Unknown s) 2 refl (λ q. omega arith) (λ q. omega arith))) (λ a e.
+    clear-then (demand (leb (fields c) max-fields) (TooManyFields (fields c) k)) _ (clear-demand (leb (fields c) max-fields) (TooManyFields (fields c) k) (other-number (TooManyFields (fields c) k) 7 refl (λ q. omega arith) (λ q. omega arith))) (λ a e.
+    given (look (l .constraints) s) refl))
   where
-    three : (o : Option Constraint) → look (l .constraints) s ≡ o → constrain l k s c o ≡ refused x → ⊥
-    three none q h = grow (then-refused (add-all (l .sites) k (children s c)) (λ t. done (record { sites = t; constraints = put s c (l .constraints); equalities = l .equalities; named = s ∷ l .named })) x h)
-      where
-        grow : (add-all (l .sites) k (children s c) ≡ refused x) ⊎ ((t : Sites) × (add-all (l .sites) k (children s c) ≡ done t) × (_≡_ {A = Outcome Loading} (done (record { sites = t; constraints = put s c (l .constraints); equalities = l .equalities; named = s ∷ l .named })) (refused x))) → ⊥
-        grow (inl w) = add-all-fine (l .sites) k (children s c) x w u
-        grow (inr w) = let y = w .2 in let z : _≡_ {A = ℕ} 0 1 = cc in omega arith
-    three (some d) q h = same (same-constraint c d) refl h
-      where
-        same : (b : Bool) → same-constraint c d ≡ b → _≡_ {A = Outcome Loading} (demand b (Unreachable s s) >>= λ _. done (record { sites = l .sites; constraints = l .constraints; equalities = l .equalities; named = s ∷ l .named })) (refused x) → ⊥
-        same true w v = let z : _≡_ {A = ℕ} 0 1 = cc in omega arith
-        same false w v =
-            let y : c ≡ d = clash before l s c d at P q all m in
-            let r : same-constraint c d ≡ true = rw (← y) (same-constraint-refl c) in
-            let z : _≡_ {A = ℕ} 0 1 = cc in
-            omega arith
+    same : (d : Constraint) → look (l .constraints) s ≡ some d → (b : Bool) → same-constraint c d ≡ b → Clear (demand b (Unreachable s s))
+    same d q true w = clear-done tt
+    same d q false w =
+        let y : c ≡ d = clash before l s c d at P q all m in
+        let r : same-constraint c d ≡ true = rw (← y) (same-constraint-refl c) in
+        let z : _≡_ {A = ℕ} 0 1 = cc in
+        absurd (omega arith)
 
-    two : (demand (leb (fields c) max-fields) (TooManyFields (fields c) k) ≡ refused x) ⊎ ((a : Unit {0}) × (demand (leb (fields c) max-fields) (TooManyFields (fields c) k) ≡ done a) × (constrain l k s c (look (l .constraints) s) ≡ refused x)) → ⊥
-    two (inl q) = not-unmet (TooManyFields (fields c) k) x 7 (demand-refused (leb (fields c) max-fields) (TooManyFields (fields c) k) x q .1) refl (λ q. omega arith) (λ q. omega arith) u
-    two (inr q) = three (look (l .constraints) s) refl (q .2)
+    given : (o : Option Constraint) → look (l .constraints) s ≡ o → Clear (constrain l k s c o)
+    given none q = clear-then (add-all (l .sites) k (children s c)) _ (add-all-clear (l .sites) k (children s c)) (λ t e. clear-done _)
+    given (some d) q = clear-then (demand (same-constraint c d) (Unreachable s s)) _ (same d q (same-constraint c d) refl) (λ a e. clear-done _)
+item-clear before l k (Equal a b) at P all m =
+    clear-then (demand (known (l .sites) a) (Unknown a)) _ (clear-demand (known (l .sites) a) (Unknown a) (other-number (Unknown a) 2 refl (λ q. omega arith) (λ q. omega arith))) (λ _ e.
+    clear-then (demand (known (l .sites) b) (Unknown b)) _ (clear-demand (known (l .sites) b) (Unknown b) (other-number (Unknown b) 2 refl (λ q. omega arith) (λ q. omega arith))) (λ _ f.
+    clear-done _))
 
-    one : (demand (known (l .sites) s) (Unknown s) ≡ refused x) ⊎ ((a : Unit {0}) × (demand (known (l .sites) s) (Unknown s) ≡ done a) × ((demand (leb (fields c) max-fields) (TooManyFields (fields c) k) >>= λ _. constrain l k s c (look (l .constraints) s)) ≡ refused x)) → ⊥
-    one (inl q) = not-unmet (Unknown s) x 2 (demand-refused (known (l .sites) s) (Unknown s) x q .1) refl (λ q. omega arith) (λ q. omega arith) u
-    one (inr q) = two (then-refused (demand (leb (fields c) max-fields) (TooManyFields (fields c) k)) (λ _. constrain l k s c (look (l .constraints) s)) x (q .2))
-item-clash before l k (Equal a b) x P e u at all m = go (known (l .sites) a) (known (l .sites) b) e
-  where
-    go : (p q : Bool) → _≡_ {A = Outcome Loading} (demand p (Unknown a) >>= λ _. demand q (Unknown b) >>= λ _. done (record { sites = l .sites; constraints = l .constraints; equalities = l .equalities ++ ((a, b) ∷ []); named = a ∷ b ∷ l .named })) (refused x) → ⊥
-    go true true h = let z : _≡_ {A = ℕ} 0 1 = cc in omega arith
-    go true false h = not-unmet (Unknown b) x 2 (cc) refl (λ q. omega arith) (λ q. omega arith) u
-    go false q h = not-unmet (Unknown a) x 2 (cc) refl (λ q. omega arith) (λ q. omega arith) u
-
-pub items-clash : (before items : List Item) (l : Loading) (k : ℕ) (x : Refusal) → Part before l → load-items l k items ≡ refused x → Unmet x → (at : Given) → Matches at (before ++ items) → ⊥
+pub items-clear : (before items : List Item) (l : Loading) (k : ℕ) (at : Given) → Part before l → Matches at (before ++ items) → Clear (load-items l k items)
 unfolding load-items
-items-clash before [] l k x P e u at M = let z : _≡_ {A = ℕ} 0 1 = cc in omega arith
-items-clash before (i ∷ rest) l k x P e u at M = go (λ l′ P′ q. items-clash (before ++ (i ∷ [])) rest l′ (suc k) x P′ q u at (rw append-assoc M)) (then-refused (load-item l k i) (λ l′. load-items l′ (suc k) rest) x e)
-  where
-    go : ((l′ : Loading) → Part (before ++ (i ∷ [])) l′ → load-items l′ (suc k) rest ≡ refused x → ⊥) → (load-item l k i ≡ refused x) ⊎ ((l′ : Loading) × (load-item l k i ≡ done l′) × (load-items l′ (suc k) rest ≡ refused x)) → ⊥
-    go r (inl q) = item-clash before l k i x P q u at (λ j m. M j (Memᴰ·append-left (i ∷ rest) m)) (M i (Memᴰ·append-right before (List·Memᴰ·head refl)))
-    go r (inr q) = r (q .0) (part-item before l (q .0) k i P (q .1) .part) (q .2)
+items-clear before [] l k at P M = clear-done l
+items-clear before (i ∷ rest) l k at P M =
+    clear-then (load-item l k i) _ (item-clear before l k i at P (λ j m. M j (Memᴰ·append-left (i ∷ rest) m)) (M i (Memᴰ·append-right before (List·Memᴰ·head refl))))
+    (λ l′ e. items-clear (before ++ (i ∷ [])) rest l′ (suc k) at (part-item before l l′ k i P e .part) (rw append-assoc M))

@@ -20,6 +20,7 @@ pub mod Grow
 pub mod Lists
 pub mod Joining
 -- paper's loader: a round, the rounds, the items, checks 5, 4 and 6, and the whole
+pub mod Clear
 pub mod Exec
 pub mod Rounds
 pub mod Items

@@ -1,23 +1,22 @@
 -- From the items of a rule over the checks and the rounds to the kept rule: what paper's `normalise` answers means.
 use mathlib.Core.Path.{_≡_, refl, sym, ap, _∙_}
 use mathlib.Core.Option.{Option, none, some}
-use mathlib.Core.Bool.{Bool, true, false}
+use mathlib.Core.Bool.{true}
 use mathlib.Core.Logic.{_⊎_, inl, inr}
-use mathlib.Core.List.{List, [], _∷_, List·Memᴰ}
-use Prim.Native.Nat.{ℕ, zero, suc}
+use mathlib.Core.List.{List, [], List·Memᴰ}
+use Prim.Native.Nat.{ℕ}
 use native.Mathlib.Omega.{arith}
 use lib.ListN.{length}
 use lib.Dec.{leb}
 use Rattle.paper.specs.declared.Constraint.{Constraint}
 use Rattle.paper.specs.declared.Item.{Item}
 use Rattle.paper.specs.declared.Item.the-variants.{Is, Equal}
-use Rattle.paper.specs.declared.Refusal.{Refusal}
 use Rattle.paper.specs.declared.Refusal.the-variants.{Hanging, TooManyConstrained, TooManyEqual}
 use Rattle.paper.specs.Words.{look}
-use Rattle.paper.specs.Numbers.{most-rounds, max-constrained, max-equal, number, Outcome, done, refused, _>>=_, demand}
-use Rattle.paper.specs.Sites.{Sites, children, child-number, add-all}
+use Rattle.paper.specs.Numbers.{most-rounds, max-constrained, max-equal, number, done, demand}
+use Rattle.paper.specs.Sites.{child-number}
 use Rattle.paper.specs.Inputs.{Value, Given, Input, Matches}
-use Rattle.paper.specs.Loading.{Loading, Solving, Labels, Holder, started, lowest, join-all, hanging, holders, closure, first-holder, differs, conflict, told-4, check-4, steps, endless, no-hanging, no-endless, take-class, members, others, dissolve, give-all, grow-all, join-children, round, rounds, normalise}
+use Rattle.paper.specs.Loading.{Loading, Solving, Labels, Holder, started, lowest, join-all, hanging, holders, closure, first-holder, differs, conflict, told-4, check-4, steps, endless, no-hanging, no-endless, rounds, normalise}
 use Rattle.paper.specs.Joins as J
 use Rattle.paper.specs.Labels.{none-sound}
 use Rattle.paper.specs.Fair.{Fair}
@@ -31,7 +30,8 @@ use Rattle.meaning.specs.Places.{places-of}
 use Rattle.meaning.specs.Grow.{rooted-grows, Full, full-state, full-grows}
 use Rattle.meaning.specs.Lists.{first-some}
 use Rattle.meaning.specs.Joining.{none-well, all-well, all-lowest, label-of}
-use Rattle.meaning.specs.Items.{Part, Unmet, not-unmet, then-refused, add-all-fine}
+use Rattle.meaning.specs.Items.{Part}
+use Rattle.meaning.specs.Clear.{other-number, Clear, clear-done, clear-refused, clear-demand, clear-then, rounds-clear}
 use Rattle.meaning.specs.Hangs.{named-rooted}
 use Rattle.meaning.specs.Checks as C
 use Rattle.meaning.specs.Rounds.{Good, Ran, rounds-ran}
@@ -85,46 +85,21 @@ normalise-done l count f e =
       ran = d .1 ∙ y .1;
     }
 
--- ---- refusals of the rounds are of other numbers
-
-grow-fine : (t : Sites) (at : ℕ) (ns : List ℕ) (c : Constraint) (x : Refusal) → grow-all t at ns c ≡ refused x → Unmet x → ⊥
-unfolding grow-all
-grow-fine t at [] c x e u = let z : _≡_ {A = ℕ} 0 1 = cc in omega arith
-grow-fine t at (n ∷ ns) c x e u = go (λ t′ q. grow-fine t′ at ns c x q u) (then-refused (add-all t at (children n c)) (λ t′. grow-all t′ at ns c) x e)
-  where
-    go : ((t′ : Sites) → grow-all t′ at ns c ≡ refused x → ⊥) → (add-all t at (children n c) ≡ refused x) ⊎ ((t′ : Sites) × (add-all t at (children n c) ≡ done t′) × (grow-all t′ at ns c ≡ refused x)) → ⊥
-    go r (inl q) = add-all-fine t at (children n c) x q u
-    go r (inr q) = r (q .0) (q .2)
-
-round-fine : (s : Solving) (at low : ℕ) (c : Constraint) (x : Refusal) → round s at low c ≡ refused x → Unmet x → ⊥
-unfolding round
-round-fine s at low c x e u = grow-fine (s .sites) at (members (s .classes) low) c x (only-first (grow-all (s .sites) at (members (s .classes) low) c) (λ t. record { sites = t; constraints = give-all (members (s .classes) low) c (s .constraints); classes = join-children t low c (others (s .classes) low) (dissolve (s .classes) low) }) e) u
-  where
-    only-first : (o : Outcome Sites) (f : Sites → Solving) → _≡_ {A = Outcome Solving} (o >>= λ t. done (f t)) (refused x) → o ≡ refused x
-    only-first (done t) f q = let z : _≡_ {A = ℕ} 0 1 = cc in absurd (omega arith)
-    only-first (refused y) f q = let z : y ≡ x = cc in ap refused z
-
-rounds-fine : (n at : ℕ) (s : Solving) (x : Refusal) → rounds n at s ≡ refused x → Unmet x → ⊥
-unfolding rounds
-rounds-fine zero at s x e u = let z : _≡_ {A = ℕ} 0 1 = cc in omega arith
-rounds-fine (suc n) at s x e u = go (take-class (s .classes) (s .constraints) (s .classes)) e (λ s′ q. rounds-fine n at s′ x q u)
-  where
-    go : (o : Option (ℕ × Constraint)) → _≡_ {A = Outcome Solving} (elim o as (λ _. Outcome Solving) [ none ↦ done s | some p ↦ round s at (p .0) (p .1) >>= rounds n at ]) (refused x) → ((s′ : Solving) → rounds n at s′ ≡ refused x → ⊥) → ⊥
-    go none q r = let z : _≡_ {A = ℕ} 0 1 = cc in omega arith
-    go (some p) q r = next (then-refused (round s at (p .0) (p .1)) (rounds n at) x q)
-      where
-        next : (round s at (p .0) (p .1) ≡ refused x) ⊎ ((s′ : Solving) × (round s at (p .0) (p .1) ≡ done s′) × (rounds n at s′ ≡ refused x)) → ⊥
-        next (inl w) = round-fine s at (p .0) (p .1) x w u
-        next (inr w) = r (w .0) (w .2)
-
 -- ---- what 4 and 6 refuse
 
 pub written-fulfils : (items : List Item) (l : Loading) → Part items l → (at : Given) → Matches at items → Fulfils at (look (l .constraints)) (λ a b. List·Memᴰ (a, b) (l .equalities))
 written-fulfils items l P at M = record { meets = λ n c e. M (Is n c) (P .of-con n c e); agrees = λ a b q. M (Equal a b) (P .of-eq a b q) }
 
-pub normalise-unmet : (items : List Item) (l : Loading) (count : ℕ) (x : Refusal) → Part items l → normalise l count ≡ refused x → Unmet x → (at : Given) → Input (l .sites) at → Matches at items → ⊥
+pub normalise-clear : (items : List Item) (l : Loading) (count : ℕ) (at : Given) → Part items l → Input (l .sites) at → Matches at items → Clear (normalise l count)
 unfolding normalise number
-normalise-unmet items l count x P e u at I M = one (hanging l) e
+normalise-clear items l count at P I M =
+    clear-then (no-hanging (hanging l)) _ (not-5 (hanging l)) (λ _ e.
+    clear-then (check-4 (closure l) (holders l) (conflict (closure l) (holders l))) _ (not-4 (conflict (closure l) (holders l)) refl) (λ _ e.
+    clear-then (no-endless (endless (steps (closure l) (holders l)))) _ (not-6 (endless (steps (closure l) (holders l))) refl) (λ _ e.
+    clear-then (rounds most-rounds count (started l)) _ (rounds-clear most-rounds count (started l)) (λ s e.
+    clear-then (demand (leb (length (s .constraints)) max-constrained) (TooManyConstrained (length (s .constraints)))) _ (clear-demand (leb (length (s .constraints)) max-constrained) (TooManyConstrained (length (s .constraints))) (other-number (TooManyConstrained (length (s .constraints))) 7 refl (λ q. omega arith) (λ q. omega arith))) (λ _ e.
+    clear-then (demand (leb (length (s .classes)) max-equal) (TooManyEqual (length (s .classes)))) _ (clear-demand (leb (length (s .classes)) max-equal) (TooManyEqual (length (s .classes))) (other-number (TooManyEqual (length (s .classes))) 7 refl (λ q. omega arith) (λ q. omega arith))) (λ _ e.
+    clear-done s))))))
   where
     R : Reads (kind-in (l .sites)) at
     R = input-is (l .sites) at .0 I
@@ -132,29 +107,17 @@ normalise-unmet items l count x P e u at I M = one (hanging l) e
     F : Fulfils at (look (l .constraints)) (λ a b. List·Memᴰ (a, b) (l .equalities))
     F = written-fulfils items l P at M
 
-    five : (s : Solving) → (demand (leb (length (s .constraints)) max-constrained) (TooManyConstrained (length (s .constraints))) >>= λ _. demand (leb (length (s .classes)) max-equal) (TooManyEqual (length (s .classes))) >>= λ _. done s) ≡ refused x → ⊥
-    five s q = go (leb (length (s .constraints)) max-constrained) (leb (length (s .classes)) max-equal) q
-      where
-        go : (p q : Bool) → (demand p (TooManyConstrained (length (s .constraints))) >>= λ _. demand q (TooManyEqual (length (s .classes))) >>= λ _. done s) ≡ refused x → ⊥
-        go true true h = let z : _≡_ {A = ℕ} 0 1 = cc in omega arith
-        go true false h = not-unmet (TooManyEqual (length (s .classes))) x 7 (cc) refl (λ q. omega arith) (λ q. omega arith) u
-        go false q h = not-unmet (TooManyConstrained (length (s .constraints))) x 7 (cc) refl (λ q. omega arith) (λ q. omega arith) u
+    not-5 : (o : Option ℕ) → Clear (no-hanging o)
+    not-5 none = clear-done tt
+    not-5 (some n) = clear-refused (Hanging n) (other-number (Hanging n) 5 refl (λ q. omega arith) (λ q. omega arith))
 
-    four : (o : Outcome Solving) → rounds most-rounds count (started l) ≡ o → (o >>= λ s. demand (leb (length (s .constraints)) max-constrained) (TooManyConstrained (length (s .constraints))) >>= λ _. demand (leb (length (s .classes)) max-equal) (TooManyEqual (length (s .classes))) >>= λ _. done s) ≡ refused x → ⊥
-    four (done s) w q = five s q
-    four (refused y) w q = let z : y ≡ x = cc in rounds-fine most-rounds count (started l) x (w ∙ ap refused z) u
+    not-4 : (o : Option Holder) → conflict (closure l) (holders l) ≡ o → Clear (check-4 (closure l) (holders l) o)
+    not-4 none e = clear-done tt
+    not-4 (some h) e = absurd (C.no-conflict items l P at R F h e)
 
-    three : (o : Option ℕ) → endless (steps (closure l) (holders l)) ≡ o → (no-endless o >>= λ _. rounds most-rounds count (started l) >>= λ s. demand (leb (length (s .constraints)) max-constrained) (TooManyConstrained (length (s .constraints))) >>= λ _. demand (leb (length (s .classes)) max-equal) (TooManyEqual (length (s .classes))) >>= λ _. done s) ≡ refused x → ⊥
-    three none w q = four (rounds most-rounds count (started l)) refl q
-    three (some n) w q = C.no-endless items l P at R F n w
-
-    two : (o : Option Holder) → conflict (closure l) (holders l) ≡ o → (check-4 (closure l) (holders l) o >>= λ _. no-endless (endless (steps (closure l) (holders l))) >>= λ _. rounds most-rounds count (started l) >>= λ s. demand (leb (length (s .constraints)) max-constrained) (TooManyConstrained (length (s .constraints))) >>= λ _. demand (leb (length (s .classes)) max-equal) (TooManyEqual (length (s .classes))) >>= λ _. done s) ≡ refused x → ⊥
-    two none w q = three (endless (steps (closure l) (holders l))) refl q
-    two (some h) w q = C.no-conflict items l P at R F h w
-
-    one : (o : Option ℕ) → (no-hanging o >>= λ _. check-4 (closure l) (holders l) (conflict (closure l) (holders l)) >>= λ _. no-endless (endless (steps (closure l) (holders l))) >>= λ _. rounds most-rounds count (started l) >>= λ s. demand (leb (length (s .constraints)) max-constrained) (TooManyConstrained (length (s .constraints))) >>= λ _. demand (leb (length (s .classes)) max-equal) (TooManyEqual (length (s .classes))) >>= λ _. done s) ≡ refused x → ⊥
-    one none q = two (conflict (closure l) (holders l)) refl q
-    one (some n) q = not-unmet (Hanging n) x 5 (cc) refl (λ q. omega arith) (λ q. omega arith) u
+    not-6 : (o : Option ℕ) → endless (steps (closure l) (holders l)) ≡ o → Clear (no-endless o)
+    not-6 none e = clear-done tt
+    not-6 (some n) e = absurd (C.no-endless items l P at R F n e)
 
 -- ---- what is kept
 
