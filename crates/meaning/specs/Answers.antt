@@ -5,7 +5,6 @@ use mathlib.Core.Bool.{not}
 use mathlib.Core.Logic.{_↔_}
 use mathlib.Core.List.{List, [], _∷_, _++_, List·Memᴰ}
 use Prim.Native.Nat.{ℕ, suc, _<_}
-use native.Mathlib.Omega.{arith}
 use native.Mathlib.Decide.{ℕ-discrete}
 use lib.ListN.{length}
 use lib.Dec.{leb, ltb}
@@ -15,7 +14,7 @@ use Rattle.paper.specs.declared.Item.the-variants.{Is, Equal}
 use Rattle.paper.specs.declared.Refusal.{Refusal}
 use Rattle.paper.specs.declared.Refusal.the-variants.{TooManyRules, TooManyItems, PlaceUsed}
 use Rattle.paper.specs.Words.{look}
-use Rattle.paper.specs.Numbers.{max-rules, max-items, number, Outcome, done, refused, demand}
+use Rattle.paper.specs.Numbers.{max-rules, max-items, number, Outcome, done, refused}
 use Rattle.paper.specs.Sites.{Sites, child-number, Sound}
 use Rattle.paper.specs.Inputs.{Given, Input, Meets, Agree, MeetsItem, Matches, MatchesKept}
 use Rattle.paper.specs.Loading.{Loading, Solving, Set, Written, Kept, started, lowest, load-items, normalise, with-rule, used, load}
@@ -29,7 +28,7 @@ use Rattle.meaning.specs.Whole as H
 use Rattle.meaning.specs.Grow.{Full, full-of, input-part, input-more}
 use Rattle.meaning.specs.Joining.{Well, label-of}
 use Rattle.meaning.specs.Items.{begin-part, Went, load-part, items-clear}
-use Rattle.meaning.specs.Clear.{Four-or-six, other-number, Clear, clear-done, clear-demand, clear-then}
+use Rattle.meaning.specs.Clear.{Four-or-six, Clear, clear-done, clear-demand, clear-then}
 use Rattle.meaning.specs.Loads.{normalise-clear, ran, kept}
 use Rattle.meaning.specs.Rounds.{Ran}
 
@@ -38,10 +37,10 @@ use Rattle.meaning.specs.Rounds.{Ran}
 load-clear : (g : Set) (r : Written) (at : Given) → Sound (g .sites) → ((l : Loading) → load-items (no-items (g .sites)) 0 (r .items) ≡ done l → Input (l .sites) at) → Matches at (r .items) → Clear (load g r)
 unfolding load number
 load-clear g r at S I M =
-    clear-then (demand (ltb (length (g .kept)) max-rules) (TooManyRules (suc (length (g .kept))))) _ (clear-demand (ltb (length (g .kept)) max-rules) (TooManyRules (suc (length (g .kept)))) (other-number (TooManyRules (suc (length (g .kept)))) 7 refl (λ q. omega arith) (λ q. omega arith))) (λ _ e.
-    clear-then (demand (leb (r .count) max-items) (TooManyItems (r .count))) _ (clear-demand (leb (r .count) max-items) (TooManyItems (r .count)) (other-number (TooManyItems (r .count)) 7 refl (λ q. omega arith) (λ q. omega arith))) (λ _ e.
-    clear-then (demand (not (used g (r .place))) (PlaceUsed (r .place))) _ (clear-demand (not (used g (r .place))) (PlaceUsed (r .place)) (other-number (PlaceUsed (r .place)) 8 refl (λ q. omega arith) (λ q. omega arith))) (λ _ e.
-    clear-then (load-items (no-items (g .sites)) 0 (r .items)) _ (items-clear [] (r .items) (no-items (g .sites)) 0 at (begin-part (g .sites) S) M) (λ l e.
+    clear-demand (ltb (length (g .kept)) max-rules) (TooManyRules (suc (length (g .kept)))) _ refl
+    (clear-demand (leb (r .count) max-items) (TooManyItems (r .count)) _ refl
+    (clear-demand (not (used g (r .place))) (PlaceUsed (r .place)) _ refl
+    (clear-then (load-items (no-items (g .sites)) 0 (r .items)) _ (items-clear [] (r .items) (no-items (g .sites)) 0 at (begin-part (g .sites) S) M) (λ l e.
     clear-then (normalise l (r .count)) _ (normalise-clear (r .items) l (r .count) at (load-part [] (r .items) (no-items (g .sites)) l 0 (begin-part (g .sites) S) e .part) (I l e) M) (λ s e.
     clear-done (with-rule g r s))))))
 

@@ -1,13 +1,13 @@
 -- Outcomes that are not refused with 4 or 6: how they follow from their parts, and that adding sites and the rounds are such.
-use mathlib.Core.Path.{_≡_, refl, sym, ap, _∙_}
+use mathlib.Core.Path.{_≡_, refl, ap}
 use mathlib.Core.Option.{Option, none, some}
-use mathlib.Core.Bool.{Bool, true, false, not}
+use mathlib.Core.Bool.{Bool, true, false, not, _&&_}
 use mathlib.Core.Logic.{_⊎_, inl, inr}
 use mathlib.Core.List.{List, [], _∷_}
 use Prim.Native.Nat.{ℕ, zero, suc}
 use native.Mathlib.Omega.{arith}
 use lib.ListN.{length}
-use lib.Dec.{ltb, leb}
+use lib.Dec.{eqb, ltb, leb}
 use Rattle.paper.specs.declared.Constraint.{Constraint}
 use Rattle.paper.specs.declared.Refusal.{Refusal}
 use Rattle.paper.specs.declared.Refusal.the-variants.{Unknown, TooManySites, TooManySources, TermTooHigh}
@@ -20,9 +20,13 @@ use Rattle.paper.specs.Loading.{Solving, members, take-class, grow-all, round, 
 abbrev pub Four-or-six : Refusal → Type 0
 Four-or-six x = (number x ≡ 4) ⊎ (number x ≡ 6)
 
-pub other-number : (x : Refusal) (n : ℕ) → number x ≡ n → (n ≡ 4 → ⊥) → (n ≡ 6 → ⊥) → Four-or-six x → ⊥
-other-number x n e p q (inl f) = p (sym e ∙ f)
-other-number x n e p q (inr f) = q (sym e ∙ f)
+-- the numbers of the others
+abbrev pub other : ℕ → Bool
+other n = not (eqb n 4) && not (eqb n 6)
+
+is-other : (r : Refusal) → other (number r) ≡ true → Four-or-six r → ⊥
+is-other r e (inl f) = let z : false ≡ true = rw f at e in let y : _≡_ {A = ℕ} 0 1 = cc in omega arith
+is-other r e (inr f) = let z : false ≡ true = rw f at e in let y : _≡_ {A = ℕ} 0 1 = cc in omega arith
 
 abbrev pub Clear : {A : Type 0} → Outcome A → Type 0
 Clear o = (x : Refusal) → o ≡ refused x → Four-or-six x → ⊥
@@ -30,40 +34,44 @@ Clear o = (x : Refusal) → o ≡ refused x → Four-or-six x → ⊥
 pub clear-done : {A : Type 0} (a : A) → Clear (done a)
 clear-done a x e u = let z : _≡_ {A = ℕ} 0 1 = cc in omega arith
 
-pub clear-refused : {A : Type 0} (r : Refusal) → (Four-or-six r → ⊥) → Clear {A = A} (refused r)
-clear-refused r h x e u = let q : x ≡ r = cc in h (rw q at u)
-
-pub clear-demand : (b : Bool) (r : Refusal) → (Four-or-six r → ⊥) → Clear (demand b r)
-clear-demand true r h = clear-done tt
-clear-demand false r h = clear-refused r h
+pub clear-refused : {A : Type 0} (r : Refusal) → other (number r) ≡ true → Clear {A = A} (refused r)
+clear-refused r h x e u = let q : x ≡ r = cc in is-other r h (rw q at u)
 
 pub clear-then : {A B : Type 0} (o : Outcome A) (f : A → Outcome B) → Clear o → ((a : A) → o ≡ done a → Clear (f a)) → Clear (o >>= f)
 clear-then (done a) f p q x e u = q a refl x e u
 clear-then (refused r) f p q x e u = let z : r ≡ x = cc in p x (ap refused z) u
+
+pub clear-demand : {A : Type 0} (b : Bool) (r : Refusal) (f : Unit {0} → Outcome A) → other (number r) ≡ true → Clear (f tt) → Clear (demand b r >>= f)
+clear-demand true r f h q = q
+clear-demand false r f h q = clear-refused r h
 
 -- ---- adding sites
 
 missing-clear : (o : Option ℕ) → Clear (missing-source o)
 unfolding number
 missing-clear none = clear-done tt
-missing-clear (some n) = clear-refused (Unknown n) (other-number (Unknown n) 2 refl (λ q. omega arith) (λ q. omega arith))
+missing-clear (some n) = clear-refused (Unknown n) refl
 
 term-clear : (o : Option ℕ) → Clear (term-fits o)
 unfolding number
 term-clear none = clear-done tt
-term-clear (some n) = clear-demand (leb n max-term) (TermTooHigh n) (other-number (TermTooHigh n) 7 refl (λ q. omega arith) (λ q. omega arith))
+term-clear (some n) = go (leb n max-term)
+  where
+    go : (b : Bool) → Clear (demand b (TermTooHigh n))
+    go true = clear-done tt
+    go false = clear-refused (TermTooHigh n) refl
 
 next-clear : (t : Sites) (at : ℕ) (s : Site) (o : Option ℕ) → Clear (or-next t at s o)
 unfolding number
 next-clear t at s (some n) = clear-done _
-next-clear t at s none = clear-then (demand (ltb (length t) max-sites) (TooManySites (suc (length t)) at)) _ (clear-demand (ltb (length t) max-sites) (TooManySites (suc (length t)) at) (other-number (TooManySites (suc (length t)) at) 7 refl (λ q. omega arith) (λ q. omega arith))) (λ a e. clear-done _)
+next-clear t at s none = clear-demand (ltb (length t) max-sites) (TooManySites (suc (length t)) at) _ refl (clear-done _)
 
 add-clear : (t : Sites) (at : ℕ) (s : Site) → Clear (add t at s)
 unfolding add number
 add-clear t at s =
     clear-then (missing-source (first (λ n. not (known t n)) (sources s))) _ (missing-clear (first (λ n. not (known t n)) (sources s))) (λ a e.
-    clear-then (demand (leb (length (sources s)) max-sources) (TooManySources (length (sources s)) at)) _ (clear-demand (leb (length (sources s)) max-sources) (TooManySources (length (sources s)) at) (other-number (TooManySources (length (sources s)) at) 7 refl (λ q. omega arith) (λ q. omega arith))) (λ a e.
-    clear-then (term-fits (term-of s)) _ (term-clear (term-of s)) (λ a e. next-clear t at s (number-of t s))))
+    clear-demand (leb (length (sources s)) max-sources) (TooManySources (length (sources s)) at) _ refl
+    (clear-then (term-fits (term-of s)) _ (term-clear (term-of s)) (λ a e. next-clear t at s (number-of t s))))
 
 pub add-all-clear : (t : Sites) (at : ℕ) (ss : List Site) → Clear (add-all t at ss)
 unfolding add-all

@@ -26,7 +26,7 @@ use Rattle.paper.specs.Outcomes.{done-once, bind-done, demand-done}
 use Rattle.paper.specs.Adding.{Extends, Has, extends-length, add-all-sound, add-all-extends, add-all-has}
 use Rattle.paper.specs.Tables.{Rising, put-rising}
 use Rattle.meaning.specs.Places.{in-children}
-use Rattle.meaning.specs.Clear.{other-number, Clear, clear-done, clear-demand, clear-then, add-all-clear}
+use Rattle.meaning.specs.Clear.{Clear, clear-done, clear-demand, clear-then, add-all-clear}
 
 -- ---- what holds after some items
 
@@ -248,9 +248,8 @@ clash before l s c d at P e all m =
 item-clear : (before : List Item) (l : Loading) (k : ℕ) (i : Item) (at : Given) → Part before l → Matches at before → MeetsItem at i → Clear (load-item l k i)
 unfolding load-item number
 item-clear before l k (Is s c) at P all m =
-    clear-then (demand (known (l .sites) s) (Unknown s)) _ (clear-demand (known (l .sites) s) (Unknown s) (other-number (Unknown s) 2 refl (λ q. omega arith) (λ q. omega arith))) (λ a e.
-    clear-then (demand (leb (fields c) max-fields) (TooManyFields (fields c) k)) _ (clear-demand (leb (fields c) max-fields) (TooManyFields (fields c) k) (other-number (TooManyFields (fields c) k) 7 refl (λ q. omega arith) (λ q. omega arith))) (λ a e.
-    given (look (l .constraints) s) refl))
+    clear-demand (known (l .sites) s) (Unknown s) _ refl
+    (clear-demand (leb (fields c) max-fields) (TooManyFields (fields c) k) _ refl (given (look (l .constraints) s) refl))
   where
     same : (d : Constraint) → look (l .constraints) s ≡ some d → (b : Bool) → same-constraint c d ≡ b → Clear (demand b (Unreachable s s))
     same d q true w = clear-done tt
@@ -263,10 +262,7 @@ item-clear before l k (Is s c) at P all m =
     given : (o : Option Constraint) → look (l .constraints) s ≡ o → Clear (constrain l k s c o)
     given none q = clear-then (add-all (l .sites) k (children s c)) _ (add-all-clear (l .sites) k (children s c)) (λ t e. clear-done _)
     given (some d) q = clear-then (demand (same-constraint c d) (Unreachable s s)) _ (same d q (same-constraint c d) refl) (λ a e. clear-done _)
-item-clear before l k (Equal a b) at P all m =
-    clear-then (demand (known (l .sites) a) (Unknown a)) _ (clear-demand (known (l .sites) a) (Unknown a) (other-number (Unknown a) 2 refl (λ q. omega arith) (λ q. omega arith))) (λ _ e.
-    clear-then (demand (known (l .sites) b) (Unknown b)) _ (clear-demand (known (l .sites) b) (Unknown b) (other-number (Unknown b) 2 refl (λ q. omega arith) (λ q. omega arith))) (λ _ f.
-    clear-done _))
+item-clear before l k (Equal a b) at P all m = clear-demand (known (l .sites) a) (Unknown a) _ refl (clear-demand (known (l .sites) b) (Unknown b) _ refl (clear-done _))
 
 pub items-clear : (before items : List Item) (l : Loading) (k : ℕ) (at : Given) → Part before l → Matches at (before ++ items) → Clear (load-items l k items)
 unfolding load-items

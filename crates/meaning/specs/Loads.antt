@@ -13,7 +13,7 @@ use Rattle.paper.specs.declared.Item.{Item}
 use Rattle.paper.specs.declared.Item.the-variants.{Is, Equal}
 use Rattle.paper.specs.declared.Refusal.the-variants.{Hanging, TooManyConstrained, TooManyEqual}
 use Rattle.paper.specs.Words.{look}
-use Rattle.paper.specs.Numbers.{most-rounds, max-constrained, max-equal, number, done, demand}
+use Rattle.paper.specs.Numbers.{most-rounds, max-constrained, max-equal, number, done}
 use Rattle.paper.specs.Sites.{child-number}
 use Rattle.paper.specs.Inputs.{Value, Given, Input, Matches}
 use Rattle.paper.specs.Loading.{Loading, Solving, Labels, Holder, started, lowest, join-all, hanging, holders, closure, first-holder, differs, conflict, told-4, check-4, steps, endless, no-hanging, no-endless, rounds, normalise}
@@ -31,7 +31,7 @@ use Rattle.meaning.specs.Grow.{rooted-grows, Full, full-state, full-grow
 use Rattle.meaning.specs.Lists.{first-some}
 use Rattle.meaning.specs.Joining.{none-well, all-well, all-lowest, label-of}
 use Rattle.meaning.specs.Items.{Part}
-use Rattle.meaning.specs.Clear.{other-number, Clear, clear-done, clear-refused, clear-demand, clear-then, rounds-clear}
+use Rattle.meaning.specs.Clear.{Clear, clear-done, clear-refused, clear-demand, clear-then, rounds-clear}
 use Rattle.meaning.specs.Hangs.{named-rooted}
 use Rattle.meaning.specs.Checks as C
 use Rattle.meaning.specs.Rounds.{Good, Ran, rounds-ran}
@@ -97,9 +97,8 @@ normalise-clear items l count at P I M =
     clear-then (check-4 (closure l) (holders l) (conflict (closure l) (holders l))) _ (not-4 (conflict (closure l) (holders l)) refl) (λ _ e.
     clear-then (no-endless (endless (steps (closure l) (holders l)))) _ (not-6 (endless (steps (closure l) (holders l))) refl) (λ _ e.
     clear-then (rounds most-rounds count (started l)) _ (rounds-clear most-rounds count (started l)) (λ s e.
-    clear-then (demand (leb (length (s .constraints)) max-constrained) (TooManyConstrained (length (s .constraints)))) _ (clear-demand (leb (length (s .constraints)) max-constrained) (TooManyConstrained (length (s .constraints))) (other-number (TooManyConstrained (length (s .constraints))) 7 refl (λ q. omega arith) (λ q. omega arith))) (λ _ e.
-    clear-then (demand (leb (length (s .classes)) max-equal) (TooManyEqual (length (s .classes)))) _ (clear-demand (leb (length (s .classes)) max-equal) (TooManyEqual (length (s .classes))) (other-number (TooManyEqual (length (s .classes))) 7 refl (λ q. omega arith) (λ q. omega arith))) (λ _ e.
-    clear-done s))))))
+    clear-demand (leb (length (s .constraints)) max-constrained) (TooManyConstrained (length (s .constraints))) _ refl
+    (clear-demand (leb (length (s .classes)) max-equal) (TooManyEqual (length (s .classes))) _ refl (clear-done s))))))
   where
     R : Reads (kind-in (l .sites)) at
     R = input-is (l .sites) at .0 I
@@ -109,7 +108,7 @@ normalise-clear items l count at P I M =
 
     not-5 : (o : Option ℕ) → Clear (no-hanging o)
     not-5 none = clear-done tt
-    not-5 (some n) = clear-refused (Hanging n) (other-number (Hanging n) 5 refl (λ q. omega arith) (λ q. omega arith))
+    not-5 (some n) = clear-refused (Hanging n) refl
 
     not-4 : (o : Option Holder) → conflict (closure l) (holders l) ≡ o → Clear (check-4 (closure l) (holders l) o)
     not-4 none e = clear-done tt
