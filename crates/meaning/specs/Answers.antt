@@ -28,6 +28,7 @@ use Rattle.meaning.specs.Whole as H
 use Rattle.meaning.specs.Grow.{Full, full-of, input-part, input-more}
 use Rattle.meaning.specs.Joining.{Well, label-of}
 use Rattle.meaning.specs.Items.{begin-part, Went, load-part, items-clear}
+use Rattle.meaning.specs.RuleSites.{sites-left, rule-sites}
 use Rattle.meaning.specs.Clear.{Four-or-six, Clear, clear-done, clear-demand, clear-then}
 use Rattle.meaning.specs.Loads.{normalise-clear, ran, kept}
 use Rattle.meaning.specs.Rounds.{Ran}
@@ -71,32 +72,32 @@ pub record Stands (t : Sites) (k : Kept) : Type 0 where
   pub full : Full t (look (k .constraints)) (lowest (k .equals))
   pub free : (a b : ℕ) → lowest (k .equals) a ≡ lowest (k .equals) b → (a ≡ b → ⊥) → look (k .constraints) a ≡ none
 
-pub record Solved-as (g : Set) (r : Written) (h : Set) (k : Kept) : Type 0 where
-  pub loading : Loading
-  pub solved : Solving
-  pub items : load-items (no-items (g .sites)) 0 (r .items) ≡ done loading
-  pub normalised : normalise loading (r .count) ≡ done solved
-  pub sites-are : h .sites ≡ solved .sites
-  pub constraints-are : k .constraints ≡ solved .constraints
-  pub equals-are : k .equals ≡ solved .classes
+-- how a rule came to be kept: what its items left, and what the rounds made of it
+pub record Came (g : Set) (r : Written) (h : Set) (k : Kept) (l : Loading) (f : Solving) : Type 0 where
+  pub items : load-items (no-items (g .sites)) 0 (r .items) ≡ done l
+  pub normalised : normalise l (r .count) ≡ done f
+  pub sites-are : h .sites ≡ f .sites
+  pub constraints-are : k .constraints ≡ f .constraints
+  pub equals-are : k .equals ≡ f .classes
 
-pub solved-as : (g : Set) (r : Written) (h : Set) (k : Kept) → load g r ≡ done h → h .kept ≡ g .kept ++ (k ∷ []) → Solved-as g r h k
+came : (g : Set) (r : Written) (h : Set) (k : Kept) → load g r ≡ done h → h .kept ≡ g .kept ++ (k ∷ []) → (l : Loading) × (f : Solving) × Came g r h k l f
 unfolding with-rule
-solved-as g r h k e last =
+came g r h k e last =
     let L = load-done g r h e in
     let q = L .after in
     let K : Kept = record { place = r .place; priority = r .priority; constraints = L .solved .constraints; equals = L .solved .classes } in
     let z : g .kept ++ (k ∷ []) ≡ g .kept ++ (K ∷ []) = sym last ∙ ap (λ (x : Set). x .kept) q in
-    let w : k ≡ K = last-same (g .kept) k K z in
-    record {
-      loading = L .loading;
-      solved = L .solved;
-      items = L .items;
-      normalised = L .normalised;
-      sites-are = ap (λ (x : Set). x .sites) q;
-      constraints-are = ap (λ (x : Kept). x .constraints) w;
-      equals-are = ap (λ (x : Kept). x .equals) w;
-    }
+    let w : k ≡ K = last-same (g .kept) k K z in (
+      L .loading,
+      L .solved,
+      record {
+        items = L .items;
+        normalised = L .normalised;
+        sites-are = ap (λ (x : Set). x .sites) q;
+        constraints-are = ap (λ (x : Kept). x .constraints) w;
+        equals-are = ap (λ (x : Kept). x .equals) w;
+      },
+    )
 
 pub last-kept : (g : Set) (r : Written) (h : Set) → load g r ≡ done h → (k : Kept) × (h .kept ≡ g .kept ++ (k ∷ [])) × (k .place ≡ r .place) × (k .priority ≡ r .priority)
 unfolding with-rule
@@ -104,28 +105,27 @@ last-kept g r h e =
     let L = load-done g r h e in
     (record { place = r .place; priority = r .priority; constraints = L .solved .constraints; equals = L .solved .classes }, ap (λ (x : Set). x .kept) (L .after), refl, refl)
 
-module _ (g : Set) (r : Written) (h : Set) (k : Kept) (S : Sound (g .sites)) (l : Loading) (f : Solving) (loaded : load-items (no-items (g .sites)) 0 (r .items) ≡ done l) (normalised : normalise l (r .count) ≡ done f)
-    (sites-are : h .sites ≡ f .sites) (constraints-are : k .constraints ≡ f .constraints) (equals-are : k .equals ≡ f .classes) where
+module _ (g : Set) (r : Written) (h : Set) (k : Kept) (S : Sound (g .sites)) (l : Loading) (f : Solving) (E : Came g r h k l f) where
   went : Went (r .items) (no-items (g .sites)) l
-  went = load-part [] (r .items) (no-items (g .sites)) l 0 (begin-part (g .sites) S) loaded
+  went = load-part [] (r .items) (no-items (g .sites)) l 0 (begin-part (g .sites) S) (E .items)
 
   K : H.Kept (kind-in (f .sites)) (length (f .sites)) (child-number (f .sites)) (r .items) (look (f .constraints)) (lowest (f .classes))
-  K = kept (r .items) l (went .part) (r .count) f (load-fair (g .sites) 0 (r .items) l S loaded) normalised
+  K = kept (r .items) l (went .part) (r .count) f (load-fair (g .sites) 0 (r .items) l S (E .items)) (E .normalised)
 
   R : Ran (started l) f
-  R = ran (r .items) l (went .part) (r .count) f (load-fair (g .sites) 0 (r .items) l S loaded) normalised
+  R = ran (r .items) l (went .part) (r .count) f (load-fair (g .sites) 0 (r .items) l S (E .items)) (E .normalised)
 
   pub well : Well (k .equals)
-  well = rw equals-are (R .well)
+  well = rw (E .equals-are) (R .well)
 
   pub sound-after : Sound (h .sites)
-  sound-after = rw sites-are (R .fair .sites)
+  sound-after = rw (E .sites-are) (R .fair .sites)
 
   pub items-grow : Extends (g .sites) (l .sites)
   items-grow = went .extends
 
   pub rounds-grow : Extends (l .sites) (h .sites)
-  rounds-grow = rw sites-are (R .extends)
+  rounds-grow = rw (E .sites-are) (R .extends)
 
   -- what the items ask hangs on their own sites
   named-inside : (i : Item) → List·Memᴰ i (r .items) → (at at′ : Given) → ((n : ℕ) → n < length (l .sites) → at n ≡ at′ n) → MeetsItem at i → MeetsItem at′ i
@@ -149,28 +149,28 @@ module _ (g : Set) (r : Written) (h : Set) (k : Kept) (S : Sound (g .sites)) (l 
 
   pub same-inputs : (at : Given) → Input (h .sites) at → Matches at (r .items) ↔ MatchesKept at k
   same-inputs at I =
-      let w = H.kept-same (kind-in (f .sites)) (length (f .sites)) (child-number (f .sites)) (r .items) (look (f .constraints)) (lowest (f .classes)) K at (input-is (f .sites) at .0 (rw sites-are at I)) in
+      let w = H.kept-same (kind-in (f .sites)) (length (f .sites)) (child-number (f .sites)) (r .items) (look (f .constraints)) (lowest (f .classes)) K at (input-is (f .sites) at .0 (rw (E .sites-are) at I)) in
       let v = fulfils-kept k well at in
-      (λ M. v .1 (rw (constraints-are, equals-are) (w .0 M)), λ M. w .1 (rw (constraints-are, equals-are) at (v .0 M)))
+      (λ M. v .1 (rw ((E .constraints-are), (E .equals-are)) (w .0 M)), λ M. w .1 (rw ((E .constraints-are), (E .equals-are)) at (v .0 M)))
 
   pub forced-shape : (n : ℕ) (c : Constraint) → (look (k .constraints) n ≡ some c) ↔ ((at : Given) → Input (h .sites) at → Matches at (r .items) → Meets at n c)
   forced-shape n c =
       let w = H.kept-shape (kind-in (f .sites)) (length (f .sites)) (child-number (f .sites)) (r .items) (look (f .constraints)) (lowest (f .classes)) K n c in (
         λ e at I M. same-inputs at I .0 M .meets n c e,
-        λ F. ap (λ t. look t n) constraints-are ∙ w .1 (λ at I M. F at (rw sites-are (input-is (f .sites) at .1 I)) M),
+        λ F. ap (λ t. look t n) (E .constraints-are) ∙ w .1 (λ at I M. F at (rw (E .sites-are) (input-is (f .sites) at .1 I)) M),
       )
 
   pub forced-equal : (a b : ℕ) → (a ≡ b → ⊥) → look (k .constraints) a ≡ none → look (k .constraints) b ≡ none →
       ((low : ℕ) × (look (k .equals) a ≡ some low) × (look (k .equals) b ≡ some low)) ↔ ((at : Given) → Input (h .sites) at → Matches at (r .items) → Agree at a b)
   forced-equal a b d p q =
-      let w = H.kept-equal (kind-in (f .sites)) (length (f .sites)) (child-number (f .sites)) (r .items) (look (f .constraints)) (lowest (f .classes)) K a b d (rw constraints-are at p) (rw constraints-are at q) in (
+      let w = H.kept-equal (kind-in (f .sites)) (length (f .sites)) (child-number (f .sites)) (r .items) (look (f .constraints)) (lowest (f .classes)) K a b d (rw (E .constraints-are) at p) (rw (E .constraints-are) at q) in (
         λ e at I M. same-inputs at I .0 M .agrees a b (e .0) (e .1) (e .2),
-        λ F. held (w .1 (λ at I M. F at (rw sites-are (input-is (f .sites) at .1 I)) M)),
+        λ F. held (w .1 (λ at I M. F at (rw (E .sites-are) (input-is (f .sites) at .1 I)) M)),
       )
     where
       held : Held (lowest (f .classes)) a b → (low : ℕ) × (look (k .equals) a ≡ some low) × (look (k .equals) b ≡ some low)
       held e =
-          let s : lowest (k .equals) a ≡ lowest (k .equals) b = rw equals-are (e .same) in
+          let s : lowest (k .equals) a ≡ lowest (k .equals) b = rw (E .equals-are) (e .same) in
           (lowest (k .equals) a, label-of (k .equals) well a b s d, label-of (k .equals) well b a (sym s) (λ z. d (sym z)) ∙ ap some (sym s))
 
   pub has-input : (at : Given) × Input (h .sites) at × Matches at (r .items)
@@ -179,63 +179,56 @@ module _ (g : Set) (r : Written) (h : Set) (k : Kept) (S : Sound (g .sites)) (l 
       (m .0, put-in (m .0) (input-is (f .sites) (m .0) .1 (m .1)), m .2)
     where
       put-in : (at : Given) → Input (f .sites) at → Input (h .sites) at
-      put-in at I = rw sites-are I
+      put-in at I = rw (E .sites-are) I
 
   -- and the kept rule is a solved form
   pub stands : Stands (h .sites) k
   stands =
       let form = H.solved (kind-in (f .sites)) (length (f .sites)) (child-number (f .sites)) (r .items) (look (f .constraints)) (lowest (f .classes)) K in
       record {
-        rising = rw constraints-are (R .fair .ascending);
+        rising = rw (E .constraints-are) (R .fair .ascending);
         well = well;
-        full = rw (sites-are, constraints-are, equals-are) (full-of (f .sites) (look (f .constraints)) (lowest (f .classes)) (form .kids) (form .rooted) (form .joined-rooted));
-        free = rw (constraints-are, equals-are) (form .joined-free);
+        full = rw ((E .sites-are), (E .constraints-are), (E .equals-are)) (full-of (f .sites) (look (f .constraints)) (lowest (f .classes)) (form .kids) (form .rooted) (form .joined-rooted));
+        free = rw ((E .constraints-are), (E .equals-are)) (form .joined-free);
       }
 
--- ---- over the sites of a rule: those that its items leave, or, where an item is refused, the set's
-
-abbrev pub left-by : Sites → Outcome Loading → Sites
-left-by t (done l) = l .sites
-left-by t (refused x) = t
+-- ---- the same, of `load` and over the sites of the rule
 
 module _ (g : Set) (r : Written) (S : Sound (g .sites)) where
-  abbrev its : Sites
-  its = left-by (g .sites) (load-items (no-items (g .sites)) 0 (r .items))
-
-  pub refused-unmatched : (x : Refusal) → load g r ≡ refused x → Four-or-six x → (at : Given) → Input (left-by (g .sites) (load-items (no-items (g .sites)) 0 (r .items))) at → Matches at (r .items) → ⊥
+  pub refused-unmatched : (x : Refusal) → load g r ≡ refused x → Four-or-six x → (at : Given) → Input (rule-sites g r) at → Matches at (r .items) → ⊥
   refused-unmatched x e u at I M = load-clear g r at S (λ l q. rw q at I) M x e u
 
   module _ (h : Set) (k : Kept) (loaded : load g r ≡ done h) (last : h .kept ≡ g .kept ++ (k ∷ [])) where
-    L : Solved-as g r h k
-    L = solved-as g r h k loaded last
+    L : (l : Loading) × (f : Solving) × Came g r h k l f
+    L = came g r h k loaded last
 
-    its-are : its ≡ L .loading .sites
-    its-are = ap (left-by (g .sites)) (L .items)
+    its-are : rule-sites g r ≡ L .0 .sites
+    its-are = ap (sites-left (g .sites)) (L .2 .items)
 
     pub same : (at : Given) → Input (h .sites) at → Matches at (r .items) ↔ MatchesKept at k
-    same = same-inputs g r h k S (L .loading) (L .solved) (L .items) (L .normalised) (L .sites-are) (L .constraints-are) (L .equals-are)
+    same = same-inputs g r h k S (L .0) (L .1) (L .2)
 
     pub shapes : (n : ℕ) (c : Constraint) → (look (k .constraints) n ≡ some c) ↔ ((at : Given) → Input (h .sites) at → Matches at (r .items) → Meets at n c)
-    shapes = forced-shape g r h k S (L .loading) (L .solved) (L .items) (L .normalised) (L .sites-are) (L .constraints-are) (L .equals-are)
+    shapes = forced-shape g r h k S (L .0) (L .1) (L .2)
 
     pub equals : (a b : ℕ) → (a ≡ b → ⊥) → look (k .constraints) a ≡ none → look (k .constraints) b ≡ none →
         ((low : ℕ) × (look (k .equals) a ≡ some low) × (look (k .equals) b ≡ some low)) ↔ ((at : Given) → Input (h .sites) at → Matches at (r .items) → Agree at a b)
-    equals = forced-equal g r h k S (L .loading) (L .solved) (L .items) (L .normalised) (L .sites-are) (L .constraints-are) (L .equals-are)
+    equals = forced-equal g r h k S (L .0) (L .1) (L .2)
 
     pub new-stands : Stands (h .sites) k
-    new-stands = stands g r h k S (L .loading) (L .solved) (L .items) (L .normalised) (L .sites-are) (L .constraints-are) (L .equals-are)
+    new-stands = stands g r h k S (L .0) (L .1) (L .2)
 
     pub matched : (at : Given) × Input (h .sites) at × Matches at (r .items)
-    matched = has-input g r h k S (L .loading) (L .solved) (L .items) (L .normalised) (L .sites-are) (L .constraints-are) (L .equals-are)
+    matched = has-input g r h k S (L .0) (L .1) (L .2)
 
-    pub grown : Extends (g .sites) (left-by (g .sites) (load-items (no-items (g .sites)) 0 (r .items))) × Extends (left-by (g .sites) (load-items (no-items (g .sites)) 0 (r .items))) (h .sites) ×
-        ((at : Given) → Input (left-by (g .sites) (load-items (no-items (g .sites)) 0 (r .items))) at → (at′ : Given) × Input (h .sites) at′ × ((n : ℕ) → n < length (left-by (g .sites) (load-items (no-items (g .sites)) 0 (r .items))) → at n ≡ at′ n))
-    grown = rw its-are (items-grow g r h k S (L .loading) (L .solved) (L .items) (L .normalised) (L .sites-are) (L .constraints-are) (L .equals-are), rounds-grow g r h k S (L .loading) (L .solved) (L .items) (L .normalised) (L .sites-are) (L .constraints-are) (L .equals-are), grow-input g r h k S (L .loading) (L .solved) (L .items) (L .normalised) (L .sites-are) (L .constraints-are) (L .equals-are))
+    pub grown : Extends (g .sites) (rule-sites g r) × Extends (rule-sites g r) (h .sites) ×
+        ((at : Given) → Input (rule-sites g r) at → (at′ : Given) × Input (h .sites) at′ × ((n : ℕ) → n < length (rule-sites g r) → at n ≡ at′ n))
+    grown = rw its-are (items-grow g r h k S (L .0) (L .1) (L .2), rounds-grow g r h k S (L .0) (L .1) (L .2), grow-input g r h k S (L .0) (L .1) (L .2))
 
-    pub same-on-old : (at at′ : Given) → ((n : ℕ) → n < length (left-by (g .sites) (load-items (no-items (g .sites)) 0 (r .items))) → at n ≡ at′ n) → Matches at (r .items) → Matches at′ (r .items)
-    same-on-old = rw its-are (items-inside g r h k S (L .loading) (L .solved) (L .items) (L .normalised) (L .sites-are) (L .constraints-are) (L .equals-are))
+    pub same-on-old : (at at′ : Given) → ((n : ℕ) → n < length (rule-sites g r) → at n ≡ at′ n) → Matches at (r .items) → Matches at′ (r .items)
+    same-on-old = rw its-are (items-inside g r h k S (L .0) (L .1) (L .2))
 
-  pub unmatched-refused : ((x : Refusal) → load g r ≡ refused x → Four-or-six x) → ((at : Given) → Input (left-by (g .sites) (load-items (no-items (g .sites)) 0 (r .items))) at → Matches at (r .items) → ⊥) → (x : Refusal) × (load g r ≡ refused x) × Four-or-six x
+  pub unmatched-refused : ((x : Refusal) → load g r ≡ refused x → Four-or-six x) → ((at : Given) → Input (rule-sites g r) at → Matches at (r .items) → ⊥) → (x : Refusal) × (load g r ≡ refused x) × Four-or-six x
   unmatched-refused others u = go (load g r) refl
     where
       go : (o : Outcome Set) → load g r ≡ o → (x : Refusal) × (load g r ≡ refused x) × Four-or-six x
@@ -243,4 +236,4 @@ module _ (g : Set) (r : Written) (S : Sound (g .sites)) where
       go (done h) e =
           let w = last-kept g r h e in
           let m = matched h (w .0) e (w .1) in
-          absurd (u (m .0) (input-part its (h .sites) (m .0) (grown h (w .0) e (w .1) .1) (m .1)) (m .2))
+          absurd (u (m .0) (input-part (rule-sites g r) (h .sites) (m .0) (grown h (w .0) e (w .1) .1) (m .1)) (m .2))

@@ -18,8 +18,9 @@ use Rattle.paper.specs.Adding.{Extends}
 use Rattle.paper.specs.Making.{load-sound}
 use Rattle.meaning.specs.Grow.{input-part, input-more}
 use Rattle.meaning.specs.Clear.{Four-or-six}
+use Rattle.meaning.specs.RuleSites.{rule-sites}
 use Rattle.meaning.specs.Answers as A
-use Rattle.meaning.specs.Demand3.{rule-sites, Keeps, Holds-equal, demand-2, demand-2-old, demand-3, demand-4}
+use Rattle.meaning.specs.Demand3.{Keeps, Holds-equal, demand-2, demand-2-old, demand-3, demand-4}
 
 -- A kept rule has a matching input.
 pub kept-matched : (g : Set) (r : Written) (h : Set) (k : Kept) → Sound (g .sites) → Keeps g r h k → (at : Given) × Input (h .sites) at × Matches at (r .items)

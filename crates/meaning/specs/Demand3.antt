@@ -9,19 +9,15 @@ use Rattle.paper.specs.declared.Constraint.{Constraint}
 use Rattle.paper.specs.declared.Refusal.{Refusal}
 use Rattle.paper.specs.Words.{look}
 use Rattle.paper.specs.Numbers.{done, refused}
-use Rattle.paper.specs.Sites.{Sites, Sound}
+use Rattle.paper.specs.Sites.{Sound}
 use Rattle.paper.specs.Inputs.{Given, Input, Meets, Agree, Matches, MatchesKept}
-use Rattle.paper.specs.Loading.{Set, Written, Kept, load, load-items}
+use Rattle.paper.specs.Loading.{Set, Written, Kept, load}
 use Rattle.paper.specs.Adding.{Extends}
-use Rattle.paper.specs.Fair.{no-items}
+use Rattle.meaning.specs.RuleSites.{rule-sites}
 use Rattle.meaning.specs.Clear.{Four-or-six}
 use Rattle.meaning.specs.Answers as A
 
--- The sites that a rule speaks of: the set's, and the children that its constrained sites have got when its items are loaded.
-abbrev pub rule-sites : Set → Written → Sites
-rule-sites g r = A.left-by (g .sites) (load-items (no-items (g .sites)) 0 (r .items))
-
--- No finite input matches the rule as written. (Change request [5] puts its inputs in the place of `Input` here, and only here.)
+-- No finite input, of the set's sites and the children that the rule's items add, matches the rule as written. (Change request [5] puts its inputs in the place of `Input` here, and only here.)
 abbrev pub Unmatched : Set → Written → Type 0
 Unmatched g r = (at : Given) → Input (rule-sites g r) at → Matches at (r .items) → ⊥
 

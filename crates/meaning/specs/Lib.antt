@@ -3,6 +3,8 @@ pub mod Demand3
 pub mod Corollaries
 pub mod Overlaps
 pub mod Only
+-- and one word of theirs
+pub mod RuleSites
 -- one instance end to end
 pub mod Instance
 -- values, kinds of sites, inputs
