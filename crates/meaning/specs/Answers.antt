@@ -149,13 +149,13 @@ module _ (g : Set) (r : Written) (h : Set) (k : Kept) (S : Sound (g .sites)) (l 
 
   pub same-inputs : (at : Given) → Input (h .sites) at → Matches at (r .items) ↔ MatchesKept at k
   same-inputs at I =
-      let w = H.kept-same (kind-in (f .sites)) (length (f .sites)) (child-number (f .sites)) (r .items) (look (f .constraints)) (lowest (f .classes)) K at (input-is (f .sites) at .0 (rw (E .sites-are) at I)) in
+      let w = H.kept-same K at (input-is (f .sites) at .0 (rw (E .sites-are) at I)) in
       let v = fulfils-kept k well at in
-      (λ M. v .1 (rw ((E .constraints-are), (E .equals-are)) (w .0 M)), λ M. w .1 (rw ((E .constraints-are), (E .equals-are)) at (v .0 M)))
+      (λ M. v .1 (rw (E .constraints-are, E .equals-are) (w .0 M)), λ M. w .1 (rw (E .constraints-are, E .equals-are) at (v .0 M)))
 
   pub forced-shape : (n : ℕ) (c : Constraint) → (look (k .constraints) n ≡ some c) ↔ ((at : Given) → Input (h .sites) at → Matches at (r .items) → Meets at n c)
   forced-shape n c =
-      let w = H.kept-shape (kind-in (f .sites)) (length (f .sites)) (child-number (f .sites)) (r .items) (look (f .constraints)) (lowest (f .classes)) K n c in (
+      let w = H.kept-shape K n c in (
         λ e at I M. same-inputs at I .0 M .meets n c e,
         λ F. ap (λ t. look t n) (E .constraints-are) ∙ w .1 (λ at I M. F at (rw (E .sites-are) (input-is (f .sites) at .1 I)) M),
       )
@@ -163,7 +163,7 @@ module _ (g : Set) (r : Written) (h : Set) (k : Kept) (S : Sound (g .sites)) (l 
   pub forced-equal : (a b : ℕ) → (a ≡ b → ⊥) → look (k .constraints) a ≡ none → look (k .constraints) b ≡ none →
       ((low : ℕ) × (look (k .equals) a ≡ some low) × (look (k .equals) b ≡ some low)) ↔ ((at : Given) → Input (h .sites) at → Matches at (r .items) → Agree at a b)
   forced-equal a b d p q =
-      let w = H.kept-equal (kind-in (f .sites)) (length (f .sites)) (child-number (f .sites)) (r .items) (look (f .constraints)) (lowest (f .classes)) K a b d (rw (E .constraints-are) at p) (rw (E .constraints-are) at q) in (
+      let w = H.kept-equal K a b d (rw (E .constraints-are) at p) (rw (E .constraints-are) at q) in (
         λ e at I M. same-inputs at I .0 M .agrees a b (e .0) (e .1) (e .2),
         λ F. held (w .1 (λ at I M. F at (rw (E .sites-are) (input-is (f .sites) at .1 I)) M)),
       )
@@ -175,7 +175,7 @@ module _ (g : Set) (r : Written) (h : Set) (k : Kept) (S : Sound (g .sites)) (l 
 
   pub has-input : (at : Given) × Input (h .sites) at × Matches at (r .items)
   has-input =
-      let m = H.kept-matched (kind-in (f .sites)) (length (f .sites)) (child-number (f .sites)) (r .items) (look (f .constraints)) (lowest (f .classes)) K in
+      let m = H.kept-matched K in
       (m .0, put-in (m .0) (input-is (f .sites) (m .0) .1 (m .1)), m .2)
     where
       put-in : (at : Given) → Input (f .sites) at → Input (h .sites) at
@@ -184,12 +184,12 @@ module _ (g : Set) (r : Written) (h : Set) (k : Kept) (S : Sound (g .sites)) (l 
   -- and the kept rule is a solved form
   pub stands : Stands (h .sites) k
   stands =
-      let form = H.solved (kind-in (f .sites)) (length (f .sites)) (child-number (f .sites)) (r .items) (look (f .constraints)) (lowest (f .classes)) K in
+      let form = H.solved K in
       record {
         rising = rw (E .constraints-are) (R .fair .ascending);
         well = well;
-        full = rw ((E .sites-are), (E .constraints-are), (E .equals-are)) (full-of (f .sites) (look (f .constraints)) (lowest (f .classes)) (form .kids) (form .rooted) (form .joined-rooted));
-        free = rw ((E .constraints-are), (E .equals-are)) (form .joined-free);
+        full = rw (E .sites-are, E .constraints-are, E .equals-are) (full-of (f .sites) (look (f .constraints)) (lowest (f .classes)) (form .kids) (form .rooted) (form .joined-rooted));
+        free = rw (E .constraints-are, E .equals-are) (form .joined-free);
       }
 
 -- ---- the same, of `load` and over the sites of the rule

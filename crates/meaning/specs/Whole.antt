@@ -153,7 +153,7 @@ pub record Kept (kind : ℕ → Kind) (room : ℕ) (kid : ℕ → Constraint →
   pub rounds : Rounds kind kid con₀ rep₀ con rep
   pub ended : (a b : ℕ) → rep a ≡ rep b → (a ≡ b → ⊥) → con a ≡ none
 
-module _ (kind : ℕ → Kind) (room : ℕ) (kid : ℕ → Constraint → ℕ → ℕ) (items : List Item) (con : ℕ → Option Constraint) (rep : ℕ → ℕ) (K : Kept kind room kid items con rep) where
+module _ {kind : ℕ → Kind} {room : ℕ} {kid : ℕ → Constraint → ℕ → ℕ} {items : List Item} {con : ℕ → Option Constraint} {rep : ℕ → ℕ} (K : Kept kind room kid items con rep) where
   pub solved : Solved kind con kid rep
   solved = let S = rounds-state (K .rounds) (K .start) in record { kids = S .grown .kids; rooted = S .rooted; joined-rooted = S .joined-rooted; joined-free = K .ended }
 
