@@ -1,7 +1,7 @@
 -- 01, "Two rules, many rules": what the comparison of two kept rules of a set means. (Pairs.antt has the proofs.)
 use mathlib.Core.Path.{_≡_}
 use mathlib.Core.Bool.{true}
-use mathlib.Core.Logic.{_↔_}
+use mathlib.Core.Logic.{_↔_, _⊎_, inl, inr}
 use mathlib.Core.List.{List, List·Memᴰ}
 use Prim.Native.Nat.{_≤_, _<_}
 use native.Mathlib.Omega.{arith}
@@ -12,7 +12,7 @@ use Rattle.paper.specs.Inputs.{Given, Input, MatchesKept}
 use Rattle.paper.specs.Loading.{Set, Kept, Made}
 use Rattle.paper.specs.Rules.{no-equals, compare-with, may-overlap, rank, masks}
 use Rattle.paper.specs.Making.{made-sound}
-use Rattle.meaning.specs.Pairs.{made-stands, overlap-no, overlap-common, compare-subset, subset-compare, masks-covers}
+use Rattle.meaning.specs.Pairs.{made-stands, overlap-no, Common, overlap-either, compare-subset, subset-compare, masks-covers}
 
 module _ (g : Set) (M : Made g) (a b : Kept) (in-a : List·Memᴰ a (g .kept)) (in-b : List·Memᴰ b (g .kept)) where
   -- "No means no input matches both"
@@ -21,7 +21,19 @@ module _ (g : Set) (M : Made g) (a b : Kept) (in-a : List·Memᴰ a (g .kept)) (
 
   -- "if neither has equalities, No holds exactly then"
   pub no-exactly : no-equals (a .equals) ≡ true → no-equals (b .equals) ≡ true → (may-overlap a b ≡ No) ↔ ((at : Given) → Input (g .sites) at → MatchesKept at a → MatchesKept at b → ⊥)
-  no-exactly na nb = (λ e at I. no-means e at, overlap-common (g .sites) (made-sound M) a b (made-stands M a in-a) (made-stands M b in-b) na nb)
+  no-exactly na nb = (λ e at I. no-means e at, λ h. go h (overlap-either (g .sites) (made-sound M) a b (made-stands M a in-a) (made-stands M b in-b) na nb))
+    where
+      go : ((at : Given) → Input (g .sites) at → MatchesKept at a → MatchesKept at b → ⊥) → (may-overlap a b ≡ No) ⊎ Common (g .sites) a b → may-overlap a b ≡ No
+      go h (inl e) = e
+      go h (inr c) = absurd (h (c .0) (c .1) (c .2) (c .3))
+
+  -- and where the answer is another, some input does match both
+  pub else-common : no-equals (a .equals) ≡ true → no-equals (b .equals) ≡ true → (may-overlap a b ≡ No → ⊥) → (at : Given) × Input (g .sites) at × MatchesKept at a × MatchesKept at b
+  else-common na nb d = go (overlap-either (g .sites) (made-sound M) a b (made-stands M a in-a) (made-stands M b in-b) na nb)
+    where
+      go : (may-overlap a b ≡ No) ⊎ Common (g .sites) a b → Common (g .sites) a b
+      go (inl e) = absurd (d e)
+      go (inr c) = c
 
   smaller-exactly : no-equals (a .equals) ≡ true → no-equals (b .equals) ≡ true → (compare-with a b ≡ Subset) ↔ ((at : Given) → Input (g .sites) at → MatchesKept at b → MatchesKept at a)
   smaller-exactly na nb = (λ e at I. compare-subset a b e at, subset-compare (g .sites) (made-sound M) a b (made-stands M a in-a) (made-stands M b in-b) na nb)

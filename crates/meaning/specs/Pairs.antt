@@ -199,24 +199,29 @@ module _ (t : Sites) (S : Sound t) (a b : Kept) (W : Stands t a) (X : Stands t b
         record { meets = λ n c e. m .2 .meets n c (from-b n c e); agrees = λ x y low p q. absurd (no-labels (b .equals) none-b x low p) },
       )
 
-compare-common : (t : Sites) → Sound t → (a b : Kept) → Stands t a → Stands t b → no-equals (a .equals) ≡ true → no-equals (b .equals) ≡ true → ((at : Given) → Input t at → MatchesKept at a → MatchesKept at b → ⊥) → compare-with a b ≡ No
-compare-common t S a b W X na nb h = go (compared a b)
+abbrev pub Common : Sites → Kept → Kept → Type 0
+Common t a b = (at : Given) × Input t at × MatchesKept at a × MatchesKept at b
+
+compare-either : (t : Sites) → Sound t → (a b : Kept) → Stands t a → Stands t b → no-equals (a .equals) ≡ true → no-equals (b .equals) ≡ true → (compare-with a b ≡ No) ⊎ Common t a b
+compare-either t S a b W X na nb = go (compared a b)
   where
-    hit : differ (a .constraints) (b .constraints) ≡ false → ⊥
-    hit p = let w = common t S a b W X (differs-not (a .constraints) (b .constraints) p) na nb in h (w .0) (w .1) (w .2) (w .3)
+    go : {o : Overlap} → Compared a b o → (o ≡ No) ⊎ Common t a b
+    go (no-is p) = inl refl
+    go (yes-is p f) = inr (common t S a b W X (differs-not (a .constraints) (b .constraints) p) na nb)
+    go (subset-is p q r s) = inr (common t S a b W X (differs-not (a .constraints) (b .constraints) p) na nb)
 
-    go : {o : Overlap} → Compared a b o → o ≡ No
-    go (no-is p) = refl
-    go (yes-is p f) = absurd (hit p)
-    go (subset-is p q r s) = absurd (hit p)
-
-pub overlap-common : (t : Sites) → Sound t → (a b : Kept) → Stands t a → Stands t b → no-equals (a .equals) ≡ true → no-equals (b .equals) ≡ true → ((at : Given) → Input t at → MatchesKept at a → MatchesKept at b → ⊥) → may-overlap a b ≡ No
+-- the answer is No, or some input matches both
+pub overlap-either : (t : Sites) → Sound t → (a b : Kept) → Stands t a → Stands t b → no-equals (a .equals) ≡ true → no-equals (b .equals) ≡ true → (may-overlap a b ≡ No) ⊎ Common t a b
 unfolding may-overlap
-overlap-common t S a b W X na nb h = go (leb (length (a .constraints)) (length (b .constraints)))
+overlap-either t S a b W X na nb = go (leb (length (a .constraints)) (length (b .constraints)))
   where
-    go : (s : Bool) → (if s then compare-with a b else compare-with b a) ≡ No
-    go true = compare-common t S a b W X na nb h
-    go false = compare-common t S b a X W nb na (λ at I M N. h at I N M)
+    flip : (compare-with b a ≡ No) ⊎ Common t b a → (compare-with b a ≡ No) ⊎ Common t a b
+    flip (inl e) = inl e
+    flip (inr c) = inr (c .0, c .1, c .3, c .2)
+
+    go : (s : Bool) → ((if s then compare-with a b else compare-with b a) ≡ No) ⊎ Common t a b
+    go true = compare-either t S a b W X na nb
+    go false = flip (compare-either t S b a X W nb na)
 
 -- ---- Subset
 
