@@ -198,6 +198,14 @@ module _ (g : Set) (r : Written) (S : Sound (g .sites)) where
   pub refused-unmatched : (x : Refusal) → load g r ≡ refused x → Four-or-six x → (at : Given) → Input (rule-sites g r) at → Matches at (r .items) → ⊥
   refused-unmatched x e u at I M = load-clear g r at S (λ l q. rw q at I) M x e u
 
+  -- the sites of the rule extend the set's, and are sound
+  pub its-grow : Extends (g .sites) (rule-sites g r) × Sound (rule-sites g r)
+  its-grow = go (load-items (no-items (g .sites)) 0 (r .items)) refl
+    where
+      go : (o : Outcome Loading) → load-items (no-items (g .sites)) 0 (r .items) ≡ o → Extends (g .sites) (sites-left (g .sites) o) × Sound (sites-left (g .sites) o)
+      go (done l) e = let w = load-part [] (r .items) (no-items (g .sites)) l 0 (begin-part (g .sites) S) e in (w .extends, w .part .sound)
+      go (refused x) e = (λ i s q. q, S)
+
   module _ (h : Set) (k : Kept) (loaded : load g r ≡ done h) (last : h .kept ≡ g .kept ++ (k ∷ [])) where
     L : (l : Loading) × (f : Solving) × Came g r h k l f
     L = came g r h k loaded last

@@ -118,3 +118,17 @@ module _ (g g′ : Set) (r r′ : Written) (h h′ : Set) (k k′ : Kept) (S : S
     where
       moved : (at at′ : Given) → at a ≡ at′ a → at b ≡ at′ b → Agree at a b → Agree at′ a b
       moved at at′ e f M = record { value = M .value; one = sym e ∙ M .one; other = sym f ∙ M .other }
+
+-- A rule that one set keeps is refused neither with 4 nor with 6 by another that has the sites that it names: grown from it, or smaller.
+pub kept-clear : (t : Sites) (g g′ : Set) (r r′ : Written) (h : Set) (k : Kept) → Sound t → Sound (g .sites) → Sound (g′ .sites) → Extends t (g .sites) → Extends t (g′ .sites) → r′ .items ≡ r .items →
+    ((i : Item) → List·Memᴰ i (r .items) → (n : ℕ) → Names i n → n < length t) → Keeps g r h k → (x : Refusal) → load g′ r′ ≡ refused x → Four-or-six x → ⊥
+kept-clear t g g′ r r′ h k T S S′ in-g in-g′ one-rule old K x e u =
+    let m = kept-matched g r h k S K in
+    let w = demand-2-old g r h k S K in
+    let v = A.its-grow g′ r′ S′ in
+    let y = input-more t (rule-sites g′ r′) (m .0) T (v .1) (λ i s q. v .0 i s (in-g′ i s q)) (input-part t (h .sites) (m .0) (λ i s q. w .1 i s (w .0 i s (in-g i s q))) (m .1)) in
+    let M : Matches (y .0) (r .items) = matches-same (r .items) (m .0) (y .0) (λ i q n p. y .2 n (old i q n p)) (m .2) in
+    A.refused-unmatched g′ r′ S′ x e u (y .0) (y .1) (over (y .0) M)
+  where
+    over : (at : Given) → Matches at (r .items) → Matches at (r′ .items)
+    over at M = rw one-rule M
