@@ -22,8 +22,7 @@ use Rattle.paper.specs.Adding.{Extends}
 use Rattle.paper.specs.Tables.{Rising, lowest-is}
 use Rattle.paper.specs.Fair.{no-items, load-fair}
 use Rattle.paper.specs.Making.{load-done}
-use Rattle.meaning.specs.Kinds.{kind-in, Fulfils, input-is}
-use Rattle.meaning.specs.Model.{Held}
+use Rattle.meaning.specs.Kinds.{kind-in, Fulfils, input-is, Held}
 use Rattle.meaning.specs.Whole as H
 use Rattle.meaning.specs.Grow.{Full, full-of, input-part, input-more}
 use Rattle.meaning.specs.Joining.{Well, label-of}

@@ -4,6 +4,7 @@ use mathlib.Core.Option.{Option, none, some}
 use mathlib.Core.Logic.{_↔_}
 use Prim.Native.Nat.{ℕ, _<_}
 use native.Mathlib.Omega.{arith}
+use native.Mathlib.Decide.{ℕ-discrete}
 use lib.ListN.{getElem?}
 use Rattle.paper.specs.declared.Constraint.{Constraint}
 use Rattle.paper.specs.Sites.{Site, Sites, constBool, constInt, constPrim, argument, extractor, constructor, iterator, makeVariant, matchVariant, makeStruct, extractStruct, makeSome, matchSome, matchTuple}
@@ -54,6 +55,19 @@ pub record Reads (kind : ℕ → Kind) (at : Given) : Type 0 where
 pub record Fulfils (at : Given) (con : ℕ → Option Constraint) (Held : ℕ → ℕ → Type 0) : Type 0 where
   pub meets : (n : ℕ) (c : Constraint) → con n ≡ some c → Meets at n c
   pub agrees : (a b : ℕ) → Held a b → Agree at a b
+
+-- Held equal: two different sites of one class
+pub record Held (rep : ℕ → ℕ) (a b : ℕ) : Type 0 where
+  pub same : rep a ≡ rep b
+  pub two : a ≡ b → ⊥
+
+-- the sites of one class agree, also a site with itself
+pub class-same : (con : ℕ → Option Constraint) (rep : ℕ → ℕ) (at : Given) → Fulfils at con (Held rep) → (a b : ℕ) → rep a ≡ rep b → at a ≡ at b
+class-same con rep at M a b e = go (ℕ-discrete a b)
+  where
+    go : Dec (a ≡ b) → at a ≡ at b
+    go (yes q) = ap at q
+    go (no q) = let h = M .agrees a b (record { same = e; two = q }) in h .one ∙ sym (h .other)
 
 -- ---- an input of a table
 

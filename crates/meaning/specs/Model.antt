@@ -9,7 +9,7 @@ use Rattle.paper.specs.declared.Constraint.the-variants.{ConstInt}
 use Rattle.paper.specs.Sites.{child-count}
 use Rattle.paper.specs.Labels.{never}
 use Rattle.meaning.specs.Values.{Proj, make, proj-at, field-of, field, tab, count-tab, at-tab, tab-ext, shape-make, field-make, field-of-inv}
-use Rattle.meaning.specs.Kinds.{Kind, outside, free, child-of, Places, Reads, Fulfils}
+use Rattle.meaning.specs.Kinds.{Kind, outside, free, child-of, Places, Reads, Fulfils, Held}
 
 -- A named child site is a child of a constrained one (check 5).
 pub data Rooted (kind : ℕ → Kind) (con : ℕ → Option Constraint) (n : ℕ) : Type 0 where
@@ -23,11 +23,6 @@ pub record Solved (kind : ℕ → Kind) (con : ℕ → Option Constraint) (kid :
   pub rooted : (n : ℕ) (c : Constraint) → con n ≡ some c → Rooted kind con n
   pub joined-rooted : (a b : ℕ) → rep a ≡ rep b → (a ≡ b → ⊥) → Rooted kind con a
   pub joined-free : (a b : ℕ) → rep a ≡ rep b → (a ≡ b → ⊥) → con a ≡ none
-
--- Held equal: two different sites of one class
-pub record Held (rep : ℕ → ℕ) (a b : ℕ) : Type 0 where
-  pub same : rep a ≡ rep b
-  pub two : a ≡ b → ⊥
 
 -- ---- the values: an unconstrained site's is a number of its class, at the type t; a constrained site's is its shape over its children's
 

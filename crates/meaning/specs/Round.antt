@@ -8,8 +8,8 @@ use Rattle.paper.specs.Inputs.{Value, and-then, Meets, Agree, Given}
 use Rattle.paper.specs.declared.Constraint.{Constraint}
 use Rattle.paper.specs.Sites.{child-count}
 use Rattle.meaning.specs.Values.{proj-at, field, field-has, field-ext}
-use Rattle.meaning.specs.Kinds.{Kind, child-of, Reads, Fulfils}
-use Rattle.meaning.specs.Model.{Rooted, top, under, Held}
+use Rattle.meaning.specs.Kinds.{Kind, child-of, Reads, Fulfils, Held, class-same}
+use Rattle.meaning.specs.Model.{Rooted, top, under}
 
 -- the children of the constrained sites are in the table
 pub record Grown (kind : ℕ → Kind) (con : ℕ → Option Constraint) (kid : ℕ → Constraint → ℕ → ℕ) : Type 0 where
@@ -47,14 +47,6 @@ rooted-has kind con at I M n (under m p c i e f g) =
     let x = M m c f in
     let y = field-has c (x .value) p i (x .shaped) g in
     (y .0, I .child-has n m p e ∙ rw (x .there) (y .1))
-
--- the sites of one class agree, also a site with itself
-pub class-same : (con : ℕ → Option Constraint) (rep : ℕ → ℕ) (at : Given) → Fulfils at con (Held rep) → (a b : ℕ) → rep a ≡ rep b → at a ≡ at b
-class-same con rep at M a b e = go (ℕ-discrete a b)
-  where
-    go : Dec (a ≡ b) → at a ≡ at b
-    go (yes q) = ap at q
-    go (no q) = let h = M .agrees a b (record { same = e; two = q }) in h .one ∙ sym (h .other)
 
 module _ (kind : ℕ → Kind) (kid : ℕ → Constraint → ℕ → ℕ) (con : ℕ → Option Constraint) (rep : ℕ → ℕ) (con′ : ℕ → Option Constraint) (rep′ : ℕ → ℕ) (low : ℕ) (c : Constraint)
     (R : Round kid con rep con′ rep′ low c) (at : Given) (I : Reads kind at) where

@@ -20,9 +20,9 @@ use Rattle.paper.specs.Adding.{Extends, Has}
 use Rattle.paper.specs.Tables.{lowest-is, lowest-own, of-members, in-members}
 use Rattle.paper.specs.Fair.{Fair, grow-all-sound, grow-all-extends, grow-all-has, round-fair}
 use Rattle.paper.specs.Taking.{Taken, taken}
-use Rattle.meaning.specs.Kinds.{kind-in, Reads, Fulfils}
-use Rattle.meaning.specs.Model.{Rooted, Held}
-use Rattle.meaning.specs.Round.{State, Left, old, kids, self, back, via, Round, class-same, round-same}
+use Rattle.meaning.specs.Kinds.{kind-in, Reads, Fulfils, Held, class-same}
+use Rattle.meaning.specs.Model.{Rooted}
+use Rattle.meaning.specs.Round.{State, Left, old, kids, self, back, via, Round, round-same}
 use Rattle.meaning.specs.Whole.{Rounds, no-more, one-more, state-after}
 use Rattle.meaning.specs.Eval.{value-of, value-of-input, value-of-grow, Lower}
 use Rattle.meaning.specs.Places.{kind-stays, child-stays, child-kind, places-of}

@@ -10,9 +10,9 @@ use Rattle.paper.specs.declared.Constraint.{Constraint}
 use Rattle.paper.specs.declared.Item.{Item}
 use Rattle.paper.specs.declared.Item.the-variants.{Is, Equal}
 use Rattle.meaning.specs.Values.{proj-at, field-of-proj-at}
-use Rattle.meaning.specs.Kinds.{Kind, Places, Reads, Fulfils}
-use Rattle.meaning.specs.Model.{Rooted, top, under, Held, Solved, model-exists, forced-shape, forced-equal}
-use Rattle.meaning.specs.Round.{Grown, State, Left, old, kids, self, back, via, Round, class-same, rooted-has, round-same}
+use Rattle.meaning.specs.Kinds.{Kind, Places, Reads, Fulfils, Held, class-same}
+use Rattle.meaning.specs.Model.{Rooted, top, under, Solved, model-exists, forced-shape, forced-equal}
+use Rattle.meaning.specs.Round.{Grown, State, Left, old, kids, self, back, via, Round, rooted-has, round-same}
 
 -- ---- a round keeps what a state promises
 
