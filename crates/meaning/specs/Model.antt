@@ -177,17 +177,17 @@ module _ (kind : ℕ → Kind) (room : ℕ) (con : ℕ → Option Constraint) (k
   unfolding at
   at-is n x e = placed-at-is con (kind n) (the n) x e
 
+  plain-equal : (a b : ℕ) → con a ≡ none → con b ≡ none → Agree at a b → rep a ≡ rep b
+  unfolding leaf
+  plain-equal a b e f h =
+      let q : int t 0 (rep a) ≡ int t 0 (rep b) = sym (the-none a e) ∙ (sym (at-is a (h .value) (h .one)) ∙ (at-is b (h .value) (h .other) ∙ the-none b f)) in
+      cc
+
   plain-shape : (n : ℕ) (c : Constraint) → con n ≡ none → Meets at n c → c ≡ ConstInt t 0 (rep n)
   unfolding leaf shape
   plain-shape n c e h =
       let q : h .value ≡ leaf t (rep n) = at-is n (h .value) (h .there) ∙ the-none n e in
       let s : some c ≡ some (ConstInt t 0 (rep n)) = sym (h .shaped) ∙ ap shape q in
-      cc
-
-  plain-equal : (a b : ℕ) → con a ≡ none → con b ≡ none → Agree at a b → rep a ≡ rep b
-  unfolding leaf
-  plain-equal a b e f h =
-      let q : int t 0 (rep a) ≡ int t 0 (rep b) = sym (the-none a e) ∙ (sym (at-is a (h .value) (h .one)) ∙ (at-is b (h .value) (h .other) ∙ the-none b f)) in
       cc
 
 -- ---- the theorem, of a table and a solved form
