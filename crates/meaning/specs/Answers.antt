@@ -23,6 +23,8 @@ use Rattle.paper.specs.Tables.{Rising, lowest-is}
 use Rattle.paper.specs.Fair.{no-items, load-fair}
 use Rattle.paper.specs.Making.{load-done}
 use Rattle.meaning.specs.Kinds.{kind-in, Fulfils, input-is, Held}
+use Rattle.meaning.specs.Model.{Solved}
+use Rattle.meaning.specs.Places.{child-kind}
 use Rattle.meaning.specs.Whole as H
 use Rattle.meaning.specs.Grow.{Full, full-of, input-part, input-more}
 use Rattle.meaning.specs.Joining.{Well, label-of}
@@ -70,6 +72,9 @@ pub record Stands (t : Sites) (k : Kept) : Type 0 where
   pub well : Well (k .equals)
   pub full : Full t (look (k .constraints)) (lowest (k .equals))
   pub free : (a b : ℕ) → lowest (k .equals) a ≡ lowest (k .equals) b → (a ≡ b → ⊥) → look (k .constraints) a ≡ none
+
+pub form : (t : Sites) (k : Kept) → Stands t k → Solved (kind-in t) (look (k .constraints)) (child-number t) (lowest (k .equals))
+form t k W = record { kids = λ n c i e l. child-kind t n c i (W .full .has n c i e l); rooted = W .full .rooted; joined-rooted = W .full .joined-rooted; joined-free = W .free }
 
 -- how a rule came to be kept: what its items left, and what the rounds made of it
 pub record Came (g : Set) (r : Written) (h : Set) (k : Kept) (l : Loading) (f : Solving) : Type 0 where
@@ -183,12 +188,12 @@ module _ (g : Set) (r : Written) (h : Set) (k : Kept) (S : Sound (g .sites)) (l 
   -- and the kept rule is a solved form
   pub stands : Stands (h .sites) k
   stands =
-      let form = H.solved K in
+      let solved = H.solved K in
       record {
         rising = rw (E .constraints-are) (R .fair .ascending);
         well = well;
-        full = rw (E .sites-are, E .constraints-are, E .equals-are) (full-of (f .sites) (look (f .constraints)) (lowest (f .classes)) (form .kids) (form .rooted) (form .joined-rooted));
-        free = rw (E .constraints-are, E .equals-are) (form .joined-free);
+        full = rw (E .sites-are, E .constraints-are, E .equals-are) (full-of (f .sites) (look (f .constraints)) (lowest (f .classes)) (solved .kids) (solved .rooted) (solved .joined-rooted));
+        free = rw (E .constraints-are, E .equals-are) (solved .joined-free);
       }
 
 -- ---- the same, of `load` and over the sites of the rule

@@ -17,10 +17,11 @@ use Rattle.paper.specs.Labels.{never, look-here, look-past}
 use Rattle.paper.specs.Tables.{Rising, look-in, above, lowest-is}
 use Rattle.paper.specs.Making.{load-sound}
 use Rattle.meaning.specs.Kinds.{kind-in, input-is}
-use Rattle.meaning.specs.Model.{Solved, forced-shape, forced-equal}
-use Rattle.meaning.specs.Places.{places-of, child-kind}
+use Rattle.meaning.specs.Model.{forced-equal}
+use Rattle.meaning.specs.Places.{places-of}
 use Rattle.meaning.specs.Joining.{label-of}
-use Rattle.meaning.specs.Answers.{Stands, fulfils-kept}
+use Rattle.meaning.specs.Answers.{Stands, form, fulfils-kept}
+use Rattle.meaning.specs.Pairs.{stands-shape}
 use Rattle.meaning.specs.Answers as A
 use Rattle.meaning.specs.Demand3.{Keeps, demand-2}
 
@@ -61,17 +62,13 @@ same-table {A} lo hi ((n, a) ∷ s) ((m, b) ∷ t) R Q f = go (ℕ-discrete n m)
 
 -- ---- two solved forms
 
-form : (t : Sites) (k : Kept) → Stands t k → Solved (kind-in t) (look (k .constraints)) (child-number t) (lowest (k .equals))
-form t k W = record { kids = λ n c i e l. child-kind t n c i (W .full .has n c i e l); rooted = W .full .rooted; joined-rooted = W .full .joined-rooted; joined-free = W .free }
-
 abbrev Within : Sites → Kept → Kept → Type 0
 Within t j k = (at : Given) → Input t at → MatchesKept at k → MatchesKept at j
 
 module _ (t : Sites) (S : Sound t) (j k : Kept) (J : Stands t j) (K : Stands t k) (within : Within t j k) where
   -- what j constrains, k constrains so
   same-constraint-at : (n : ℕ) (c : Constraint) → look (j .constraints) n ≡ some c → look (k .constraints) n ≡ some c
-  same-constraint-at n c e = forced-shape (kind-in t) (length t) (look (k .constraints)) (child-number t) (lowest (k .equals)) (places-of t S) (form t k K) n c
-      (λ at I F. within at (input-is t at .1 I) (fulfils-kept k (K .well) at .1 F) .meets n c e)
+  same-constraint-at n c e = stands-shape t S k K n c .1 (λ at I M. within at I M .meets n c e)
 
   -- what j holds equal, k does, unless it is constrained there
   same-class-at : ((n : ℕ) → look (j .constraints) n ≡ look (k .constraints) n) → (a b : ℕ) → lowest (j .equals) a ≡ lowest (j .equals) b → lowest (k .equals) a ≡ lowest (k .equals) b

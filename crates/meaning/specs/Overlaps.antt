@@ -1,18 +1,33 @@
 -- 01, "Two rules, many rules": what the comparison of two kept rules of a set means. (Pairs.antt has the proofs.)
 use mathlib.Core.Path.{_≡_}
+use mathlib.Core.Option.{none, some}
 use mathlib.Core.Bool.{true}
 use mathlib.Core.Logic.{_↔_, _⊎_, inl, inr}
 use mathlib.Core.List.{List, List·Memᴰ}
-use Prim.Native.Nat.{_≤_, _<_}
+use Prim.Native.Nat.{ℕ, _≤_, _<_}
 use native.Mathlib.Omega.{arith}
 use lib.ListN.{length}
 use borrow.Author.Tests.{le-leb, lt-leb}
 use Rattle.paper.specs.declared.Overlap.the-variants.{No, Subset}
-use Rattle.paper.specs.Inputs.{Given, Input, MatchesKept}
+use Rattle.paper.specs.declared.Constraint.{Constraint}
+use Rattle.paper.specs.Words.{look}
+use Rattle.paper.specs.Inputs.{Given, Input, Meets, Agree, MatchesKept}
 use Rattle.paper.specs.Loading.{Set, Kept, Made}
 use Rattle.paper.specs.Rules.{no-equals, compare-with, may-overlap, rank, masks}
 use Rattle.paper.specs.Making.{made-sound}
-use Rattle.meaning.specs.Pairs.{made-stands, overlap-no, Common, overlap-either, compare-subset, subset-compare, masks-covers}
+use Rattle.meaning.specs.Demand3.{Holds-equal}
+use Rattle.meaning.specs.Pairs.{made-stands, stands-matched, stands-shape, stands-equal, overlap-no, Common, overlap-either, compare-subset, subset-compare, masks-covers}
+
+-- Each kept rule of a set, however the set grew since: it has a matching input, and says all that its inputs have in common.
+module _ (g : Set) (M : Made g) (k : Kept) (in-k : List·Memᴰ k (g .kept)) where
+  pub has-input : (at : Given) × Input (g .sites) at × MatchesKept at k
+  has-input = stands-matched (g .sites) (made-sound M) k (made-stands M k in-k)
+
+  pub forces-shape : (n : ℕ) (c : Constraint) → (look (k .constraints) n ≡ some c) ↔ ((at : Given) → Input (g .sites) at → MatchesKept at k → Meets at n c)
+  forces-shape = stands-shape (g .sites) (made-sound M) k (made-stands M k in-k)
+
+  pub forces-equal : (a b : ℕ) → (a ≡ b → ⊥) → look (k .constraints) a ≡ none → look (k .constraints) b ≡ none → Holds-equal k a b ↔ ((at : Given) → Input (g .sites) at → MatchesKept at k → Agree at a b)
+  forces-equal = stands-equal (g .sites) (made-sound M) k (made-stands M k in-k)
 
 module _ (g : Set) (M : Made g) (a b : Kept) (in-a : List·Memᴰ a (g .kept)) (in-b : List·Memᴰ b (g .kept)) where
   -- "No means no input matches both"

@@ -2,7 +2,7 @@
 use mathlib.Core.Path.{_≡_, refl, sym, ap, _∙_}
 use mathlib.Core.Option.{Option, none, some}
 use mathlib.Core.Bool.{Bool, true, false, not, _&&_}
-use mathlib.Core.Logic.{_⊎_, inl, inr}
+use mathlib.Core.Logic.{_↔_, _⊎_, inl, inr}
 use mathlib.Core.List.{List, [], _∷_, _++_, List·Memᴰ, List·Memᴰ·head, List·Memᴰ·tail, List·Memᴰ·append-cases, List·Memᴰ·eq-of-singleton}
 use Prim.Native.Nat.{ℕ, _+_, _≤_, _<_}
 use native.Mathlib.Omega.{arith}
@@ -14,7 +14,7 @@ use Rattle.paper.specs.declared.Overlap.{Overlap}
 use Rattle.paper.specs.declared.Overlap.the-variants.{No, Yes, Subset}
 use Rattle.paper.specs.Words.{if_then_else_, look, every}
 use Rattle.paper.specs.Sites.{Sites, same-constraint, child-count, child-number, Sound}
-use Rattle.paper.specs.Inputs.{Given, Input, MatchesKept, shape}
+use Rattle.paper.specs.Inputs.{Given, Input, Meets, Agree, MatchesKept, shape}
 use Rattle.paper.specs.Loading.{Set, Kept, Labels, Constraints, Made, begun, site-added, rule-loaded, lowest, empty-set, with-sites}
 use Rattle.paper.specs.Rules.{other-there, same-there, differ, within, no-equals, compare-with, may-overlap, total, rank, subset?, masks}
 use Rattle.paper.specs.Laws.{same-constraint-true}
@@ -23,15 +23,17 @@ use Rattle.paper.specs.Adding.{Extends, add-extends}
 use Rattle.paper.specs.Tables.{look-in, in-look}
 use Rattle.paper.specs.Making.{made-sound}
 use Rattle.meaning.specs.Values.{proj-at}
-use Rattle.meaning.specs.Kinds.{child-of, kind-in, input-is}
-use Rattle.meaning.specs.Model.{Rooted, Solved, model-exists, forced-shape}
+use Rattle.meaning.specs.Kinds.{child-of, kind-in, Held, input-is}
+use Rattle.meaning.specs.Model.{Rooted, Solved, model-exists, forced-shape, forced-equal}
 use Rattle.meaning.specs.Whole.{rooted-stays}
 use Rattle.meaning.specs.Places.{places-of, child-kind}
 use Rattle.meaning.specs.Grow.{full-grows}
 use Rattle.meaning.specs.Lists.{of-any, in-any}
 use Rattle.meaning.specs.Items.{same-constraint-refl}
+use Rattle.meaning.specs.Joining.{label-of}
+use Rattle.meaning.specs.Demand3.{Holds-equal}
 use Rattle.meaning.specs.Answers as A
-use Rattle.meaning.specs.Answers.{Stands, fulfils-kept, last-kept}
+use Rattle.meaning.specs.Answers.{Stands, form, fulfils-kept, last-kept}
 
 -- ---- the kept rules of a made set are solved forms
 
@@ -50,6 +52,27 @@ made-stands (rule-loaded {g = g} {h = h} r M e) k m = go (last-kept g r h e) (λ
         pick : List·Memᴰ k (g .kept) ⊎ List·Memᴰ k (j ∷ []) → Stands (h .sites) k
         pick (inl z) = let w = A.grown g r (made-sound M) h j e last in stands-on (g .sites) (h .sites) k (λ i s f. w .1 i s (w .0 i s f)) (before k z)
         pick (inr z) = let y = List·Memᴰ·eq-of-singleton z in rw y (A.new-stands g r (made-sound M) h j e last)
+
+-- ---- what a kept rule forces, in its set however that grew
+
+module _ (t : Sites) (S : Sound t) (k : Kept) (W : Stands t k) where
+  abbrev con : ℕ → Option Constraint
+  con = look (k .constraints)
+
+  abbrev rep : ℕ → ℕ
+  rep = lowest (k .equals)
+
+  pub stands-matched : (at : Given) × Input t at × MatchesKept at k
+  stands-matched = let m = model-exists (kind-in t) (length t) con (child-number t) rep (places-of t S) (form t k W) in (m .0, input-is t (m .0) .1 (m .1), fulfils-kept k (W .well) (m .0) .1 (m .2))
+
+  pub stands-shape : (n : ℕ) (c : Constraint) → (look (k .constraints) n ≡ some c) ↔ ((at : Given) → Input t at → MatchesKept at k → Meets at n c)
+  stands-shape n c = (λ e at I M. M .meets n c e, λ h. forced-shape (kind-in t) (length t) con (child-number t) rep (places-of t S) (form t k W) n c (λ at I F. h at (input-is t at .1 I) (fulfils-kept k (W .well) at .1 F)))
+
+  pub stands-equal : (a b : ℕ) → (a ≡ b → ⊥) → look (k .constraints) a ≡ none → look (k .constraints) b ≡ none → Holds-equal k a b ↔ ((at : Given) → Input t at → MatchesKept at k → Agree at a b)
+  stands-equal a b d p q = (λ e at I M. M .agrees a b (e .0) (e .1) (e .2), λ h. held (forced-equal (kind-in t) (length t) con (child-number t) rep (places-of t S) (form t k W) a b d p q (λ at I F. h at (input-is t at .1 I) (fulfils-kept k (W .well) at .1 F))))
+    where
+      held : Held rep a b → Holds-equal k a b
+      held e = (rep a, label-of (k .equals) (W .well) a b (e .same) d, label-of (k .equals) (W .well) b a (sym (e .same)) (λ z. d (sym z)) ∙ ap some (sym (e .same)))
 
 -- ---- the tests, as facts
 
@@ -174,8 +197,8 @@ module _ (t : Sites) (S : Sound t) (a b : Kept) (W : Stands t a) (X : Stands t b
       go none q f = inr f
       go (some d) q f = inl (q ∙ f)
 
-  form : Solved (kind-in t) both (child-number t) (λ n. n)
-  form = record {
+  both-form : Solved (kind-in t) both (child-number t) (λ n. n)
+  both-form = record {
     kids = λ n c i e h. kids n c i h (of-both n c e);
     rooted = λ n c e. rooted n c (of-both n c e);
     joined-rooted = λ x y e d. absurd (d e);
@@ -192,7 +215,7 @@ module _ (t : Sites) (S : Sound t) (a b : Kept) (W : Stands t a) (X : Stands t b
 
   pub common : (at : Given) × Input t at × MatchesKept at a × MatchesKept at b
   common =
-      let m = model-exists (kind-in t) (length t) both (child-number t) (λ n. n) (places-of t S) form in (
+      let m = model-exists (kind-in t) (length t) both (child-number t) (λ n. n) (places-of t S) both-form in (
         m .0,
         input-is t (m .0) .1 (m .1),
         record { meets = λ n c e. m .2 .meets n c (from-a n c e); agrees = λ x y low p q. absurd (no-labels (a .equals) none-a x low p) },
@@ -240,12 +263,8 @@ pub subset-compare : (t : Sites) → Sound t → (small large : Kept) → Stands
 unfolding within differ
 subset-compare t S small large W X ns nl h = go (compared small large)
   where
-    form-large : Solved (kind-in t) (look (large .constraints)) (child-number t) (lowest (large .equals))
-    form-large = record { kids = λ n c i e l. child-kind t n c i (X .full .has n c i e l); rooted = X .full .rooted; joined-rooted = X .full .joined-rooted; joined-free = X .free }
-
     forced : (n : ℕ) (c : Constraint) → look (small .constraints) n ≡ some c → look (large .constraints) n ≡ some c
-    forced n c e = forced-shape (kind-in t) (length t) (look (large .constraints)) (child-number t) (lowest (large .equals)) (places-of t S) form-large n c
-        (λ at I F. h at (input-is t at .1 I) (fulfils-kept large (X .well) at .1 F) .meets n c e)
+    forced n c e = stands-shape t S large X n c .1 (λ at I M. h at I M .meets n c e)
 
     one : (x : ℕ × Constraint) → List·Memᴰ x (small .constraints) → same-there (look (large .constraints) (x .0)) (x .1) ≡ true
     one (n, c) m = let e = forced n c (in-look 0 (small .constraints) (n, c) (W .rising) m) in rw e (same-constraint-refl c)
