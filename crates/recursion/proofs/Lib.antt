@@ -1,0 +1,8 @@
+-- Laws of the definitions of specs/.
+pub mod Turns
+pub mod Bits
+pub mod Lists
+pub mod Marks
+pub mod Closing
+pub mod Shape
+pub mod Answers

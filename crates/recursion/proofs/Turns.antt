@@ -1,0 +1,140 @@
+-- What one body or one turn of a loop makes, as the code has it.
+use mathlib.Core.Path.{_≡_, refl, sym, _∙_, ap}
+use mathlib.Core.Bool.{Bool, true, false, _&&_, not}
+use mathlib.Core.List.{List, [], _∷_}
+use Prim.Native.Nat.{ℕ, zero, suc, _+_, _*_, _/_, _%_, _^_, _≤_, _<_}
+use native.Mathlib.Omega.{arith}
+use native.Mathlib.Numerals.{add-one}
+use native.Mathlib.Nat.{one-mul}
+use lib.ListN.{getD, set}
+use lib.Dec.{eqb, leb}
+use lib.Bits.{bitAnd, bitOr, and-mask}
+use lib.Pow.{shl-exact}
+use borrow.Author.Tests.{le-leb, lt-leb}
+use Rattle.paper.specs.Words.{if_then_else_, returns}
+use Rattle.paper.specs.Numbers.{max-term, Outcome, done, refused, _>>=_, demand}
+use Rattle.paper.specs.declared.Refusal.the-variants.{TermTooHigh}
+use Rattle.recursion.specs.declared.Added.the-variants as Added-is
+use Rattle.recursion.specs.declared.Asked.the-variants as Asked-is
+use Rattle.recursion.specs.Table.{terms, Square, row, in-row, marked, row-with, with-mark, edges-in, if-term, with-edge, with-term, has-edge, is-cyclic, left, bare, added, asked}
+use Rattle.recursion.specs.Loops.{both-of, has-some, join-at, join-to, pass, reach-to, on-diagonal}
+
+-- ---- a mark, read and written
+
+pub read-row : (r : List ℕ) (b : ℕ) → eqb (bitAnd (getD r (b / 64) 0 / 2 ^ (b % 64)) 1) 1 ≡ in-row r b
+unfolding in-row
+read-row r b = ap (λ (v : ℕ). eqb v 1) (and-mask (getD r (b / 64) 0 / 2 ^ (b % 64)) 1)
+
+pub read : (t : Square) (a b : ℕ) → eqb (bitAnd (getD (getD t a []) (b / 64) 0 / 2 ^ (b % 64)) 1) 1 ≡ marked t a b
+unfolding marked
+read t a b = read-row (getD t a []) b
+
+one-bit : (s : ℕ) → s < 64 → (1 * 2 ^ s) % 2 ^ 64 ≡ 2 ^ s
+one-bit s h = shl-exact {a = 1} 1 s 64 (omega arith) (omega arith) ∙ one-mul (2 ^ s)
+
+write-row : (r : List ℕ) (b : ℕ) → set r (b / 64) (bitOr (getD r (b / 64) 0) ((1 * 2 ^ (b % 64)) % 2 ^ 64)) ≡ row-with r b
+unfolding row-with
+write-row r b = rw (one-bit (b % 64) (omega arith))
+
+-- ---- "term numbers to 255"
+
+within : {A : Type 0} (a : ℕ) (o : Outcome A) → a < terms → if-term a o ≡ o
+unfolding if-term
+within a o h = simp (le-leb a max-term (omega arith))
+
+over : {A : Type 0} (a : ℕ) (o : Outcome A) → terms ≤ a → if-term a o ≡ refused (TermTooHigh a)
+unfolding if-term
+over a o h = simp (lt-leb a max-term (omega arith))
+
+module _ (t : Square) (a b : ℕ) where
+  from-over : terms ≤ a → with-edge t a b ≡ refused (TermTooHigh a)
+  unfolding with-edge
+  from-over h = over a _ h
+
+  to-over : a < terms → terms ≤ b → with-edge t a b ≡ refused (TermTooHigh b)
+  unfolding with-edge
+  to-over h k = within a _ h ∙ over b _ k
+
+  both-within : a < terms → b < terms → with-edge t a b ≡ done (with-mark t a b)
+  unfolding with-edge
+  both-within h k = within a _ h ∙ within b _ k
+
+  pub add-from : terms ≤ a → (added (Added-is.Refused (TermTooHigh a)) ≡ bare (with-edge t a b)) × (t ≡ left t (with-edge t a b))
+  unfolding added
+  add-from h = (sym (ap bare (from-over h)), sym (ap (left t) (from-over h)))
+
+  pub add-to : a < terms → terms ≤ b → (added (Added-is.Refused (TermTooHigh b)) ≡ bare (with-edge t a b)) × (t ≡ left t (with-edge t a b))
+  unfolding added
+  add-to h k = (sym (ap bare (to-over h k)), sym (ap (left t) (to-over h k)))
+
+  pub add-done : a < terms → b < terms
+      → (added Added-is.Done ≡ bare (with-edge t a b))
+      × (set t a (set (getD t a []) (b / 64) (bitOr (getD (getD t a []) (b / 64) 0) ((1 * 2 ^ (b % 64)) % 2 ^ 64))) ≡ left t (with-edge t a b))
+  unfolding added with-mark
+  add-done h k = (sym (ap bare (both-within h k)), ap (set t a) (write-row (getD t a []) b) ∙ sym (ap (left t) (both-within h k)))
+
+  pub edge-from : terms ≤ a → asked (Asked-is.Refused (TermTooHigh a)) ≡ has-edge t a b
+  unfolding asked has-edge
+  edge-from h = sym (over a _ h)
+
+  pub edge-to : a < terms → terms ≤ b → asked (Asked-is.Refused (TermTooHigh b)) ≡ has-edge t a b
+  unfolding asked has-edge
+  edge-to h k = sym (within a _ h ∙ over b _ k)
+
+  pub edge-told : {x : Bool} → a < terms → b < terms → x ≡ marked t a b → asked (Asked-is.Answer x) ≡ has-edge t a b
+  unfolding asked has-edge
+  edge-told h k e = ap done e ∙ sym (within a _ h ∙ within b _ k)
+
+module _ (r : List ℕ) (a : ℕ) where
+  pub flag-over : terms ≤ a → (added (Added-is.Refused (TermTooHigh a)) ≡ bare (with-term r a)) × (r ≡ left r (with-term r a))
+  unfolding added with-term
+  flag-over h = (sym (ap bare (over a (done (row-with r a)) h)), sym (ap (left r) (over a (done (row-with r a)) h)))
+
+  pub flag-done : a < terms
+      → (added Added-is.Done ≡ bare (with-term r a)) × (set r (a / 64) (bitOr (getD r (a / 64) 0) ((1 * 2 ^ (a % 64)) % 2 ^ 64)) ≡ left r (with-term r a))
+  unfolding added with-term
+  flag-done h =
+      (sym (ap bare (within a (done (row-with r a)) h)), write-row r a ∙ sym (ap (left r) (within a (done (row-with r a)) h)))
+
+module _ (t : Square) (a : ℕ) where
+  pub cyclic-over : terms ≤ a → asked (Asked-is.Refused (TermTooHigh a)) ≡ is-cyclic t a
+  unfolding asked is-cyclic
+  cyclic-over h = sym (over a _ h)
+
+  pub cyclic-told : {x : Bool} → a < terms → x ≡ returns (edges-in t) a → asked (Asked-is.Answer x) ≡ is-cyclic t a
+  unfolding asked is-cyclic
+  cyclic-told h e = ap done e ∙ sym (within a _ h)
+
+-- ---- the loops
+
+pub joined-in : (t : Square) (i k : ℕ) (r : List ℕ) {x : List ℕ} → x ≡ both-of (row t i) r → marked t i k ≡ true → set t i x ≡ join-at t i k r
+unfolding join-at
+joined-in t i k r e m = ap (set t i) e ∙ sym (simp m)
+
+pub joined-out : (t : Square) (i k : ℕ) (r : List ℕ) → marked t i k ≡ false → t ≡ join-at t i k r
+unfolding join-at
+joined-out t i k r m = sym (simp m)
+
+pub join-turn : (t₀ t u : Square) (i k : ℕ) (r : List ℕ) → t ≡ join-to i t₀ k r → u ≡ join-at t i k r → u ≡ join-to (i + 1) t₀ k r
+unfolding join-to
+join-turn t₀ t u i k r q e = rw (add-one, ← q) e
+
+pub passed-in : (t : Square) (k : ℕ) {u : Square} → u ≡ join-to terms t k (row t k) → has-some (row t k) ≡ true → u ≡ pass t k
+unfolding pass
+passed-in t k e m = e ∙ sym (simp m)
+
+pub passed-out : (t : Square) (k : ℕ) → has-some (row t k) ≡ false → t ≡ pass t k
+unfolding pass
+passed-out t k m = sym (simp m)
+
+pub reach-turn : (t₀ t u : Square) (k : ℕ) → t ≡ reach-to k t₀ → u ≡ pass t k → u ≡ reach-to (k + 1) t₀
+unfolding reach-to
+reach-turn t₀ t u k q e = rw (add-one, ← q) e
+
+pub diagonal-in : (t : Square) (but : List ℕ) (i : ℕ) {x : Bool} → marked t i i ≡ true → x ≡ in-row but i → not x ≡ on-diagonal t but i
+unfolding on-diagonal
+diagonal-in t but i m e = ap not e ∙ sym (simp m)
+
+pub diagonal-out : (t : Square) (but : List ℕ) (i : ℕ) → marked t i i ≡ false → false ≡ on-diagonal t but i
+unfolding on-diagonal
+diagonal-out t but i m = sym (simp m)
