@@ -6,3 +6,6 @@ pub mod Marks
 pub mod Closing
 pub mod Shape
 pub mod Answers
+pub mod Adding
+pub mod Example
+pub mod Meaning

@@ -47,15 +47,15 @@ unfolding if-term
 over a o h = simp (lt-leb a max-term (omega arith))
 
 module _ (t : Square) (a b : ℕ) where
-  from-over : terms ≤ a → with-edge t a b ≡ refused (TermTooHigh a)
+  pub from-over : terms ≤ a → with-edge t a b ≡ refused (TermTooHigh a)
   unfolding with-edge
   from-over h = over a _ h
 
-  to-over : a < terms → terms ≤ b → with-edge t a b ≡ refused (TermTooHigh b)
+  pub to-over : a < terms → terms ≤ b → with-edge t a b ≡ refused (TermTooHigh b)
   unfolding with-edge
   to-over h k = within a _ h ∙ over b _ k
 
-  both-within : a < terms → b < terms → with-edge t a b ≡ done (with-mark t a b)
+  pub both-within : a < terms → b < terms → with-edge t a b ≡ done (with-mark t a b)
   unfolding with-edge
   both-within h k = within a _ h ∙ within b _ k
 
@@ -86,24 +86,36 @@ module _ (t : Square) (a b : ℕ) where
   edge-told h k e = ap done e ∙ sym (within a _ h ∙ within b _ k)
 
 module _ (r : List ℕ) (a : ℕ) where
+  pub term-over : terms ≤ a → with-term r a ≡ refused (TermTooHigh a)
+  unfolding with-term
+  term-over h = over a _ h
+
+  pub term-within : a < terms → with-term r a ≡ done (row-with r a)
+  unfolding with-term
+  term-within h = within a _ h
+
   pub flag-over : terms ≤ a → (added (Added-is.Refused (TermTooHigh a)) ≡ bare (with-term r a)) × (r ≡ left r (with-term r a))
-  unfolding added with-term
-  flag-over h = (sym (ap bare (over a (done (row-with r a)) h)), sym (ap (left r) (over a (done (row-with r a)) h)))
+  unfolding added
+  flag-over h = (sym (ap bare (term-over h)), sym (ap (left r) (term-over h)))
 
   pub flag-done : a < terms
-      → (added Added-is.Done ≡ bare (with-term r a)) × (set r (a / 64) (bitOr (getD r (a / 64) 0) ((1 * 2 ^ (a % 64)) % 2 ^ 64)) ≡ left r (with-term r a))
-  unfolding added with-term
-  flag-done h =
-      (sym (ap bare (within a (done (row-with r a)) h)), write-row r a ∙ sym (ap (left r) (within a (done (row-with r a)) h)))
+      → (added Added-is.Done ≡ bare (with-term r a))
+      × (set r (a / 64) (bitOr (getD r (a / 64) 0) ((1 * 2 ^ (a % 64)) % 2 ^ 64)) ≡ left r (with-term r a))
+  unfolding added
+  flag-done h = (sym (ap bare (term-within h)), write-row r a ∙ sym (ap (left r) (term-within h)))
 
 module _ (t : Square) (a : ℕ) where
   pub cyclic-over : terms ≤ a → asked (Asked-is.Refused (TermTooHigh a)) ≡ is-cyclic t a
   unfolding asked is-cyclic
   cyclic-over h = sym (over a _ h)
 
+  pub cyclic-within : a < terms → is-cyclic t a ≡ done (returns (edges-in t) a)
+  unfolding is-cyclic
+  cyclic-within h = within a _ h
+
   pub cyclic-told : {x : Bool} → a < terms → x ≡ returns (edges-in t) a → asked (Asked-is.Answer x) ≡ is-cyclic t a
-  unfolding asked is-cyclic
-  cyclic-told h e = ap done e ∙ sym (within a _ h)
+  unfolding asked
+  cyclic-told h e = ap done e ∙ sym (cyclic-within h)
 
 -- ---- the loops
 

@@ -78,6 +78,15 @@ abbrev pub left : {A : Type 0} → A → Outcome A → A
 left old (done new) = new
 left old (refused r) = old
 
+-- what is left after one call for each edge; for each term
+unfoldable pub with-edges : Square → Edges → Square
+with-edges t [] = t
+with-edges t (e ∷ es) = with-edges (left t (with-edge t (e .0) (e .1))) es
+
+unfoldable pub with-terms : List ℕ → List ℕ → List ℕ
+with-terms r [] = r
+with-terms r (a ∷ ts) = with-terms (left r (with-term r a)) ts
+
 -- an outcome without what it holds
 abbrev pub bare : {A : Type 0} → Outcome A → Outcome (Unit {0})
 bare (done a) = done tt
