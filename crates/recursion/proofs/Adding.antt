@@ -85,13 +85,12 @@ edges-marked (e ∷ es) t a b W ha hb = go (step t (e .0) (e .1) W) (edges-marke
 
     go : Stepped t u e → (marked (with-edges u es) a b ≡ true) ↔ ((marked u a b ≡ true) ⊎ List·Memᴰ (a, b) es)
         → (marked (with-edges u es) a b ≡ true) ↔ ((marked t a b ≡ true) ⊎ List·Memᴰ (a, b) (e ∷ es))
-    go S I =
-        (
-          λ m. ⊎-elim (λ w. ⊎-elim (λ x. inl x) (λ x. inr (List·Memᴰ·head x)) (S .marks a b ha hb .0 w)) (λ w. inr (List·Memᴰ·tail w)) (I .0 m),
-          λ w. I .1
-              (⊎-elim (λ x. inl (S .marks a b ha hb .1 (inl x)))
-              (λ x. ⊎-elim (λ y. inl (S .marks a b ha hb .1 (inr y))) (λ y. inr y) (List·Memᴰ·cases-cons x)) w),
-        )
+    go S I = (
+      λ m. ⊎-elim (λ w. ⊎-elim (λ x. inl x) (λ x. inr (List·Memᴰ·head x)) (S .marks a b ha hb .0 w)) (λ w. inr (List·Memᴰ·tail w)) (I .0 m),
+      λ w. I .1
+          (⊎-elim (λ x. inl (S .marks a b ha hb .1 (inl x)))
+          (λ x. ⊎-elim (λ y. inl (S .marks a b ha hb .1 (inr y))) (λ y. inr y) (List·Memᴰ·cases-cons x)) w),
+    )
 
 -- one call after the others, as a loop makes them
 pub edges-append : (es fs : Edges) (t : Square) → with-edges t (es ++ fs) ≡ with-edges (with-edges t es) fs
@@ -172,10 +171,9 @@ terms-marked (x ∷ ts) r b l hb = go (term-step r x l) (terms-marked ts _ b (te
 
     go : Flagged r s x → (in-row (with-terms s ts) b ≡ true) ↔ ((in-row s b ≡ true) ⊎ List·Memᴰ b ts)
         → (in-row (with-terms s ts) b ≡ true) ↔ ((in-row r b ≡ true) ⊎ List·Memᴰ b (x ∷ ts))
-    go S I =
-        (
-          λ m. ⊎-elim (λ w. ⊎-elim (λ y. inl y) (λ y. inr (List·Memᴰ·head y)) (S .marks b hb .0 w)) (λ w. inr (List·Memᴰ·tail w)) (I .0 m),
-          λ w. I .1
-              (⊎-elim (λ y. inl (S .marks b hb .1 (inl y)))
-              (λ y. ⊎-elim (λ z. inl (S .marks b hb .1 (inr z))) (λ z. inr z) (List·Memᴰ·cases-cons y)) w),
-        )
+    go S I = (
+      λ m. ⊎-elim (λ w. ⊎-elim (λ y. inl y) (λ y. inr (List·Memᴰ·head y)) (S .marks b hb .0 w)) (λ w. inr (List·Memᴰ·tail w)) (I .0 m),
+      λ w. I .1
+          (⊎-elim (λ y. inl (S .marks b hb .1 (inl y)))
+          (λ y. ⊎-elim (λ z. inl (S .marks b hb .1 (inr z))) (λ z. inr z) (List·Memᴰ·cases-cons y)) w),
+    )

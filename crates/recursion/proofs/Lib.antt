@@ -9,3 +9,5 @@ pub mod Answers
 pub mod Adding
 pub mod Example
 pub mod Meaning
+pub mod Ascending
+pub mod Found

@@ -41,11 +41,10 @@ start-of t {a} (more {b = c} m w) = of-edges t a c m .from
 
 pub listed-is : (t : Square) (a : ℕ) → List·Memᴰ a (cyclic-terms t) ↔ Walk (edges-in t) a a
 unfolding cyclic-terms numbers
-listed-is t a =
-    (
-      λ m. returns-is (edges-in t) a .0 (mem-keep (returns (edges-in t)) a numbers .0 m .1),
-      λ w. mem-keep (returns (edges-in t)) a numbers .1 (mem-numbers terms a .1 (start-of t w), returns-is (edges-in t) a .1 w),
-    )
+listed-is t a = (
+  λ m. returns-is (edges-in t) a .0 (mem-keep (returns (edges-in t)) a numbers .0 m .1),
+  λ w. mem-keep (returns (edges-in t)) a numbers .1 (mem-numbers terms a .1 (start-of t w), returns-is (edges-in t) a .1 w),
+)
 
 -- ---- no second answer
 
@@ -102,7 +101,7 @@ square-same t u T U f = ext-getD [] t u (T .whole .rows ∙ sym (U .whole .rows)
     same-row a ha =
         ext-getD 0 (row t a) (row u a) (T .whole .words a ha ∙ sym (U .whole .words a ha))
         (λ q h. let hq : q < words = omega (arith, T .whole .words a ha) in
-            word-same 64 (getD (row t a) q 0) (getD (row u a) q 0) (T .fits a q ha hq) (U .fits a q ha hq) (λ k hk. same-word a q k ha hq hk))
+        word-same 64 (getD (row t a) q 0) (getD (row u a) q 0) (T .fits a q ha hq) (U .fits a q ha hq) (λ k hk. same-word a q k ha hq hk))
 
 -- who reaches whom has one table
 pub one-closure : (t u v : Square) → Stored u → Stored v → Closure t u → Closure t v → u ≡ v
