@@ -2,54 +2,40 @@ use borrow.Author.Needs.{needs}
 use Rattle.recursion.proofs.Turns.{add-from, add-to, add-done}
 use Rattle.recursion.proofs.add.Statement.{statement}
 use Rattle.recursion.proofs.add.Tie as tie
-use Rattle.recursion.proofs.add.Reads as reads
-use Rattle.recursion.proofs.add.Lts as lts
 
--- src/lib.rt:65:9
 returns : tie.Need-returns
 returns c = add-from _ _ _ (c .if1 .taken)
 
--- src/lib.rt:68:9
 returns-2 : tie.Need-returns-2
 returns-2 c = add-to _ _ _ (search needs) (c .if2 .taken)
 
--- src/lib.rt:71:13
 mul-w : tie.Need-mul-w
 mul-w c = search needs
 
--- src/lib.rt:71:13
 mul-w-2 : tie.Need-mul-w-2
 mul-w-2 c = search needs
 
--- src/lib.rt:71:13
 index-1-w : tie.Need-index-1-w
 index-1-w c = search needs
 
--- src/lib.rt:71:13
 index-2-w : tie.Need-index-2-w
 index-2-w c = search needs
 
--- src/lib.rt:72:20
 shl-t : tie.Need-shl-t
 shl-t c = search needs
 
--- src/lib.rt:72:5
 mul-t : tie.Need-mul-t
 mul-t c = search needs
 
--- src/lib.rt:72:5
 mul-t-2 : tie.Need-mul-t-2
 mul-t-2 c = search needs
 
--- src/lib.rt:72:5
 index-1-t : tie.Need-index-1-t
 index-1-t c = search needs
 
--- src/lib.rt:72:5
 index-2-t : tie.Need-index-2-t
 index-2-t c = search needs
 
--- src/lib.rt:58:1
 returns-3 : tie.Need-returns-3
 returns-3 c = add-done _ _ _ (search needs) (search needs)
 

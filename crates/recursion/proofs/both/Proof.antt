@@ -3,42 +3,31 @@ use mathlib.Core.Path.{refl}
 use Rattle.recursion.specs.Loops.{both-of}
 use Rattle.recursion.proofs.both.Statement.{statement}
 use Rattle.recursion.proofs.both.Tie as tie
-use Rattle.recursion.proofs.both.Reads as reads
-use Rattle.recursion.proofs.both.Lts as lts
 
--- src/lib.rt:110:6
 array-read-t7 : tie.Need-array-read-t7
 array-read-t7 c = search needs
 
--- src/lib.rt:110:13
 array-read-t10 : tie.Need-array-read-t10
 array-read-t10 c = search needs
 
--- src/lib.rt:110:19
 array-read-t14 : tie.Need-array-read-t14
 array-read-t14 c = search needs
 
--- src/lib.rt:110:26
 array-read-t17 : tie.Need-array-read-t17
 array-read-t17 c = search needs
 
--- src/lib.rt:110:32
 array-read-t21 : tie.Need-array-read-t21
 array-read-t21 c = search needs
 
--- src/lib.rt:110:39
 array-read-t24 : tie.Need-array-read-t24
 array-read-t24 c = search needs
 
--- src/lib.rt:110:45
 array-read-t28 : tie.Need-array-read-t28
 array-read-t28 c = search needs
 
--- src/lib.rt:110:52
 array-read-t31 : tie.Need-array-read-t31
 array-read-t31 c = search needs
 
--- src/lib.rt:107:1
 returns : tie.Need-returns
 unfolding both-of
 returns c = refl

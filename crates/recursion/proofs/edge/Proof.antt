@@ -2,23 +2,16 @@ use borrow.Author.Needs.{needs}
 use Rattle.recursion.proofs.Turns.{edge-from, edge-to, edge-told}
 use Rattle.recursion.proofs.edge.Statement.{statement}
 use Rattle.recursion.proofs.edge.Tie as tie
-use Rattle.recursion.proofs.edge.Reads as reads
-use Rattle.recursion.proofs.edge.Lts as lts
-use Rattle.recursion.proofs.has.Reads as has-reads
 
--- src/lib.rt:98:9
 returns : tie.Need-returns
 returns c = edge-from _ _ _ (c .if1 .taken)
 
--- src/lib.rt:101:9
 returns-2 : tie.Need-returns-2
 returns-2 c = edge-to _ _ _ (search needs) (c .if2 .taken)
 
--- src/lib.rt:103:19
 has-requires : tie.Need-has-requires
 has-requires c κs = search needs
 
--- src/lib.rt:92:1
 returns-3 : tie.Need-returns-3
 returns-3 c = edge-told _ _ _ (search needs) (search needs) (c .has .ensures)
 

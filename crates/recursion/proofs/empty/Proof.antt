@@ -2,10 +2,7 @@ use mathlib.Core.Path.{refl}
 use Rattle.recursion.specs.Table.{no-edges, no-marks}
 use Rattle.recursion.proofs.empty.Statement.{statement}
 use Rattle.recursion.proofs.empty.Tie as tie
-use Rattle.recursion.proofs.empty.Reads as reads
-use Rattle.recursion.proofs.empty.Lts as lts
 
--- src/lib.rt:33:1
 returns : tie.Need-returns
 unfolding no-edges no-marks
 returns c = refl

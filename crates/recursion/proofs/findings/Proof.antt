@@ -4,20 +4,13 @@ use Rattle.recursion.specs.Table.{listed}
 use Rattle.recursion.proofs.Answers.{unflagged-listed}
 use Rattle.recursion.proofs.findings.Statement.{statement}
 use Rattle.recursion.proofs.findings.Tie as tie
-use Rattle.recursion.proofs.findings.Reads as reads
-use Rattle.recursion.proofs.findings.Lts as lts
-use Rattle.recursion.proofs.list.Reads as list-reads
-use Rattle.recursion.proofs.reach.Reads as reach-reads
 
--- src/lib.rt:218:13
 reach-requires : tie.Need-reach-requires
 reach-requires c κs = search needs
 
--- src/lib.rt:219:5
 list-requires : tie.Need-list-requires
 list-requires c κs = search needs
 
--- src/lib.rt:215:1
 returns : tie.Need-returns
 returns c = c .list .ensures ∙ ap listed (unflagged-listed _ _ (c .before .before .before .reach .ensures) _)
 

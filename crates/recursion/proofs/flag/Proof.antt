@@ -2,34 +2,25 @@ use borrow.Author.Needs.{needs}
 use Rattle.recursion.proofs.Turns.{flag-over, flag-done}
 use Rattle.recursion.proofs.flag.Statement.{statement}
 use Rattle.recursion.proofs.flag.Tie as tie
-use Rattle.recursion.proofs.flag.Reads as reads
-use Rattle.recursion.proofs.flag.Lts as lts
 
--- src/lib.rt:83:9
 returns : tie.Need-returns
 returns c = flag-over _ _ (c .if1 .taken)
 
--- src/lib.rt:86:13
 mul-w : tie.Need-mul-w
 mul-w c = search needs
 
--- src/lib.rt:86:13
 element-copy-out-w : tie.Need-element-copy-out-w
 element-copy-out-w c = search needs
 
--- src/lib.rt:87:17
 shl-r : tie.Need-shl-r
 shl-r c = search needs
 
--- src/lib.rt:87:5
 mul-r : tie.Need-mul-r
 mul-r c = search needs
 
--- src/lib.rt:87:5
 element-write-r : tie.Need-element-write-r
 element-write-r c = search needs
 
--- src/lib.rt:77:1
 returns-2 : tie.Need-returns-2
 returns-2 c = flag-done _ _ (search needs)
 

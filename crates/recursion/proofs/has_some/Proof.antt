@@ -3,26 +3,19 @@ use mathlib.Core.Path.{refl}
 use Rattle.recursion.specs.Loops.{has-some}
 use Rattle.recursion.proofs.has_some.Statement.{statement}
 use Rattle.recursion.proofs.has_some.Tie as tie
-use Rattle.recursion.proofs.has_some.Reads as reads
-use Rattle.recursion.proofs.has_some.Lts as lts
 
--- src/lib.rt:117:5
 array-read-result : tie.Need-array-read-result
 array-read-result c = search needs
 
--- src/lib.rt:117:12
 array-read-result-2 : tie.Need-array-read-result-2
 array-read-result-2 c = search needs
 
--- src/lib.rt:117:19
 array-read-result-3 : tie.Need-array-read-result-3
 array-read-result-3 c = search needs
 
--- src/lib.rt:117:26
 array-read-result-4 : tie.Need-array-read-result-4
 array-read-result-4 c = search needs
 
--- src/lib.rt:114:1
 returns : tie.Need-returns
 unfolding has-some
 returns c = refl

@@ -6,9 +6,6 @@ use Rattle.recursion.specs.Loops.{join-to}
 use Rattle.recursion.proofs.Turns.{join-turn}
 use Rattle.recursion.proofs.join_all.Statement.{statement}
 use Rattle.recursion.proofs.join_all.Tie as tie
-use Rattle.recursion.proofs.join_all.Reads as reads
-use Rattle.recursion.proofs.join_all.Lts as lts
-use Rattle.recursion.proofs.join.Reads as join-reads
 
 abbrev Inv-loop : tie.InvT-loop
 Inv-loop t₀ k r i₀ t i = (i ≤ terms) × (t ≡ join-to i t₀ k r)
@@ -16,28 +13,22 @@ Inv-loop t₀ k r i₀ t i = (i ≤ terms) × (t ≡ join-to i t₀ k r)
 abbrev μ-loop : tie.MeasureT-loop
 μ-loop t₀ k r i₀ t i = terms - i
 
--- src/lib.rt:137:5
 loop-holds : tie.Need-loop-holds Inv-loop μ-loop
 unfolding join-to
 loop-holds c = (omega arith, refl)
 
--- src/lib.rt:138:9
 join-requires : tie.Need-join-requires Inv-loop μ-loop
 join-requires c κs = omega arith
 
--- src/lib.rt:137:9
 add-i : tie.Need-add-i Inv-loop μ-loop
 add-i c = omega arith
 
--- src/lib.rt:137:5
 loop-less : tie.Need-loop-less Inv-loop μ-loop
 loop-less c = omega arith
 
--- src/lib.rt:137:5
 loop-again : tie.Need-loop-again Inv-loop μ-loop
 loop-again c = (omega arith, join-turn _ _ _ _ _ _ (c .before .before .before .loop .inv .1) (c .join .ensures))
 
--- src/lib.rt:133:1
 returns : tie.Need-returns Inv-loop μ-loop
 returns c = let l = c .before .loop in let e : l .i ≡ terms = omega arith in rw e at (l .inv .1)
 

@@ -3,24 +3,16 @@ use mathlib.Core.Path.{sym, _∙_}
 use Rattle.recursion.proofs.Turns.{diagonal-in, diagonal-out}
 use Rattle.recursion.proofs.listable.Statement.{statement}
 use Rattle.recursion.proofs.listable.Tie as tie
-use Rattle.recursion.proofs.listable.Reads as reads
-use Rattle.recursion.proofs.listable.Lts as lts
-use Rattle.recursion.proofs.has.Reads as has-reads
-use Rattle.recursion.proofs.in_row.Reads as in-row-reads
 
--- src/lib.rt:180:8
 has-requires : tie.Need-has-requires
 has-requires c κs = search needs
 
--- src/lib.rt:181:10
 in-row-requires : tie.Need-in-row-requires
 in-row-requires c κs = search needs
 
--- src/lib.rt:176:1
 returns : tie.Need-returns
 returns c = diagonal-in _ _ _ (sym (c .before .before .has .ensures) ∙ c .before .if1 .taken) (c .in-row .ensures)
 
--- src/lib.rt:176:1
 returns-2 : tie.Need-returns-2
 returns-2 c = diagonal-out _ _ _ (sym (c .before .has .ensures) ∙ c .if1 .left)
 

@@ -8,9 +8,6 @@ use Rattle.recursion.proofs.Closing.{reach-closes}
 use Rattle.recursion.proofs.Shape.{whole-of}
 use Rattle.recursion.proofs.reach.Statement.{statement}
 use Rattle.recursion.proofs.reach.Tie as tie
-use Rattle.recursion.proofs.reach.Reads as reads
-use Rattle.recursion.proofs.reach.Lts as lts
-use Rattle.recursion.proofs.through.Reads as through-reads
 
 abbrev Inv-loop : tie.InvT-loop
 Inv-loop t₀ k₀ t k = (k ≤ terms) × (t ≡ reach-to k t₀)
@@ -18,28 +15,22 @@ Inv-loop t₀ k₀ t k = (k ≤ terms) × (t ≡ reach-to k t₀)
 abbrev μ-loop : tie.MeasureT-loop
 μ-loop t₀ k₀ t k = terms - k
 
--- src/lib.rt:157:5
 loop-holds : tie.Need-loop-holds Inv-loop μ-loop
 unfolding reach-to
 loop-holds c = (omega arith, refl)
 
--- src/lib.rt:158:9
 through-requires : tie.Need-through-requires Inv-loop μ-loop
 through-requires c κs = omega arith
 
--- src/lib.rt:157:9
 add-k : tie.Need-add-k Inv-loop μ-loop
 add-k c = omega arith
 
--- src/lib.rt:157:5
 loop-less : tie.Need-loop-less Inv-loop μ-loop
 loop-less c = omega arith
 
--- src/lib.rt:157:5
 loop-again : tie.Need-loop-again Inv-loop μ-loop
 loop-again c = (omega arith, reach-turn _ _ _ _ (c .before .before .before .loop .inv .1) (c .through .ensures))
 
--- src/lib.rt:154:1
 returns : tie.Need-returns Inv-loop μ-loop
 returns c = let l = c .before .loop in let e : l .k ≡ terms = omega arith in rw (l .inv .1, e) (reach-closes _ (whole-of _ _ (c .before .before .good .0)))
 
