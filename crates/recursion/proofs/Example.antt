@@ -1,4 +1,4 @@
--- 01's own example: "edges 0 to 1, 0 to 2, 1 to 0, 2 to 1". One depth-first pass from 0 leaves out 2; here it is.
+-- 01's example, of the table that four calls make.
 use mathlib.Core.Path.{_≡_, refl, sym, _∙_, ap}
 use mathlib.Core.Bool.{Bool, true, false, _&&_}
 use mathlib.Core.List.{List, [], _∷_, List·Memᴰ, List·Memᴰ·head, List·Memᴰ·tail}
@@ -6,8 +6,9 @@ use Prim.Native.Nat.{ℕ, _≤_, _<_}
 use native.Mathlib.Omega.{arith}
 use lib.Dec.{ltb}
 use borrow.Author.Tests.{ltb-true}
-use Rattle.paper.specs.Words.{Edges, returns, keep, every, all-words}
-use Rattle.recursion.specs.Table.{terms, no-edges, numbers, with-edges, cyclic-terms}
+use Rattle.paper.specs.Words.{Edges, every}
+use Rattle.recursion.specs.Table.{terms, no-edges, with-edges, cyclic-terms}
+use Rattle.recursion.specs.Example.{example, its-cyclic, example-is}
 use Rattle.recursion.proofs.Lists.{no-way}
 use Rattle.recursion.proofs.Adding.{Between, cyclic-terms-held}
 
@@ -31,14 +32,7 @@ fits-all (e ∷ es) h a b m = go (ltb (e .0) terms) refl (ltb (e .1) terms) refl
     go true p false q h n r = no-way (sym h)
     go false p y q h n r = no-way (sym h)
 
-abbrev example : Edges
-example = (0, 1) ∷ (0, 2) ∷ (1, 0) ∷ (2, 1) ∷ []
-
-computed : keep (returns example) numbers ≡ 0 ∷ 1 ∷ 2 ∷ []
-unfolding all-words numbers
-computed = refl
-
 -- the table after the four calls
-pub example-cyclic : cyclic-terms (with-edges no-edges example) ≡ 0 ∷ 1 ∷ 2 ∷ []
-unfolding all-words fits
-example-cyclic = cyclic-terms-held example (fits-all example refl) ∙ computed
+pub example-cyclic : cyclic-terms (with-edges no-edges example) ≡ its-cyclic
+unfolding every fits
+example-cyclic = cyclic-terms-held example (fits-all example refl) ∙ example-is
