@@ -19,6 +19,10 @@ no-words : length no-marks ≡ words
 unfolding no-marks
 no-words = length-replicate {A = ℕ} words 0
 
+-- the row after one call for each set that has rec
+abbrev pub rec-marks : {H : Type 0} → (H → ℕ) → (H → Bool) → List H → List ℕ
+rec-marks term rec hs = with-terms no-marks (map term (keep rec hs))
+
 module _ {H : Type 0} (term : H → ℕ) (rec : H → Bool) (hs : List H) (es : Edges) where
   -- sets as a sheet gives them: terms to 255, each used once, and an edge starts at a set's term
   pub record Sheeted : Type 0 where
@@ -27,8 +31,8 @@ module _ {H : Type 0} (term : H → ℕ) (rec : H → Bool) (hs : List H) (es : 
     pub between : Between es
     pub starts : (a b : ℕ) → List·Memᴰ (a, b) es → List·Memᴰ a (map term hs)
 
-  abbrev pub recs : List ℕ
-  recs = with-terms no-marks (map term (keep rec hs))
+  abbrev recs : List ℕ
+  recs = rec-marks term rec hs
 
   abbrev found : List ℕ
   found = ascending (map term (keep (λ h. not (rec h) && returns es (term h)) hs))
@@ -78,7 +82,8 @@ module _ {H : Type 0} (term : H → ℕ) (rec : H → Bool) (hs : List H) (es : 
             let s : returns es (term h) ≡ true = ap (returns es) (sym q) ∙ p .0 in
             mem-ascending a _ .1 (rw q (in-map term h _ (mem-keep (λ h. not (rec h) && returns es (term h)) h hs .1 (n, both r s))))
 
-    pub findings-are : unflagged (with-edges no-edges es) recs ≡ found
+    pub findings-are : unflagged (with-edges no-edges es) (rec-marks term rec hs)
+        ≡ ascending (map term (keep (λ h. not (rec h) && returns es (term h)) hs))
     unfolding unflagged numbers
     findings-are =
         keep-same _ (λ a. returns es a && not (in-row recs a)) numbers (λ a m. ap (λ (x : Bool). x && not (in-row recs a)) (cyclic-held es (S .between) a))

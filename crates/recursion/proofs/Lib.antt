@@ -11,3 +11,4 @@ pub mod Example
 pub mod Meaning
 pub mod Ascending
 pub mod Found
+pub mod Sets
