@@ -3,7 +3,8 @@ use mathlib.Core.Path.{_≡_, refl, sym, _∙_, ap}
 use mathlib.Core.Bool.{Bool, true, false, _&&_, _||_, not}
 use mathlib.Core.Logic.{_↔_, _⊎_, inl, inr}
 use mathlib.Core.List.{List, [], _∷_, map, List·Memᴰ}
-use Prim.Native.Nat.{ℕ, zero, suc, _≤_, _<_}
+use Prim.Native.Nat.{ℕ, zero, suc, _+_, _*_, _/_, _≤_, _<_}
+use native.Mathlib.Numerals.{add-one}
 use native.Mathlib.Omega.{arith}
 use native.Mathlib.Decide.{ℕ-discrete}
 use Rattle.paper.specs.Words.{keep, below, joined, Edges, Walk, one, more, returns}
@@ -11,7 +12,7 @@ use Rattle.paper.specs.Walks.{returns-is}
 use Rattle.recursion.specs.Table.{terms, Square, marked, numbers, edges-in, Closure}
 use Rattle.recursion.specs.Loops.{pass, reach-to}
 use Rattle.recursion.proofs.Lists.{no-way, mem-keep, in-below, Below, at, of-below, mem-numbers, in-joined, Within, of-list, of-joined, in-map, Mapped, mapped, of-map}
-use Rattle.recursion.proofs.Marks.{Whole, via, Passed, pass-law}
+use Rattle.recursion.proofs.Marks.{Whole, via, via-two, Passed, pass-law}
 
 -- ---- the edges of a table
 
@@ -53,14 +54,25 @@ closed : ℕ → (ℕ → ℕ → Bool) → ℕ → ℕ → Bool
 closed zero e a b = e a b
 closed (suc n) e a b = via (closed n e) n a b
 
-reach-law : (n : ℕ) (t : Square) → Whole t → n ≤ terms
-    → Whole (reach-to n t) × ((a b : ℕ) → a < terms → b < terms → marked (reach-to n t) a b ≡ closed n (marked t) a b)
+reach-law : (n : ℕ) (t : Square) → Whole t → n * 2 ≤ terms
+    → Whole (reach-to n t) × ((a b : ℕ) → a < terms → b < terms → marked (reach-to n t) a b ≡ closed (n * 2) (marked t) a b)
 unfolding reach-to closed
 reach-law zero t W l = (W, λ a b ha hb. refl)
 reach-law (suc n) t W l =
+    let m : suc n * 2 ≡ suc (suc (n * 2)) = omega arith in
     let I = reach-law n t W (omega arith) in
-    let J = pass-law (reach-to n t) n (I .0) l in
-    (J .whole, λ a b ha hb. J .marks a b ha hb ∙ simp (I .1 a b ha hb, I .1 a n ha l, I .1 n b l hb))
+    let J = pass-law (reach-to n t) (n * 2) (I .0) (omega arith) in
+    let k : n * 2 < terms = omega arith in
+    let k′ : n * 2 + 1 < terms = omega arith in (
+      J .whole,
+      λ a b ha hb.
+          J .marks a b ha hb
+          ∙ simp (I .1 a b ha hb, I .1 a (n * 2) ha k, I .1 (n * 2) b k hb, I .1 a (n * 2 + 1) ha k′, I .1 (n * 2) (n * 2 + 1) k k′, I .1 (n * 2 + 1) b k′ hb, I .1 (n * 2 + 1) (n * 2) k′ k)
+          (twice (n * 2) a b ∙ ap (λ (v : ℕ). closed v (marked t) a b) (sym m)),
+    )
+  where
+    twice : (i a b : ℕ) → via-two (closed i (marked t)) i a b ≡ closed (suc (suc i)) (marked t) a b
+    twice i a b = rw add-one refl
 
 -- the ways in which `via` holds, and back
 data Via (e : ℕ → ℕ → Bool) (k a b : ℕ) : Type 0 where
@@ -131,13 +143,10 @@ module _ (t : Square) where
 
 -- ---- what `reach` makes
 
-pub reach-whole : (t : Square) → Whole t → Whole (reach-to terms t)
-reach-whole t W = reach-law terms t W (omega arith) .0
-
-pub reach-closes : (t : Square) → Whole t → Closure t (reach-to terms t)
+pub reach-closes : (t : Square) → Whole t → Closure t (reach-to (terms / 2) t)
 unfolding Closure
 reach-closes t W a b ha hb =
-    let e = reach-law terms t W (omega arith) .1 a b ha hb in
+    let e = reach-law (terms / 2) t W (omega arith) .1 a b ha hb in
     (λ h. closed-walk t terms a b (omega arith) ha hb (sym e ∙ h), λ w. e ∙ walk-closed t w)
 
 -- two tests that hold together are equal

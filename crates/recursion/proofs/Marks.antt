@@ -12,7 +12,7 @@ use lib.Bits.{bitOr}
 use borrow.Author.Tests.{eq-eqb, ne-eqb, eqb-true, not-false, lt-ltb, le-ltb}
 use Rattle.paper.specs.Words.{if_then_else_}
 use Rattle.recursion.specs.Table.{terms, words, Square, row, in-row, marked, row-with, with-mark, no-marks, no-edges}
-use Rattle.recursion.specs.Loops.{both-of, has-some, join-at, join-to, pass, reach-to}
+use Rattle.recursion.specs.Loops.{both-of, has-some, join-at, join-by, join-to, widen, pass}
 use Rattle.recursion.proofs.Bits.{bit, or-bit, power-bit, zero-bit, or-zero}
 use Rattle.recursion.proofs.Lists.{no-way}
 
@@ -89,6 +89,10 @@ pub none-marks : (a b : ℕ) → a < terms → b < terms → marked no-edges a b
 unfolding marked no-edges
 none-marks a b h k = ap (λ (r : List ℕ). in-row r b) (getD-replicate terms a no-marks [] h) ∙ none-row b k
 
+row-of : (t : Square) (a b : ℕ) → in-row (row t a) b ≡ marked t a b
+unfolding marked
+row-of t a b = refl
+
 -- ---- two rows together
 
 word-both : (x y : List ℕ) (q : ℕ) → q < words → getD (both-of x y) q 0 ≡ bitOr (getD x q 0) (getD y q 0)
@@ -134,82 +138,167 @@ pub row-empty : (r : List ℕ) (b : ℕ) → has-some r ≡ false → b < terms 
 unfolding in-row
 row-empty r b h k = ap (λ (v : ℕ). bit v (b % 64)) (word-zero r (b / 64) h (omega arith)) ∙ zero-bit (b % 64)
 
--- ---- a row joins others
+-- ---- rows join others
 
--- the marks after a term k was passed through
+-- the marks after a term k was passed through; after k and the next
 abbrev pub via : (ℕ → ℕ → Bool) → ℕ → ℕ → ℕ → Bool
 via e k a b = e a b || (e a k && e k b)
 
+abbrev pub via-two : (ℕ → ℕ → Bool) → ℕ → ℕ → ℕ → Bool
+via-two e k = via (via e k) (k + 1)
+
+-- by the two marks of a row
+module _ (x y z r s : Bool) where
+  abbrev both-terms : Bool → Bool → Bool
+  both-terms p q = (x || (p && y)) || ((q || (p && r)) && (z || (s && y)))
+
+neither : (x y z r s : Bool) → x ≡ both-terms x y z r s false false
+neither true y z r s = refl
+neither false y z r s = refl
+
+first : (x y z r s : Bool) → (x || (if r then (y || z) else y)) ≡ both-terms x y z r s true false
+first true y z r s = refl
+first false true z true s = refl
+first false true z false s = refl
+first false false true true s = refl
+first false false false true true = refl
+first false false false true false = refl
+first false false z false s = refl
+
+second : (x y z r s : Bool) → (x || (if s then (y || z) else z)) ≡ both-terms x y z r s false true
+second true y z r s = refl
+second false true true r true = refl
+second false true false r true = refl
+second false false true r true = refl
+second false false false r true = refl
+second false y true r false = refl
+second false y false r false = refl
+
+each : (x y z r s : Bool) → (x || (y || z)) ≡ both-terms x y z r s true true
+each true y z r s = refl
+each false true z r s = refl
+each false false true r s = refl
+each false false false r true = refl
+each false false false r false = refl
+
+nothing : (x p q : Bool) → x ≡ both-terms x false false false false p q
+nothing true p q = refl
+nothing false true true = refl
+nothing false true false = refl
+nothing false false true = refl
+nothing false false false = refl
+
 pub record Through (n : ℕ) (t u : Square) (k : ℕ) : Type 0 where
   pub whole : Whole u
-  pub marks : (a b : ℕ) → b < terms → marked u a b ≡ (if ltb a n then via (marked t) k a b else marked t a b)
+  pub marks : (a b : ℕ) → b < terms → marked u a b ≡ (if ltb a n then via-two (marked t) k a b else marked t a b)
 
-module _ (n : ℕ) (t u : Square) (k : ℕ) (I : Through n t u k) (hn : n < terms) (hk : k < terms) where
+-- what row i is joined by
+record Rows (t : Square) (k : ℕ) (one other two : List ℕ) : Type 0 where
+  one-is : (b : ℕ) → b < terms → in-row one b ≡ (if marked t k (k + 1) then (marked t k b || marked t (k + 1) b) else marked t k b)
+  other-is : (b : ℕ) → b < terms → in-row other b ≡ (if marked t (k + 1) k then (marked t k b || marked t (k + 1) b) else marked t (k + 1) b)
+  two-is : (b : ℕ) → b < terms → in-row two b ≡ (marked t k b || marked t (k + 1) b)
+
+module _ (n : ℕ) (t u : Square) (k : ℕ) (one other two : List ℕ) (R : Rows t k one other two) (I : Through n t u k) (hn : n < terms) (hk : k + 1 < terms) where
   own-row : (b : ℕ) → b < terms → marked u n b ≡ marked t n b
   own-row b h = I .marks n b h ∙ simp (le-ltb n n (omega arith))
 
   -- the rows but n
-  other : (a b : ℕ) → b < terms → (a ≡ n → ⊥) → marked u a b ≡ (if ltb a (suc n) then via (marked t) k a b else marked t a b)
-  other a b h d = I .marks a b h ∙ go (decLt a n)
+  rest : (a b : ℕ) → b < terms → (a ≡ n → ⊥) → marked u a b ≡ (if ltb a (suc n) then via-two (marked t) k a b else marked t a b)
+  rest a b h d = I .marks a b h ∙ go (decLt a n)
     where
-      go : Dec (a < n) → (if ltb a n then via (marked t) k a b else marked t a b) ≡ (if ltb a (suc n) then via (marked t) k a b else marked t a b)
+      go : Dec (a < n) → (if ltb a n then via-two (marked t) k a b else marked t a b) ≡ (if ltb a (suc n) then via-two (marked t) k a b else marked t a b)
       go (yes l) = simp (lt-ltb a n l, lt-ltb a (suc n) (omega arith))
       go (no l) = simp (le-ltb a n (omega arith), le-ltb a (suc n) (omega arith))
 
-  at-n : (v : Square) (a b : ℕ) → a ≡ n → marked v n b ≡ via (marked t) k n b → marked v a b ≡ (if ltb a (suc n) then via (marked t) k a b else marked t a b)
-  at-n v a b e q = simp (lt-ltb a (suc n) (omega arith)) (subst⁻¹ (λ (y : ℕ). marked v y b ≡ via (marked t) k y b) e q)
+  at-n : (v : Square) (a b : ℕ) → a ≡ n → marked v n b ≡ via-two (marked t) k n b → marked v a b ≡ (if ltb a (suc n) then via-two (marked t) k a b else marked t a b)
+  at-n v a b e q = simp (lt-ltb a (suc n) (omega arith)) (subst⁻¹ (λ (y : ℕ). marked v y b ≡ via-two (marked t) k y b) e q)
 
-  row-of : (b : ℕ) → in-row (row t k) b ≡ marked t k b
-  unfolding marked
-  row-of b = refl
-
-  own-of : (b : ℕ) → in-row (row u n) b ≡ marked u n b
-  unfolding marked
-  own-of b = refl
-
-  join-step : Through (suc n) t (join-at u n k (row t k)) k
+  -- a row that joins row n
+  join-marks : (r : List ℕ) (b : ℕ) → b < terms → marked (join-at u n r) n b ≡ (marked t n b || in-row r b)
   unfolding join-at
-  join-step = go (marked u n k) refl
+  join-marks r b h =
+      set-marks u (I .whole) n hn (both-of (row u n) r) n b
+      ∙ simp (eq-eqb n n refl) (both-row (row u n) r b h ∙ ap (λ (x : Bool). x || in-row r b) (row-of u n b ∙ own-row b h))
+
+  joins : (r : List ℕ) → ((b : ℕ) → b < terms → (marked t n b || in-row r b) ≡ via-two (marked t) k n b) → Through (suc n) t (join-at u n r) k
+  unfolding join-at
+  joins r f = record {
+    whole = set-whole u (I .whole) n hn (both-of (row u n) r) (both-words _ _);
+    marks = λ a b h. by a b h (ℕ-discrete a n);
+  }
     where
-      r : List ℕ
-      r = both-of (row u n) (row t k)
+      by : (a b : ℕ) → b < terms → Dec (a ≡ n) → marked (join-at u n r) a b ≡ (if ltb a (suc n) then via-two (marked t) k a b else marked t a b)
+      by a b h (yes o) = at-n (join-at u n r) a b o (join-marks r b h ∙ f b h)
+      by a b h (no d) = set-marks u (I .whole) n hn (both-of (row u n) r) a b ∙ simp (ne-eqb a n d) (rest a b h d)
 
-      go : (m : Bool) → marked u n k ≡ m → Through (suc n) t (if m then set u n (both-of (row u n) (row t k)) else u) k
-      go true e = record { whole = set-whole u (I .whole) n hn r (both-words _ _); marks = λ a b h. by a b h (ℕ-discrete a n) }
+  step : Through (suc n) t (join-by u n k one other two) k
+  unfolding join-by
+  step = go (marked u n k) refl (marked u n (k + 1)) refl
+    where
+      go : (p : Bool) → marked u n k ≡ p → (q : Bool) → marked u n (k + 1) ≡ q
+          → Through (suc n) t (if p then (if q then join-at u n two else join-at u n one) else (if q then join-at u n other else u)) k
+      go true p true q =
+          joins two (λ b h. simp (R .two-is b h, sym (own-row k (omega arith)) ∙ p, sym (own-row (k + 1) hk) ∙ q) (each (marked t n b) (marked t k b) (marked t (k + 1) b) (marked t k (k + 1)) (marked t (k + 1) k)))
+      go true p false q =
+          joins one (λ b h. simp (R .one-is b h, sym (own-row k (omega arith)) ∙ p, sym (own-row (k + 1) hk) ∙ q) (first (marked t n b) (marked t k b) (marked t (k + 1) b) (marked t k (k + 1)) (marked t (k + 1) k)))
+      go false p true q =
+          joins other (λ b h. simp (R .other-is b h, sym (own-row k (omega arith)) ∙ p, sym (own-row (k + 1) hk) ∙ q) (second (marked t n b) (marked t k b) (marked t (k + 1) b) (marked t k (k + 1)) (marked t (k + 1) k)))
+      go false p false q = record { whole = I .whole; marks = λ a b h. by a b h (ℕ-discrete a n) }
         where
-          by : (a b : ℕ) → b < terms → Dec (a ≡ n) → marked (set u n r) a b ≡ (if ltb a (suc n) then via (marked t) k a b else marked t a b)
+          by : (a b : ℕ) → b < terms → Dec (a ≡ n) → marked u a b ≡ (if ltb a (suc n) then via-two (marked t) k a b else marked t a b)
           by a b h (yes o) =
-              at-n (set u n r) a b o
-              (set-marks u (I .whole) n hn r n b
-              ∙ simp (eq-eqb n n refl) (both-row (row u n) (row t k) b h ∙ simp (own-of b, row-of b, own-row b h, sym (own-row k hk) ∙ e)))
-          by a b h (no d) = set-marks u (I .whole) n hn r a b ∙ simp (ne-eqb a n d) (other a b h d)
-      go false e = record { whole = I .whole; marks = λ a b h. by a b h (ℕ-discrete a n) }
-        where
-          by : (a b : ℕ) → b < terms → Dec (a ≡ n) → marked u a b ≡ (if ltb a (suc n) then via (marked t) k a b else marked t a b)
-          by a b h (yes o) = at-n u a b o (own-row b h ∙ simp (sym (own-row k hk) ∙ e) (sym (or-false (marked t n b))))
-          by a b h (no d) = other a b h d
+              at-n u a b o
+              (own-row b h
+              ∙ simp (sym (own-row k (omega arith)) ∙ p, sym (own-row (k + 1) hk) ∙ q) (neither (marked t n b) (marked t k b) (marked t (k + 1) b) (marked t k (k + 1)) (marked t (k + 1) k)))
+          by a b h (no d) = rest a b h d
 
-pub join-law : (n : ℕ) (t : Square) (k : ℕ) → Whole t → n ≤ terms → k < terms → Through n t (join-to n t k (row t k)) k
+join-law : (n : ℕ) (t : Square) (k : ℕ) (one other two : List ℕ) → Rows t k one other two → Whole t → n ≤ terms → k + 1 < terms → Through n t (join-to n t k one other two) k
 unfolding join-to
-join-law zero t k W l h = record { whole = W; marks = λ a b g. simp (le-ltb a 0 (omega arith)) }
-join-law (suc n) t k W l h = join-step n t (join-to n t k (row t k)) k (join-law n t k W (omega arith) h) l h
+join-law zero t k one other two R W l h = record { whole = W; marks = λ a b g. simp (le-ltb a 0 (omega arith)) }
+join-law (suc n) t k one other two R W l h =
+    step n t (join-to n t k one other two) k one other two R (join-law n t k one other two R W (omega arith) h) l h
+
+module _ (t : Square) (k : ℕ) (hk : k + 1 < terms) where
+  abbrev two-rows : List ℕ
+  two-rows = both-of (row t k) (row t (k + 1))
+
+  two-marked : (b : ℕ) → b < terms → in-row two-rows b ≡ (marked t k b || marked t (k + 1) b)
+  two-marked b h = both-row (row t k) (row t (k + 1)) b h ∙ simp (row-of t k b, row-of t (k + 1) b)
+
+  widen-marked : (i j b : ℕ) → b < terms → in-row (widen (row t i) j two-rows) b ≡ (if marked t i j then (marked t k b || marked t (k + 1) b) else marked t i b)
+  unfolding widen
+  widen-marked i j b h = rw (row-of t i j) (go (marked t i j))
+    where
+      go : (m : Bool) → in-row (if m then two-rows else row t i) b ≡ (if m then (marked t k b || marked t (k + 1) b) else marked t i b)
+      go true = two-marked b h
+      go false = row-of t i b
+
+  rows : Rows t k (widen (row t k) (k + 1) two-rows) (widen (row t (k + 1)) k two-rows) two-rows
+  rows = record { one-is = widen-marked k (k + 1); other-is = widen-marked (k + 1) k; two-is = two-marked }
+
+  empty : has-some two-rows ≡ false → (b : ℕ) → b < terms → (marked t k b ≡ false) × (marked t (k + 1) b ≡ false)
+  empty e b h = parts (marked t k b) (marked t (k + 1) b) (sym (two-marked b h) ∙ row-empty two-rows b e h)
+    where
+      parts : (x y : Bool) → (x || y) ≡ false → (x ≡ false) × (y ≡ false)
+      parts true y q = no-way q
+      parts false y q = (refl, q)
 
 pub record Passed (t u : Square) (k : ℕ) : Type 0 where
   pub whole : Whole u
-  pub marks : (a b : ℕ) → a < terms → b < terms → marked u a b ≡ via (marked t) k a b
+  pub marks : (a b : ℕ) → a < terms → b < terms → marked u a b ≡ via-two (marked t) k a b
 
-empty : (t : Square) (k : ℕ) → has-some (row t k) ≡ false → (b : ℕ) → b < terms → marked t k b ≡ false
-unfolding marked
-empty t k e b g = row-empty (row t k) b e g
-
-pub pass-law : (t : Square) (k : ℕ) → Whole t → k < terms → Passed t (pass t k) k
+pub pass-law : (t : Square) (k : ℕ) → Whole t → k + 1 < terms → Passed t (pass t k) k
 unfolding pass
-pass-law t k W h = go (has-some (row t k)) refl
+pass-law t k W h = go (has-some (two-rows t k h)) refl
   where
-    and-false : (x : Bool) → (x && false) ≡ false
-    and-false true = refl
-    and-false false = refl
-
-    go : (m : Bool) → has-some (row t k) ≡ m → Passed t (if m then join-to terms t k (row t k) else t) k
-    go true e = let J = join-law terms t k W (omega arith) h in record { whole = J .whole; marks = λ a b ha hb. J .marks a b hb ∙ simp (lt-ltb a terms ha) }
-    go false e = record { whole = W; marks = λ a b ha hb. sym (simp (empty t k e b hb, and-false (marked t a k)) (or-false (marked t a b))) }
+    go : (m : Bool) → has-some (two-rows t k h) ≡ m
+        → Passed t (if m then join-to terms t k (widen (row t k) (k + 1) (two-rows t k h)) (widen (row t (k + 1)) k (two-rows t k h)) (two-rows t k h) else t) k
+    go true e =
+        let J = join-law terms t k _ _ _ (rows t k h) W (omega arith) h in
+        record { whole = J .whole; marks = λ a b ha hb. J .marks a b hb ∙ simp (lt-ltb a terms ha) }
+    go false e = record { whole = W; marks = λ a b ha hb. by a b hb }
+      where
+        by : (a b : ℕ) → b < terms → marked t a b ≡ via-two (marked t) k a b
+        by a b hb =
+            simp (empty t k h e b hb .0, empty t k h e b hb .1, empty t k h e (k + 1) h .0, empty t k h e k (omega arith) .1)
+            (nothing (marked t a b) (marked t a k) (marked t a (k + 1)))

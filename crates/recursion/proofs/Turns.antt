@@ -9,15 +9,16 @@ use native.Mathlib.Nat.{one-mul}
 use lib.ListN.{getD, set}
 use lib.Dec.{eqb, leb}
 use lib.Bits.{bitAnd, bitOr, and-mask}
-use lib.Pow.{shl-exact}
-use borrow.Author.Tests.{le-leb, lt-leb}
+use lib.Pow.{shl-exact, shr-shr}
+use native.Mathlib.Decide.{ℕ-discrete}
+use borrow.Author.Tests.{le-leb, lt-leb, eq-eqb, ne-eqb}
 use Rattle.paper.specs.Words.{if_then_else_, returns}
 use Rattle.paper.specs.Numbers.{max-term, Outcome, done, refused, _>>=_, demand}
 use Rattle.paper.specs.declared.Refusal.the-variants.{TermTooHigh}
 use Rattle.recursion.specs.declared.Added.the-variants as Added-is
 use Rattle.recursion.specs.declared.Asked.the-variants as Asked-is
 use Rattle.recursion.specs.Table.{terms, Square, row, in-row, marked, row-with, with-mark, edges-in, if-term, with-edge, with-term, has-edge, is-cyclic, left, bare, added, asked}
-use Rattle.recursion.specs.Loops.{both-of, has-some, join-at, join-to, pass, reach-to, on-diagonal}
+use Rattle.recursion.specs.Loops.{both-of, has-some, join-at, join-by, join-to, widen, pass, reach-to, on-diagonal}
 
 -- ---- a mark, read and written
 
@@ -119,29 +120,111 @@ module _ (t : Square) (a : ℕ) where
 
 -- ---- the loops
 
-pub joined-in : (t : Square) (i k : ℕ) (r : List ℕ) {x : List ℕ} → x ≡ both-of (row t i) r → marked t i k ≡ true → set t i x ≡ join-at t i k r
+pub joined : (t : Square) (i : ℕ) (r : List ℕ) {x : List ℕ} → x ≡ both-of (row t i) r → set t i x ≡ join-at t i r
 unfolding join-at
-joined-in t i k r e m = ap (set t i) e ∙ sym (simp m)
+joined t i r e = ap (set t i) e
 
-pub joined-out : (t : Square) (i k : ℕ) (r : List ℕ) → marked t i k ≡ false → t ≡ join-at t i k r
-unfolding join-at
-joined-out t i k r m = sym (simp m)
+-- two marks that one word holds, read at once
+next-mark : (r : List ℕ) (k : ℕ) → k % 2 ≡ 0 → in-row r (k + 1) ≡ eqb (getD r (k / 64) 0 / 2 ^ (k % 64) / 2 % 2) 1
+unfolding in-row
+next-mark r k h =
+    let w : (k + 1) / 64 ≡ k / 64 = omega arith in
+    let s : (k + 1) % 64 ≡ k % 64 + 1 = omega arith in
+    rw (w, s) (ap (λ (v : ℕ). eqb (v % 2) 1) (sym (shr-shr (getD r (k / 64) 0) (k % 64) 1)))
 
-pub join-turn : (t₀ t u : Square) (i k : ℕ) (r : List ℕ) → t ≡ join-to i t₀ k r → u ≡ join-at t i k r → u ≡ join-to (i + 1) t₀ k r
+data Two (x y : Bool) (c : ℕ) : Type 0 where
+  neither : c ≡ 0 → x ≡ false → y ≡ false → Two x y c
+  first : c ≡ 1 → x ≡ true → y ≡ false → Two x y c
+  second : c ≡ 2 → x ≡ false → y ≡ true → Two x y c
+  each : c ≡ 3 → x ≡ true → y ≡ true → Two x y c
+
+two-bits : (v : ℕ) → Two (eqb (v % 2) 1) (eqb (v / 2 % 2) 1) (v % 4)
+two-bits v = go (ℕ-discrete (v % 2) 1) (ℕ-discrete (v / 2 % 2) 1)
+  where
+    go : Dec (v % 2 ≡ 1) → Dec (v / 2 % 2 ≡ 1) → Two (eqb (v % 2) 1) (eqb (v / 2 % 2) 1) (v % 4)
+    go (yes p) (yes q) = each (omega arith) (eq-eqb _ 1 p) (eq-eqb _ 1 q)
+    go (yes p) (no q) = first (omega arith) (eq-eqb _ 1 p) (ne-eqb _ 1 q)
+    go (no p) (yes q) = second (omega arith) (ne-eqb _ 1 p) (eq-eqb _ 1 q)
+    go (no p) (no q) = neither (omega arith) (ne-eqb _ 1 p) (ne-eqb _ 1 q)
+
+abbrev marks-at : Square → ℕ → ℕ → ℕ
+marks-at t i k = bitAnd (getD (getD t i []) (k / 64) 0 / 2 ^ (k % 64)) 3
+
+two-marks : (t : Square) (i k : ℕ) → k % 2 ≡ 0 → Two (marked t i k) (marked t i (k + 1)) (marks-at t i k)
+unfolding marked in-row
+two-marks t i k h =
+    rw (next-mark (getD t i []) k h, and-mask (getD (getD t i []) (k / 64) 0 / 2 ^ (k % 64)) 2) (two-bits (getD (getD t i []) (k / 64) 0 / 2 ^ (k % 64)))
+
+module _ (t : Square) (i k : ℕ) (one other two : List ℕ) (h : k % 2 ≡ 0) where
+  pub by-none : marks-at t i k ≡ 0 → t ≡ join-by t i k one other two
+  unfolding join-by
+  by-none m = go (two-marks t i k h)
+    where
+      go : Two (marked t i k) (marked t i (k + 1)) (marks-at t i k) → t ≡ join-by t i k one other two
+      go (neither c x y) = sym (simp (x, y))
+      go (first c x y) = absurd (omega arith)
+      go (second c x y) = absurd (omega arith)
+      go (each c x y) = absurd (omega arith)
+
+  pub by-one : {u : Square} → marks-at t i k ≡ 1 → u ≡ join-at t i one → u ≡ join-by t i k one other two
+  unfolding join-by
+  by-one {u} m e = go (two-marks t i k h)
+    where
+      go : Two (marked t i k) (marked t i (k + 1)) (marks-at t i k) → u ≡ join-by t i k one other two
+      go (neither c x y) = absurd (omega arith)
+      go (first c x y) = e ∙ sym (simp (x, y))
+      go (second c x y) = absurd (omega arith)
+      go (each c x y) = absurd (omega arith)
+
+  pub by-other : {u : Square} → marks-at t i k ≡ 2 → u ≡ join-at t i other → u ≡ join-by t i k one other two
+  unfolding join-by
+  by-other {u} m e = go (two-marks t i k h)
+    where
+      go : Two (marked t i k) (marked t i (k + 1)) (marks-at t i k) → u ≡ join-by t i k one other two
+      go (neither c x y) = absurd (omega arith)
+      go (first c x y) = absurd (omega arith)
+      go (second c x y) = e ∙ sym (simp (x, y))
+      go (each c x y) = absurd (omega arith)
+
+  pub by-two : {u : Square} → (marks-at t i k ≡ 0 → ⊥) → (marks-at t i k ≡ 1 → ⊥) → (marks-at t i k ≡ 2 → ⊥) → u ≡ join-at t i two → u ≡ join-by t i k one other two
+  unfolding join-by
+  by-two {u} l m n e = go (two-marks t i k h)
+    where
+      go : Two (marked t i k) (marked t i (k + 1)) (marks-at t i k) → u ≡ join-by t i k one other two
+      go (neither c x y) = absurd (omega arith)
+      go (first c x y) = absurd (omega arith)
+      go (second c x y) = absurd (omega arith)
+      go (each c x y) = e ∙ sym (simp (x, y))
+
+pub join-turn : (t₀ t u : Square) (i k : ℕ) (one other two : List ℕ) → t ≡ join-to i t₀ k one other two → u ≡ join-by t i k one other two → u ≡ join-to (i + 1) t₀ k one other two
 unfolding join-to
-join-turn t₀ t u i k r q e = rw (add-one, ← q) e
+join-turn t₀ t u i k one other two q e = rw (add-one, ← q) e
 
-pub passed-in : (t : Square) (k : ℕ) {u : Square} → u ≡ join-to terms t k (row t k) → has-some (row t k) ≡ true → u ≡ pass t k
-unfolding pass
-passed-in t k e m = e ∙ sym (simp m)
+pub widened-in : (a : List ℕ) (j : ℕ) (two : List ℕ) → in-row a j ≡ true → two ≡ widen a j two
+unfolding widen
+widened-in a j two m = sym (simp m)
 
-pub passed-out : (t : Square) (k : ℕ) → has-some (row t k) ≡ false → t ≡ pass t k
-unfolding pass
-passed-out t k m = sym (simp m)
+pub widened-out : (a : List ℕ) (j : ℕ) (two : List ℕ) → in-row a j ≡ false → a ≡ widen a j two
+unfolding widen
+widened-out a j two m = sym (simp m)
 
-pub reach-turn : (t₀ t u : Square) (k : ℕ) → t ≡ reach-to k t₀ → u ≡ pass t k → u ≡ reach-to (k + 1) t₀
+module _ (t : Square) (k : ℕ) where
+  pub passed-in : {u : Square} {one other two : List ℕ} → two ≡ both-of (row t k) (row t (k + 1)) → one ≡ widen (row t k) (k + 1) two
+      → other ≡ widen (row t (k + 1)) k two → u ≡ join-to terms t k one other two → has-some two ≡ true → u ≡ pass t k
+  unfolding pass
+  passed-in {u} p q r e m = go p q r e m
+    where
+      go : {one other two : List ℕ} → two ≡ both-of (row t k) (row t (k + 1)) → one ≡ widen (row t k) (k + 1) two
+          → other ≡ widen (row t (k + 1)) k two → u ≡ join-to terms t k one other two → has-some two ≡ true → u ≡ pass t k
+      go p q r e m = let n : has-some (both-of (row t k) (row t (k + 1))) ≡ true = rw p at m in e ∙ rw (q, r, p) (sym (simp n))
+
+  pub passed-out : {two : List ℕ} → two ≡ both-of (row t k) (row t (k + 1)) → has-some two ≡ false → t ≡ pass t k
+  unfolding pass
+  passed-out p m = let n : has-some (both-of (row t k) (row t (k + 1))) ≡ false = rw p at m in sym (simp n)
+
+pub reach-turn : (t₀ t u : Square) (n : ℕ) → t ≡ reach-to n t₀ → u ≡ pass t (n * 2) → u ≡ reach-to (n + 1) t₀
 unfolding reach-to
-reach-turn t₀ t u k q e = rw (add-one, ← q) e
+reach-turn t₀ t u n q e = rw (add-one, ← q) e
 
 pub diagonal-in : (t : Square) (but : List ℕ) (i : ℕ) {x : Bool} → marked t i i ≡ true → x ≡ in-row but i → not x ≡ on-diagonal t but i
 unfolding on-diagonal
