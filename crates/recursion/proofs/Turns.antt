@@ -9,9 +9,8 @@ use native.Mathlib.Nat.{one-mul}
 use lib.ListN.{getD, set}
 use lib.Dec.{eqb, leb}
 use lib.Bits.{bitAnd, bitOr, and-mask}
-use lib.Pow.{shl-exact, shr-shr}
-use native.Mathlib.Decide.{ℕ-discrete}
-use borrow.Author.Tests.{le-leb, lt-leb, eq-eqb, ne-eqb}
+use lib.Pow.{shl-exact}
+use borrow.Author.Tests.{le-leb, lt-leb}
 use Rattle.paper.specs.Words.{if_then_else_, returns}
 use Rattle.paper.specs.Numbers.{max-term, Outcome, done, refused, _>>=_, demand}
 use Rattle.paper.specs.declared.Refusal.the-variants.{TermTooHigh}
@@ -124,77 +123,22 @@ pub joined : (t : Square) (i : ℕ) (r : List ℕ) {x : List ℕ} → x ≡ both
 unfolding join-at
 joined t i r e = ap (set t i) e
 
--- two marks that one word holds, read at once
-next-mark : (r : List ℕ) (k : ℕ) → k % 2 ≡ 0 → in-row r (k + 1) ≡ eqb (getD r (k / 64) 0 / 2 ^ (k % 64) / 2 % 2) 1
-unfolding in-row
-next-mark r k h =
-    let w : (k + 1) / 64 ≡ k / 64 = omega arith in
-    let s : (k + 1) % 64 ≡ k % 64 + 1 = omega arith in
-    rw (w, s) (ap (λ (v : ℕ). eqb (v % 2) 1) (sym (shr-shr (getD r (k / 64) 0) (k % 64) 1)))
-
-data Two (x y : Bool) (c : ℕ) : Type 0 where
-  neither : c ≡ 0 → x ≡ false → y ≡ false → Two x y c
-  first : c ≡ 1 → x ≡ true → y ≡ false → Two x y c
-  second : c ≡ 2 → x ≡ false → y ≡ true → Two x y c
-  each : c ≡ 3 → x ≡ true → y ≡ true → Two x y c
-
-two-bits : (v : ℕ) → Two (eqb (v % 2) 1) (eqb (v / 2 % 2) 1) (v % 4)
-two-bits v = go (ℕ-discrete (v % 2) 1) (ℕ-discrete (v / 2 % 2) 1)
-  where
-    go : Dec (v % 2 ≡ 1) → Dec (v / 2 % 2 ≡ 1) → Two (eqb (v % 2) 1) (eqb (v / 2 % 2) 1) (v % 4)
-    go (yes p) (yes q) = each (omega arith) (eq-eqb _ 1 p) (eq-eqb _ 1 q)
-    go (yes p) (no q) = first (omega arith) (eq-eqb _ 1 p) (ne-eqb _ 1 q)
-    go (no p) (yes q) = second (omega arith) (ne-eqb _ 1 p) (eq-eqb _ 1 q)
-    go (no p) (no q) = neither (omega arith) (ne-eqb _ 1 p) (ne-eqb _ 1 q)
-
-abbrev marks-at : Square → ℕ → ℕ → ℕ
-marks-at t i k = bitAnd (getD (getD t i []) (k / 64) 0 / 2 ^ (k % 64)) 3
-
-two-marks : (t : Square) (i k : ℕ) → k % 2 ≡ 0 → Two (marked t i k) (marked t i (k + 1)) (marks-at t i k)
-unfolding marked in-row
-two-marks t i k h =
-    rw (next-mark (getD t i []) k h, and-mask (getD (getD t i []) (k / 64) 0 / 2 ^ (k % 64)) 2) (two-bits (getD (getD t i []) (k / 64) 0 / 2 ^ (k % 64)))
-
-module _ (t : Square) (i k : ℕ) (one other two : List ℕ) (h : k % 2 ≡ 0) where
-  pub by-none : marks-at t i k ≡ 0 → t ≡ join-by t i k one other two
+module _ (t : Square) (i k : ℕ) (one other two : List ℕ) {u : Square} where
+  pub by-two : marked t i k ≡ true → marked t i (k + 1) ≡ true → u ≡ join-at t i two → u ≡ join-by t i k one other two
   unfolding join-by
-  by-none m = go (two-marks t i k h)
-    where
-      go : Two (marked t i k) (marked t i (k + 1)) (marks-at t i k) → t ≡ join-by t i k one other two
-      go (neither c x y) = sym (simp (x, y))
-      go (first c x y) = absurd (omega arith)
-      go (second c x y) = absurd (omega arith)
-      go (each c x y) = absurd (omega arith)
+  by-two x y e = e ∙ sym (simp (x, y))
 
-  pub by-one : {u : Square} → marks-at t i k ≡ 1 → u ≡ join-at t i one → u ≡ join-by t i k one other two
+  pub by-one : marked t i k ≡ true → marked t i (k + 1) ≡ false → u ≡ join-at t i one → u ≡ join-by t i k one other two
   unfolding join-by
-  by-one {u} m e = go (two-marks t i k h)
-    where
-      go : Two (marked t i k) (marked t i (k + 1)) (marks-at t i k) → u ≡ join-by t i k one other two
-      go (neither c x y) = absurd (omega arith)
-      go (first c x y) = e ∙ sym (simp (x, y))
-      go (second c x y) = absurd (omega arith)
-      go (each c x y) = absurd (omega arith)
+  by-one x y e = e ∙ sym (simp (x, y))
 
-  pub by-other : {u : Square} → marks-at t i k ≡ 2 → u ≡ join-at t i other → u ≡ join-by t i k one other two
+  pub by-other : marked t i k ≡ false → marked t i (k + 1) ≡ true → u ≡ join-at t i other → u ≡ join-by t i k one other two
   unfolding join-by
-  by-other {u} m e = go (two-marks t i k h)
-    where
-      go : Two (marked t i k) (marked t i (k + 1)) (marks-at t i k) → u ≡ join-by t i k one other two
-      go (neither c x y) = absurd (omega arith)
-      go (first c x y) = absurd (omega arith)
-      go (second c x y) = e ∙ sym (simp (x, y))
-      go (each c x y) = absurd (omega arith)
+  by-other x y e = e ∙ sym (simp (x, y))
 
-  pub by-two : {u : Square} → (marks-at t i k ≡ 0 → ⊥) → (marks-at t i k ≡ 1 → ⊥) → (marks-at t i k ≡ 2 → ⊥) → u ≡ join-at t i two → u ≡ join-by t i k one other two
+  pub by-none : marked t i k ≡ false → marked t i (k + 1) ≡ false → u ≡ t → u ≡ join-by t i k one other two
   unfolding join-by
-  by-two {u} l m n e = go (two-marks t i k h)
-    where
-      go : Two (marked t i k) (marked t i (k + 1)) (marks-at t i k) → u ≡ join-by t i k one other two
-      go (neither c x y) = absurd (omega arith)
-      go (first c x y) = absurd (omega arith)
-      go (second c x y) = absurd (omega arith)
-      go (each c x y) = e ∙ sym (simp (x, y))
+  by-none x y e = e ∙ sym (simp (x, y))
 
 pub join-turn : (t₀ t u : Square) (i k : ℕ) (one other two : List ℕ) → t ≡ join-to i t₀ k one other two → u ≡ join-by t i k one other two → u ≡ join-to (i + 1) t₀ k one other two
 unfolding join-to

@@ -5,7 +5,7 @@ use paper::Refusal;
 use paper::TERMS;
 ghost use mathlib.Core.Path.{_≡_};
 ghost use mathlib.Core.Bool.{true};
-ghost use Prim.Native.Nat.{_%_, _<_};
+ghost use Prim.Native.Nat.{_+_, _<_};
 ghost use Rattle.recursion.specs.Table.{terms, row, in-row, marked, row-with, with-mark, no-edges, with-edge, with-term, has-edge, is-cyclic, left, bare, Closure, cyclic-terms, unflagged, added, asked, listed};
 ghost use Rattle.recursion.specs.Loops.{both-of, has-some, join-at, join-by, join-to, widen, pass, on-diagonal, list-to};
 
@@ -119,53 +119,51 @@ fn has_some(r: [u64; WORDS]) -> bool
 }
 
 // The row r joins row i.
-fn join(t: &mut [[u64; WORDS]; TERMS], i: usize, r: [u64; WORDS])
+fn join(t: &mut [[u64; WORDS]; TERMS], i: usize, r: &[u64; WORDS])
     requires { ⌜ i < terms ⌝ }
-    ensures { λ _. ⌜ now (t .exit) ≡ join-at (now (t .entry)) i r ⌝ }
+    ensures { λ _. ⌜ now (t .exit) ≡ join-at (now (t .entry)) i (now (r .entry)) ⌝ }
 {
     let a = t[i];
-    let c = both(a, r);
+    let b = *r;
+    let c = both(a, b);
     t[i] = c;
 }
 
-// By its marks k and k + 1, which one word holds, row i is joined by nothing, by `one`, by `other` or by `two`.
+// By its marks k and k + 1, row i is joined by nothing, by `one`, by `other` or by `two`.
 fn join_by(
     t: &mut [[u64; WORDS]; TERMS],
     i: usize,
     k: usize,
-    one: [u64; WORDS],
-    other: [u64; WORDS],
-    two: [u64; WORDS],
+    one: &[u64; WORDS],
+    other: &[u64; WORDS],
+    two: &[u64; WORDS],
 )
-    requires { ⌜ (i < terms) × (k < terms) × (k % 2 ≡ 0) ⌝ }
-    ensures { λ _. ⌜ now (t .exit) ≡ join-by (now (t .entry)) i k one other two ⌝ }
+    requires { ⌜ (i < terms) × (k + 1 < terms) ⌝ }
+    ensures { λ _. ⌜ now (t .exit) ≡ join-by (now (t .entry)) i k (now (one .entry)) (now (other .entry)) (now (two .entry)) ⌝ }
 {
-    let w = t[i][k / 64];
-    let marks = (w >> (k % 64)) & 3;
-    if marks == 0 {
-        return;
+    if has(t, i, k) {
+        if has(t, i, k + 1) {
+            join(t, i, two);
+        } else {
+            join(t, i, one);
+        }
+    } else {
+        if has(t, i, k + 1) {
+            join(t, i, other);
+        }
     }
-    if marks == 1 {
-        join(t, i, one);
-        return;
-    }
-    if marks == 2 {
-        join(t, i, other);
-        return;
-    }
-    join(t, i, two);
 }
 
 // The same of every row.
 fn join_all(
     t: &mut [[u64; WORDS]; TERMS],
     k: usize,
-    one: [u64; WORDS],
-    other: [u64; WORDS],
-    two: [u64; WORDS],
+    one: &[u64; WORDS],
+    other: &[u64; WORDS],
+    two: &[u64; WORDS],
 )
-    requires { ⌜ (k < terms) × (k % 2 ≡ 0) ⌝ }
-    ensures { λ _. ⌜ now (t .exit) ≡ join-to terms (now (t .entry)) k one other two ⌝ }
+    requires { ⌜ k + 1 < terms ⌝ }
+    ensures { λ _. ⌜ now (t .exit) ≡ join-to terms (now (t .entry)) k (now (one .entry)) (now (other .entry)) (now (two .entry)) ⌝ }
 {
     for i in 0..TERMS {
         join_by(t, i, k, one, other, two);
@@ -182,7 +180,7 @@ fn widened(a: [u64; WORDS], j: usize, two: [u64; WORDS]) -> [u64; WORDS]
 
 // Whoever reaches k or k + 1 reaches what they reach. Two terms at a time: half the tests and half the joins. Terms without edges lead nowhere.
 fn through(t: &mut [[u64; WORDS]; TERMS], k: usize)
-    requires { ⌜ (k < terms) × (k % 2 ≡ 0) ⌝ }
+    requires { ⌜ k + 1 < terms ⌝ }
     ensures { λ _. ⌜ now (t .exit) ≡ pass (now (t .entry)) k ⌝ }
 {
     let a = t[k];
@@ -191,7 +189,7 @@ fn through(t: &mut [[u64; WORDS]; TERMS], k: usize)
     if has_some(two) {
         let one = widened(a, k + 1, two);
         let other = widened(b, k, two);
-        join_all(t, k, one, other, two);
+        join_all(t, k, &one, &other, &two);
     }
 }
 

@@ -18,7 +18,7 @@ unfolding join-to
 loop-holds c = (omega arith, refl)
 
 join-by-requires : tie.Need-join-by-requires Inv-loop μ-loop
-join-by-requires c κs = (omega arith, c .before .before .before .pre .0, c .before .before .before .pre .1)
+join-by-requires c κs = omega arith
 
 add-i : tie.Need-add-i Inv-loop μ-loop
 add-i c = omega arith

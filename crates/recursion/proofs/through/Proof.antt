@@ -38,7 +38,7 @@ join-all-requires : tie.Need-join-all-requires
 join-all-requires c κs = search needs
 
 returns : tie.Need-returns
-returns c = passed-in _ _ (c .before .before .before .before .before .before .both .ensures) (c .before .before .before .widened .ensures) (c .before .before .widened2 .ensures) (c .join-all .ensures) (sym (c .before .before .before .before .before .has-some .ensures) ∙ c .before .before .before .before .if1 .taken)
+returns c = passed-in _ _ (c .before .before .before .before .before .before .before .before .before .both .ensures) (c .before .before .before .before .before .before .widened .ensures) (c .before .before .before .before .before .widened2 .ensures) (c .join-all .ensures) (sym (c .before .before .before .before .before .before .before .before .has-some .ensures) ∙ c .before .before .before .before .before .before .before .if1 .taken)
 
 returns-2 : tie.Need-returns-2
 returns-2 c = passed-out _ _ (c .before .before .both .ensures) (sym (c .before .has-some .ensures) ∙ c .if1 .left)
