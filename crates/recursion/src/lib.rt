@@ -147,10 +147,8 @@ fn join_by(
         } else {
             join(t, i, one);
         }
-    } else {
-        if has(t, i, k + 1) {
-            join(t, i, other);
-        }
+    } else if has(t, i, k + 1) {
+        join(t, i, other);
     }
 }
 
@@ -178,7 +176,7 @@ fn widened(a: [u64; WORDS], j: usize, two: [u64; WORDS]) -> [u64; WORDS]
     if in_row(&a, j) { two } else { a }
 }
 
-// Whoever reaches k or k + 1 reaches what they reach. Two terms at a time: half the tests and half the joins. Terms without edges lead nowhere.
+// Whoever reaches k or k + 1 reaches what they reach. Two terms at a time, so that a row is joined once for both; terms without edges lead nowhere.
 fn through(t: &mut [[u64; WORDS]; TERMS], k: usize)
     requires { ⌜ k + 1 < terms ⌝ }
     ensures { λ _. ⌜ now (t .exit) ≡ pass (now (t .entry)) k ⌝ }
