@@ -21,6 +21,11 @@ pub record Whole (t : Square) : Type 0 where
   pub rows : length t ≡ terms
   pub words : (i : ℕ) → i < terms → length (row t i) ≡ words
 
+-- all that the type `[[u64; 4]; 256]` says
+pub record Stored (t : Square) : Type 0 where
+  pub whole : Whole t
+  pub fits : (a q : ℕ) → a < terms → q < words → getD (row t a) q 0 < 2 ^ 64
+
 or-false : (x : Bool) → (x || false) ≡ x
 or-false true = refl
 or-false false = refl

@@ -23,7 +23,7 @@ use Rattle.recursion.specs.Table.{terms, words, Square, row, in-row, mar
 use Rattle.recursion.proofs.Bits.{bit}
 use Rattle.recursion.proofs.Lists.{no-way, mem-keep, mem-numbers}
 use Rattle.recursion.proofs.Turns.{cyclic-within}
-use Rattle.recursion.proofs.Marks.{Whole}
+use Rattle.recursion.proofs.Marks.{Whole, Stored}
 use Rattle.recursion.proofs.Closing.{of-edges, same-test}
 
 -- ---- "A term is cyclic exactly when a walk of one or more edges returns to it."
@@ -81,11 +81,6 @@ word-same (suc n) w v hw hv f =
     let r = low-bit w v (f 0 (omega arith)) in
     omega arith
 
--- what the type `[[u64; 4]; 256]` says
-pub record Stored (t : Square) : Type 0 where
-  pub whole : Whole t
-  pub fits : (a q : ℕ) → a < terms → q < words → getD (row t a) q 0 < 2 ^ 64
-
 pub square-same : (t u : Square) → Stored t → Stored u → ((a b : ℕ) → a < terms → b < terms → marked t a b ≡ marked u a b) → t ≡ u
 unfolding marked in-row
 square-same t u T U f = ext-getD [] t u (T .whole .rows ∙ sym (U .whole .rows)) (λ a h. same-row a (omega (arith, T .whole .rows)))
@@ -103,7 +98,7 @@ square-same t u T U f = ext-getD [] t u (T .whole .rows ∙ sym (U .whole .rows)
         (λ q h. let hq : q < words = omega (arith, T .whole .words a ha) in
         word-same 64 (getD (row t a) q 0) (getD (row u a) q 0) (T .fits a q ha hq) (U .fits a q ha hq) (λ k hk. same-word a q k ha hq hk))
 
--- who reaches whom has one table
+-- who reaches whom has one table (Shape.antt, `stored-of`: a table by value is stored)
 pub one-closure : (t u v : Square) → Stored u → Stored v → Closure t u → Closure t v → u ≡ v
 unfolding Closure
 one-closure t u v U W C D =

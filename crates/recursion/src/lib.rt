@@ -4,9 +4,8 @@
 use paper::Refusal;
 use paper::TERMS;
 ghost use mathlib.Core.Path.{_≡_};
-ghost use mathlib.Core.Bool.{true};
 ghost use Prim.Native.Nat.{_+_, _<_};
-ghost use Rattle.recursion.specs.Table.{terms, row, in-row, marked, row-with, with-mark, no-edges, with-edge, with-term, has-edge, is-cyclic, left, bare, Closure, cyclic-terms, unflagged, added, asked, listed};
+ghost use Rattle.recursion.specs.Table.{terms, in-row, marked, no-edges, with-edge, with-term, has-edge, is-cyclic, left, bare, Closure, cyclic-terms, unflagged, added, asked, listed};
 ghost use Rattle.recursion.specs.Loops.{both-of, has-some, join-at, join-by, join-to, widen, pass, on-diagonal, list-to};
 
 // The words of a row, 64 marks to a word.
