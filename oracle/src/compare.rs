@@ -8,7 +8,7 @@ use std::collections::{BTreeMap, BTreeSet};
 const LISTED: &str = include_str!("../../docs/DIFFERENCES.md");
 
 /// How many ids the Rust has for a rule outside the domain, where only its kind of answer is counted.
-pub const IDS_OUTSIDE: usize = 4096;
+pub const IDS_OUTSIDE: usize = 2048;
 /// Hash seeds tried for each graph.
 pub const SEEDS: usize = 16;
 
@@ -230,7 +230,7 @@ pub fn edges(graph: &str) -> BTreeSet<(usize, usize)> {
 struct Block {
     head: String,
     inner: Vec<String>,
-    /// The Rust ran out of ids though no walk back exists.
+    /// No walk back exists, but more sites than the Rust has ids.
     grew: bool,
 }
 

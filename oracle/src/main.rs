@@ -15,7 +15,7 @@ use std::path::Path;
 use std::process::ExitCode;
 
 const USAGE: &str = "\
-oracle kept [FILE]                      the Rust's text for the sheets of a stream
+oracle kept [FILE] [IDS]                the Rust's text for the sheets of a stream; outside the domain it has IDS ids
 oracle joins [FILE]                     the Rust's answers to the scripts of a stream
 oracle graphs [FILE] [SEEDS]            what the Rust finds in graphs of terms: the union over hash seeds
 oracle each [FILE] [SEEDS]              the same, every distinct answer
@@ -141,7 +141,8 @@ fn main() -> ExitCode {
     let file = args.get(1).copied();
     let good = match args[..] {
         ["kept", ..] => {
-            each_case(file, |s| rust_side::kept(&sheets::read(s.as_bytes()), 1 << 16));
+            let ids = number(2, compare::IDS_OUTSIDE as u64) as usize;
+            each_case(file, |s| rust_side::kept(&sheets::read(s.as_bytes()), ids));
             true
         }
         ["joins", ..] => {

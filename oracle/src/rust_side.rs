@@ -12,7 +12,7 @@ use isle::lexer::Pos;
 use isle::sema::{self, Sym, Term, TermEnv, TermFlags, TermId, TermKind, TypeId, VariantId};
 use isle::trie_again::inside::{constraints, Builder, IDS};
 use isle::trie_again::{self, Binding, BindingId, Constraint, Overlap, RuleSet};
-use std::cell::Cell;
+use std::cell::{Cell, RefCell};
 use std::collections::{BTreeMap, BTreeSet, HashMap};
 use std::panic::{catch_unwind, AssertUnwindSafe};
 
@@ -339,14 +339,24 @@ fn report(set: &[(TermId, RuleSet)], env: &TermEnv) -> Vec<String> {
         .collect()
 }
 
+thread_local!(static ALONE: RefCell<(usize, Builder)> = RefCell::new((IDS, Builder::default())));
+
 /// What the Rust does with a rule alone, in a builder of its own with `ids` ids.
 fn alone(rule: &Rule, sites: &Table, env: &TermEnv, ids: usize) -> Fate {
-    let mut builder = Builder::with_ids(ids);
-    match caught(|| Feed::new(sites).rule(&mut builder, rule, env)) {
-        Some(true) => Fate::Kept,
-        Some(false) => Fate::Refused,
-        None => Fate::Diverges,
-    }
+    ALONE.with(|alone| {
+        let (left, builder) = &mut *alone.borrow_mut();
+        if *left != ids {
+            (*left, *builder) = (ids, Builder::with_ids(ids));
+        }
+        let before = builder.rules().bindings.len();
+        let kept = caught(|| Feed::new(sites).rule(builder, rule, env));
+        builder.go_back(0, before);
+        match kept {
+            Some(true) => Fate::Kept,
+            Some(false) => Fate::Refused,
+            None => Fate::Diverges,
+        }
+    })
 }
 
 /// The Rust's text for a sheet: that of `lintelmoth kept` with the lines of a kept rule sorted, but for
@@ -354,7 +364,7 @@ fn alone(rule: &Rule, sites: &Table, env: &TermEnv, ids: usize) -> Fate {
 ///     rule PLACE PRIORITY refused 4       nothing told: the Rust tells constraints, not sites
 ///     rule PLACE PRIORITY left N WORD     outside the domain: 01's number, and what the Rust does with the rule
 ///                                         (kept, refused, diverges; - where it can't be handed over; `grew` after
-///                                         it where the ids ran out though no walk back exists)
+///                                         it where no walk back exists, but more sites than the Rust has ids)
 ///     rule PLACE PRIORITY diverges        in the domain, and the Rust gave up
 ///
 /// `ids` bounds the search outside the domain; inside it the Rust has all its ids.
@@ -428,14 +438,16 @@ fn one_rule(
     if !(number == 0 || number == 4) || !domain::no_walk_back(rule, sites) {
         return format!("left {number} {}", alone(rule, sites, env, ids).word());
     }
-    let before = builder.rules().bindings.len();
+    if number == 4 && domain::growth(rule, sites, IDS) > IDS {
+        return format!("left 4 {} grew", alone(rule, sites, env, ids).word());
+    }
+    let before = (builder.rules().rules.len(), builder.rules().bindings.len());
     match caught(|| Feed::new(sites).rule(builder, rule, env)) {
         Some(true) => "kept".to_string(),
         Some(false) => "refused 4".to_string(),
         None => {
-            builder.go_back(before);
-            let grew = number == 4 && domain::growth(rule, sites, IDS) > IDS;
-            if grew { "left 4 diverges grew" } else { "diverges" }.to_string()
+            builder.go_back(before.0, before.1);
+            "diverges".to_string()
         }
     }
 }

@@ -1,6 +1,6 @@
 //! Stored samples of the Rust's answers, to be replayed without any Rust.
 
-use crate::compare::{edges, Tally};
+use crate::compare::{edges, Tally, IDS_OUTSIDE};
 use crate::gen::{self, Rng};
 use crate::rust_side;
 use crate::spec01::{classes, sheets, terms};
@@ -23,7 +23,7 @@ pub fn write(dir: &Path, seed: u64) -> std::io::Result<()> {
         n += 1;
         let reading = sheets::read(sheet.as_bytes());
         let answer = sheets::kept(&reading);
-        let rust = rust_side::kept(&reading, 4096);
+        let rust = rust_side::kept(&reading, IDS_OUTSIDE);
         let whole = reading.stopped.is_none() && !rust.contains(" left ") && !rust.contains("diverges");
         let same_terms = rust.lines().last() == answer.lines().last();
         let mut tally = Tally::default();

@@ -37,10 +37,11 @@ impl Builder {
         errors.is_empty()
     }
 
-    /// After the ids ran out: as it was with `sites` sites and no rule begun.
-    pub fn go_back(&mut self, sites: usize) {
+    /// After the ids ran out: as it was with `rules` rules, `sites` sites and no rule begun.
+    pub fn go_back(&mut self, rules: usize, sites: usize) {
         self.0.current_rule = Rule::default();
         self.0.unreachable.clear();
+        self.0.rules.rules.truncate(rules);
         self.0.rules.bindings.truncate(sites);
         self.0.rules.binding_map.retain(|_, id| id.index() < sites);
     }

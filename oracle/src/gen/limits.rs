@@ -293,7 +293,7 @@ fn unfoldings(rng: &mut Rng, lines: &mut Lines) {
 fn doubling(rng: &mut Rng, lines: &mut Lines) {
     lines.begin(1, 0);
     lines.site(&argument(0));
-    lines.rule(&rule(1, levels(rng.from(3, 10))));
+    lines.rule(&rule(1, levels(*rng.pick(&[3, 4, 5, 6, 7, 8, 9, 10, 16]))));
     lines.end();
 }
 
@@ -313,7 +313,8 @@ fn levels(count: usize) -> Vec<Item> {
 fn conflict(rng: &mut Rng, lines: &mut Lines) {
     lines.begin(1, 0);
     lines.site(&argument(0));
-    let count = rng.from(2, 8);
+    // fifteen levels are more than the Rust has ids for
+    let count = *rng.pick(&[2, 3, 4, 5, 6, 7, 8, 15]);
     let mut items = levels(count);
     items.push(Item::Is(2 * count, FIVE));
     items.push(Item::Is(2 * count - 1, structure(rng.below(3))));

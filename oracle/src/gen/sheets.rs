@@ -205,13 +205,13 @@ impl Draft {
         let any = rng.below(known);
         let good = if rooted.is_empty() { any } else { *rng.pick(&rooted) };
         let shape = Value::any(rng, 2).shape().unwrap_or(Constraint::Some);
-        let item = match rng.below(20) {
+        let item = match rng.below(40) {
             0 => Item::Equal(good, known + rng.below(3)),
             1 => Item::Is(known + rng.below(2), shape),
             2 => Item::Is(any, shape),
             3 => Item::Equal(any, good),
             4 => Item::Is(good, Constraint::Struct { ty: 1, fields: rng.from(8, 10) as u8 }),
-            5..=11 => Item::Is(good, shape),
+            5..=18 => Item::Is(good, shape),
             _ if rooted.is_empty() => Item::Equal(good, any),
             _ => Item::Equal(good, *rng.pick(&rooted)),
         };

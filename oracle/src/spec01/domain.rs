@@ -3,7 +3,7 @@
 
 use super::loading::{least_equivalence, walk_back, Item, Rule};
 use super::sites::{Constraint, Site, Table};
-use std::collections::{BTreeMap, BTreeSet};
+use std::collections::BTreeMap;
 
 /// All items of a rule, also those past the one that was refused; nothing is held to a number of 01.
 struct All {
@@ -53,11 +53,45 @@ pub fn no_walk_back(rule: &Rule, sites: &Table) -> bool {
     walk_back(&lowest, &all.holders).is_none()
 }
 
+/// Classes as lists of members, for many sites.
+#[derive(Default)]
+struct Lists {
+    class: BTreeMap<usize, usize>,
+    members: Vec<Vec<usize>>,
+}
+
+impl Lists {
+    fn class(&mut self, site: usize) -> usize {
+        *self.class.entry(site).or_insert_with(|| {
+            self.members.push(vec![site]);
+            self.members.len() - 1
+        })
+    }
+
+    fn join(&mut self, a: usize, b: usize) {
+        let (a, b) = (self.class(a), self.class(b));
+        let (large, small) = if self.members[a].len() >= self.members[b].len() { (a, b) } else { (b, a) };
+        if large != small {
+            for site in std::mem::take(&mut self.members[small]) {
+                self.class.insert(site, large);
+                self.members[large].push(site);
+            }
+        }
+    }
+
+    fn dissolve(&mut self, class: usize) -> Vec<usize> {
+        let members = std::mem::take(&mut self.members[class]);
+        for site in &members {
+            self.class.remove(site);
+        }
+        members
+    }
+}
+
 /// How many sites the rounds would make of the rule where every member of a class gets every constraint of the class,
 /// counted no further than `most`. The Rust makes no more than these.
 pub fn growth(rule: &Rule, sites: &Table, most: usize) -> usize {
     let mut all = all(rule, sites);
-    let mut index: BTreeMap<Vec<u8>, usize> = BTreeMap::new();
     let key = |site: &Site| {
         let mut out = Vec::new();
         site.write(&mut out, &mut |out, s| {
@@ -66,32 +100,21 @@ pub fn growth(rule: &Rule, sites: &Table, most: usize) -> usize {
         });
         out
     };
-    for (n, site) in all.sites.iter().enumerate() {
-        index.insert(key(site), n);
-    }
+    let mut index: BTreeMap<Vec<u8>, usize> =
+        all.sites.iter().enumerate().map(|(n, site)| (key(site), n)).collect();
     let mut shapes: BTreeMap<usize, Vec<Constraint>> = BTreeMap::new();
     for (site, constraint, _) in &all.holders {
         shapes.entry(*site).or_default().push(constraint.clone());
     }
-    let mut classes: Vec<BTreeSet<usize>> = vec![];
-    let join = |classes: &mut Vec<BTreeSet<usize>>, a: usize, b: usize| {
-        let mut class = BTreeSet::from([a, b]);
-        classes.retain_mut(|other| {
-            let apart = other.is_disjoint(&class);
-            if !apart {
-                class.append(other);
-            }
-            apart
-        });
-        classes.push(class);
-    };
-    for &(a, b) in &all.equalities {
-        if a != b {
-            join(&mut classes, a, b);
-        }
+    let mut classes = Lists::default();
+    for &(a, b) in all.equalities.iter().filter(|(a, b)| a != b) {
+        classes.join(a, b);
     }
-    while let Some(at) = classes.iter().position(|class| class.iter().any(|s| shapes.contains_key(s))) {
-        let class = classes.swap_remove(at);
+    let constrained = |members: &Vec<usize>, shapes: &BTreeMap<usize, Vec<Constraint>>| {
+        members.iter().any(|s| shapes.contains_key(s))
+    };
+    while let Some(at) = classes.members.iter().position(|members| constrained(members, &shapes)) {
+        let class = classes.dissolve(at);
         let mut given: Vec<Constraint> = vec![];
         for shape in class.iter().filter_map(|s| shapes.get(s)).flatten() {
             if !given.contains(shape) {
@@ -99,7 +122,7 @@ pub fn growth(rule: &Rule, sites: &Table, most: usize) -> usize {
             }
         }
         for constraint in &given {
-            let mut lowest: Option<Vec<usize>> = None;
+            let mut first: Option<Vec<usize>> = None;
             for &member in &class {
                 let mut kids = vec![];
                 for kid in constraint.children(member) {
@@ -113,9 +136,9 @@ pub fn growth(rule: &Rule, sites: &Table, most: usize) -> usize {
                 if all.sites.len() > most {
                     return all.sites.len();
                 }
-                match &lowest {
-                    None => lowest = Some(kids),
-                    Some(first) => first.iter().zip(&kids).for_each(|(&x, &y)| join(&mut classes, x, y)),
+                match &first {
+                    None => first = Some(kids),
+                    Some(first) => first.iter().zip(&kids).for_each(|(&x, &y)| classes.join(x, y)),
                 }
             }
         }
