@@ -198,3 +198,53 @@ fn main() -> ExitCode {
     };
     ExitCode::from(!good as u8)
 }
+
+#[cfg(test)]
+mod tests {
+    use super::*;
+
+    const HERE: &str = env!("CARGO_MANIFEST_DIR");
+
+    fn sample(name: &str) -> String {
+        read(Some(&format!("{HERE}/samples/{name}")))
+    }
+
+    #[test]
+    fn the_stored_cases_hold() {
+        let (count, failed) = cases::run(&Path::new(HERE).join("cases"));
+        assert!(count >= 60 && failed.is_empty(), "{failed:?}");
+    }
+
+    #[test]
+    fn the_samples_are_as_01_and_the_rust_say() {
+        for (kind, input, answers, least) in [
+            ("sheets", "sheets.txt", "sheets.kept", 300),
+            ("checks", "sheets.txt", "sheets.check", 300),
+            ("scripts", "scripts.txt", "scripts.answers", 50),
+            ("scripts", "joins-600.script", "joins-600.answers", 1),
+            ("graphs", "graphs.txt", "graphs.answers", 50),
+        ] {
+            let cases = if kind == "graphs" { graphs(&sample(input)) } else { split(&sample(input)) };
+            assert!(cases.len() >= least, "{input}");
+            let path = |name: &str| format!("{HERE}/samples/{name}");
+            assert!(compare(kind, &path(input), &path(answers)), "{input}");
+        }
+        assert_eq!(sample("joins-600.script").lines().count(), 600);
+    }
+
+    #[test]
+    fn spec01_and_the_rust_agree_on_new_cases() {
+        assert!(itself(77, [500, 50, 100, 100]));
+    }
+
+    #[test]
+    fn a_wrong_answer_is_found() {
+        let sheet = "01000100\n020300\n020301\n0300000001000000000000000002\n0500000001\n04000001000101\n06\n";
+        let right = sheets::kept(&sheets::read(sheet.as_bytes()));
+        for (old, new) in [("total 4", "total 3"), (" e 0A030000 0A030100\n", ""), ("kept", "refused 4 1 0")] {
+            let mut tally = Tally::default();
+            tally.sheet(sheet, Some(&right.replace(old, new)));
+            assert_eq!(tally.differences.len(), 2, "against 01 and against the Rust: {old}");
+        }
+    }
+}
