@@ -44,20 +44,30 @@ impl Tally {
         self.counts.get(&(0, what.to_string())).copied().unwrap_or(0)
     }
 
-    /// Prints the counts and the first differences; true where there are none.
-    pub fn print(&self, kind: &str) -> bool {
-        println!("{kind}: {} cases", self.cases);
+    /// How many of the rules were compared, and why the others were not.
+    pub fn share(&self) -> String {
+        let compared = self.of("rules kept") + self.of("rules refused 4");
+        let left = self.counts.iter().filter(|((group, _), _)| *group == 1);
+        let left: String = left.map(|((_, why), n)| format!("; {n} left out, {why}")).collect();
+        format!("{compared} of {} rules compared{left}", self.of("rules"))
+    }
+
+    /// The counts and the first differences, to print; true where there are none.
+    pub fn summary(&self, kind: &str) -> (String, bool) {
+        let mut out = format!("{kind}: {} cases\n", self.cases);
         for ((group, what), n) in &self.counts {
-            println!("  {}{what}: {n}", ["", "left out, "][*group as usize]);
+            out += &format!("  {}{what}: {n}\n", ["", "left out, "][*group as usize]);
         }
         for difference in self.differences.iter().take(3) {
-            println!("  DIFFERENCE {difference}");
+            out += &format!("  DIFFERENCE {difference}\n");
         }
-        match self.first {
-            Some(case) => println!("  differences: {}, the first at case {case}", self.differences.len()),
-            None => println!("  differences: 0"),
-        }
-        self.differences.is_empty()
+        out += &match self.first {
+            Some(case) => {
+                format!("  differences: {}, the first at case {case}\n", self.differences.len())
+            }
+            None => "  differences: 0\n".to_string(),
+        };
+        (out, self.differences.is_empty())
     }
 
     /// A sheet with what our program's `kept` wrote for it (`None`: `spec01` speaks for us).

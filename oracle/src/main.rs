@@ -21,6 +21,7 @@ oracle graphs [FILE] [SEEDS]            what the Rust finds in graphs of terms: 
 oracle each [FILE] [SEEDS]              the same, every distinct answer
 oracle spec check|kept|joins|graphs [FILE]   document 01's answers to the same
 oracle gen sheets|limits|scripts|graphs SEED COUNT   cases
+oracle shares [FILE]                    for each sheet what was compared with the Rust, and what was left out and why
 oracle cases [DIR]                      the stored cases against spec01
 oracle compare sheets|checks|scripts|graphs INPUT ANSWERS   our program's answers against both
 oracle self [SEED [SHEETS LIMITS SCRIPTS GRAPHS]]   spec01 against the Rust
@@ -71,6 +72,12 @@ fn write(text: &str) {
     let _ = std::io::stdout().write_all(text.as_bytes());
 }
 
+fn print(tally: &Tally, kind: &str) -> bool {
+    let (text, good) = tally.summary(kind);
+    write(&text);
+    good
+}
+
 fn each_case(file: Option<&str>, answer: impl Fn(&str) -> String) {
     let answers: Vec<String> = split(&read(file)).iter().map(|case| answer(case)).collect();
     write(&answers.join(SPLIT));
@@ -111,7 +118,7 @@ fn compare(kind: &str, input: &str, answers: &str) -> bool {
             _ => tally.graph(case, Some(ours)),
         }
     }
-    tally.print(kind)
+    print(&tally, kind)
 }
 
 fn itself(seed: u64, counts: [u64; 4]) -> bool {
@@ -126,7 +133,7 @@ fn itself(seed: u64, counts: [u64; 4]) -> bool {
                 _ => tally.sheet(&case, None),
             }
         }
-        good &= tally.print(kind);
+        good &= print(&tally, kind);
     }
     good
 }
@@ -171,6 +178,14 @@ fn main() -> ExitCode {
             let cases: Option<Vec<String>> = (0..count).map(|n| gen::case(kind, seed, n)).collect();
             let split = if kind == "graphs" { "" } else { SPLIT };
             write(&cases.map_or(USAGE.to_string(), |cases| cases.join(split)));
+            true
+        }
+        ["shares", ..] => {
+            for (n, sheet) in split(&read(file)).iter().enumerate() {
+                let mut tally = Tally::default();
+                tally.sheet(sheet, None);
+                write(&format!("sheet {}: {}\n", n + 1, tally.share()));
+            }
             true
         }
         ["cases", ..] => {

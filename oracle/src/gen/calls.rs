@@ -5,12 +5,10 @@ use crate::rust_side::scripts::Sets;
 use crate::spec01::classes::Call;
 
 pub fn script(rng: &mut Rng) -> String {
+    if rng.chance(2) {
+        return longest(rng);
+    }
     let count = rng.from(20, 200);
-    calls(rng, count)
-}
-
-/// Exactly `count` calls.
-pub fn calls(rng: &mut Rng, count: usize) -> String {
     let sites = *rng.pick(&[3, 6, 12, 32, 64, 128, 1024]);
     let removals = *rng.pick(&[0, 0, 1, 3, 6]);
     let mut sets = Sets::default();
@@ -51,6 +49,30 @@ pub fn calls(rng: &mut Rng, count: usize) -> String {
         written += 1;
     }
     out
+}
+
+/// All sites, or a part of them, in one class by pairs of pairs: paths of up to ten links.
+fn longest(rng: &mut Rng) -> String {
+    let sites = *rng.pick(&[128, 256, 512, 1024]);
+    let mut out = String::new();
+    let mut step = 1;
+    while step < sites {
+        for x in (0..sites).step_by(2 * step) {
+            out += &(Call::Merge(x, x + step).write() + "\n");
+        }
+        step *= 2;
+    }
+    for _ in 0..30 {
+        let last = *rng.pick(&[1, 2, 8, sites]);
+        let x = sites - 1 - rng.below(last);
+        let call = match rng.below(6) {
+            0 => Call::FindMut(x),
+            1 => Call::Merge(x, rng.below(sites)),
+            _ => Call::Find(x),
+        };
+        out += &(call.write() + "\n");
+    }
+    out + "len\n"
 }
 
 fn any(rng: &mut Rng, sites: usize, removals: usize) -> Call {

@@ -219,6 +219,38 @@ impl Draft {
     }
 }
 
+impl Draft {
+    /// Two sites made equal under one shape, and constraints beneath them that may differ: what only shows once the
+    /// like-numbered children are joined.
+    fn clash(&mut self, rng: &mut Rng) {
+        let open: Vec<usize> =
+            self.rooted().into_iter().filter(|site| !self.shapes.contains_key(site)).collect();
+        if open.len() < 2 {
+            return;
+        }
+        let (mut a, mut b) = (*rng.pick(&open), *rng.pick(&open));
+        self.put(Item::Equal(a, b));
+        for _ in 0..rng.from(1, 3) {
+            let shape = match rng.below(3) {
+                0 => Constraint::Some,
+                1 => Constraint::Struct { ty: 1, fields: rng.from(1, 2) as u8 },
+                _ => Constraint::Variant { ty: 1, variant: 1, fields: rng.from(1, 2) as u8 },
+            };
+            if self.shapes.contains_key(&a) || self.shapes.contains_key(&b) {
+                return;
+            }
+            self.put(Item::Is(a, shape.clone()));
+            self.put(Item::Is(b, shape.clone()));
+            let field = rng.below(shape.children(0).len());
+            (a, b) = (self.sites.children(a, &shape)[field], self.sites.children(b, &shape)[field]);
+        }
+        let leaf = |rng: &mut Rng| Value::any(rng, 0).shape().unwrap_or(Constraint::Some);
+        let (one, other) = (leaf(rng), leaf(rng));
+        self.put(Item::Is(a, one));
+        self.put(Item::Is(b, other));
+    }
+}
+
 fn items(rng: &mut Rng, set: &Set, input: &mut Input, loaded: &[Vec<Item>]) -> Vec<Item> {
     let mut draft = Draft { sites: set.sites.clone(), shapes: BTreeMap::new(), items: vec![] };
     if !loaded.is_empty() && rng.chance(35) {
@@ -245,6 +277,9 @@ fn items(rng: &mut Rng, set: &Set, input: &mut Input, loaded: &[Vec<Item>]) -> V
         for _ in 0..more {
             draft.fitting(rng, input);
         }
+    }
+    if rng.chance(12) {
+        draft.clash(rng);
     }
     if rng.chance(5) && !draft.items.is_empty() {
         let again = rng.pick(&draft.items).clone();
