@@ -6,11 +6,7 @@ fn root_bits(prime: u128, cube: bool) -> u32 {
     let (mut low, mut high) = (0u128, 1 << 37);
     while high - low > 1 {
         let mid = (low + high) / 2;
-        let fits = if cube {
-            mid * mid * mid <= prime << 96
-        } else {
-            mid * mid <= prime << 64
-        };
+        let fits = if cube { mid * mid * mid <= prime << 96 } else { mid * mid <= prime << 64 };
         if fits {
             low = mid
         } else {
@@ -37,10 +33,7 @@ pub fn hex(data: &[u8]) -> String {
     padded.extend_from_slice(&(data.len() as u64 * 8).to_be_bytes());
 
     for chunk in padded.chunks(64) {
-        let mut w: Vec<u32> = chunk
-            .chunks(4)
-            .map(|b| u32::from_be_bytes([b[0], b[1], b[2], b[3]]))
-            .collect();
+        let mut w: Vec<u32> = chunk.chunks(4).map(|b| u32::from_be_bytes([b[0], b[1], b[2], b[3]])).collect();
         for i in 16..64 {
             let (a, b) = (w[i - 15], w[i - 2]);
             let s0 = a.rotate_right(7) ^ a.rotate_right(18) ^ (a >> 3);

@@ -108,11 +108,7 @@ pub trait ExprVisitor {
         ty: TypeId,
         variant: VariantId,
     ) -> Self::ExprId;
-    fn add_create_struct(
-        &mut self,
-        inputs: Vec<(Self::ExprId, TypeId)>,
-        ty: TypeId,
-    ) -> Self::ExprId;
+    fn add_create_struct(&mut self, inputs: Vec<(Self::ExprId, TypeId)>, ty: TypeId) -> Self::ExprId;
     #[allow(clippy::too_many_arguments)]
     fn add_construct(
         &mut self,
@@ -135,21 +131,14 @@ pub trait RuleVisitor {
     type PatternVisitor: PatternVisitor;
     type ExprVisitor: ExprVisitor;
     type Expr;
-    fn add_arg(
-        &mut self,
-        index: usize,
-        ty: TypeId,
-    ) -> <Self::PatternVisitor as PatternVisitor>::PatternId;
+    fn add_arg(&mut self, index: usize, ty: TypeId) -> <Self::PatternVisitor as PatternVisitor>::PatternId;
     fn add_pattern<F>(&mut self, visitor: F)
     where
         F: FnOnce(&mut Self::PatternVisitor);
     fn add_expr<F>(&mut self, visitor: F) -> Self::Expr
     where
         F: FnOnce(&mut Self::ExprVisitor) -> VisitedExpr<Self::ExprVisitor>;
-    fn expr_as_pattern(
-        &mut self,
-        expr: Self::Expr,
-    ) -> <Self::PatternVisitor as PatternVisitor>::PatternId;
+    fn expr_as_pattern(&mut self, expr: Self::Expr) -> <Self::PatternVisitor as PatternVisitor>::PatternId;
     fn pattern_as_expr(
         &mut self,
         pattern: <Self::PatternVisitor as PatternVisitor>::PatternId,

@@ -153,9 +153,8 @@ impl Tally {
     }
 
     fn cyclic(&mut self, ours: &str, rust: &str) {
-        let set = |line: &str| -> BTreeSet<String> {
-            line.split(' ').skip(1).map(|t| t.to_string()).collect()
-        };
+        let set =
+            |line: &str| -> BTreeSet<String> { line.split(' ').skip(1).map(|t| t.to_string()).collect() };
         if !ours.starts_with("cyclic") {
             return self.differ(format!("{ours:?} here, {rust:?} in the Rust"));
         }

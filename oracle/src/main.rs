@@ -198,10 +198,9 @@ fn main() -> ExitCode {
         ["compare", kind @ ("sheets" | "checks" | "scripts" | "graphs"), input, answers] => {
             compare(kind, input, answers)
         }
-        ["self", ..] => itself(
-            number(1, 1),
-            [number(2, 20000), number(3, 1000), number(4, 2000), number(5, 2000)],
-        ),
+        ["self", ..] => {
+            itself(number(1, 1), [number(2, 20000), number(3, 1000), number(4, 2000), number(5, 2000)])
+        }
         ["sample", dir, seed] => {
             sample::write(Path::new(dir), seed.parse().expect("SEED")).expect("the samples");
             true
@@ -254,9 +253,11 @@ mod tests {
 
     #[test]
     fn a_wrong_answer_is_found() {
-        let sheet = "01000100\n020300\n020301\n0300000001000000000000000002\n0500000001\n04000001000101\n06\n";
+        let sheet =
+            "01000100\n020300\n020301\n0300000001000000000000000002\n0500000001\n04000001000101\n06\n";
         let right = sheets::kept(&sheets::read(sheet.as_bytes()));
-        for (old, new) in [("total 4", "total 3"), (" e 0A030000 0A030100\n", ""), ("kept", "refused 4 1 0")] {
+        for (old, new) in [("total 4", "total 3"), (" e 0A030000 0A030100\n", ""), ("kept", "refused 4 1 0")]
+        {
             let mut tally = Tally::default();
             tally.sheet(sheet, Some(&right.replace(old, new)));
             assert_eq!(tally.differences.len(), 2, "against 01 and against the Rust: {old}");

@@ -115,20 +115,16 @@ fn binding(site: &Site, sources: &[BindingId]) -> Binding {
             instance: *instance,
         },
         Site::Iterator { .. } => Binding::Iterator { source: source() },
-        Site::MakeVariant { ty: t, variant, .. } => Binding::MakeVariant {
-            ty: ty(t),
-            variant: VariantId(*variant as usize),
-            fields: sources.into(),
-        },
+        Site::MakeVariant { ty: t, variant, .. } => {
+            Binding::MakeVariant { ty: ty(t), variant: VariantId(*variant as usize), fields: sources.into() }
+        }
         Site::MatchVariant { variant, field: f, .. } => Binding::MatchVariant {
             source: source(),
             variant: VariantId(*variant as usize),
             field: field(*f),
         },
         Site::MakeStruct { ty: t, .. } => Binding::MakeStruct { ty: ty(t), fields: sources.into() },
-        Site::ExtractStruct { field: f, .. } => {
-            Binding::ExtractStruct { source: source(), field: field(*f) }
-        }
+        Site::ExtractStruct { field: f, .. } => Binding::ExtractStruct { source: source(), field: field(*f) },
         Site::MakeSome { .. } => Binding::MakeSome { inner: source() },
         Site::MatchSome { .. } => Binding::MatchSome { source: source() },
         Site::MatchTuple { field: f, .. } => Binding::MatchTuple { source: source(), field: field(*f) },
@@ -138,20 +134,14 @@ fn binding(site: &Site, sources: &[BindingId]) -> Binding {
 fn constraint(c: &sites::Constraint) -> Constraint {
     let ty = |t: &u16| TypeId(*t as usize);
     match c {
-        sites::Constraint::Variant { ty: t, variant, fields } => Constraint::Variant {
-            ty: ty(t),
-            variant: VariantId(*variant as usize),
-            fields: field(*fields),
-        },
+        sites::Constraint::Variant { ty: t, variant, fields } => {
+            Constraint::Variant { ty: ty(t), variant: VariantId(*variant as usize), fields: field(*fields) }
+        }
         sites::Constraint::Struct { ty: t, fields } => {
             Constraint::Struct { ty: ty(t), fields: field(*fields) }
         }
-        sites::Constraint::ConstBool { ty: t, val } => {
-            Constraint::ConstBool { val: *val == 1, ty: ty(t) }
-        }
-        sites::Constraint::ConstInt { ty: t, val } => {
-            Constraint::ConstInt { val: *val as i128, ty: ty(t) }
-        }
+        sites::Constraint::ConstBool { ty: t, val } => Constraint::ConstBool { val: *val == 1, ty: ty(t) },
+        sites::Constraint::ConstInt { ty: t, val } => Constraint::ConstInt { val: *val as i128, ty: ty(t) },
         sites::Constraint::ConstPrim { val } => Constraint::ConstPrim { val: Sym(*val as usize) },
         sites::Constraint::Some => Constraint::Some,
     }
@@ -526,9 +516,8 @@ pub mod scripts {
             match *call {
                 Call::Merge(x, y) => {
                     let blurred = self.varies(x) || self.varies(y);
-                    self.blurred.retain(|&root| {
-                        Some(root) != self.sets.find(x) && Some(root) != self.sets.find(y)
-                    });
+                    self.blurred
+                        .retain(|&root| Some(root) != self.sets.find(x) && Some(root) != self.sets.find(y));
                     self.sets.merge(x, y);
                     if blurred {
                         self.blurred.extend(self.sets.find(x));
@@ -536,8 +525,7 @@ pub mod scripts {
                     "ok".to_string()
                 }
                 Call::Find(x) => {
-                    let links =
-                        if self.varies(x) { "?".to_string() } else { self.links(x).to_string() };
+                    let links = if self.varies(x) { "?".to_string() } else { self.links(x).to_string() };
                     or_none(self.sets.find(x).map(|site| format!("{site} {links}")))
                 }
                 Call::FindMut(x) => or_none(self.sets.find_mut(x).map(|site| site.to_string())),

@@ -27,8 +27,23 @@ fn about(rng: &mut Rng, limit: usize) -> usize {
 pub fn sheet(rng: &mut Rng) -> String {
     let mut lines = Lines::default();
     let kinds: [fn(&mut Rng, &mut Lines); 17] = [
-        sets, sites, sources, fields, rules, items, constrained, nested, equal, term_numbers, long_lines,
-        unfoldings, doubling, conflict, extremes, deep, children_fit,
+        sets,
+        sites,
+        sources,
+        fields,
+        rules,
+        items,
+        constrained,
+        nested,
+        equal,
+        term_numbers,
+        long_lines,
+        unfoldings,
+        doubling,
+        conflict,
+        extremes,
+        deep,
+        children_fit,
     ];
     rng.pick(&kinds)(rng, &mut lines);
     lines.text()
@@ -168,9 +183,8 @@ fn items(rng: &mut Rng, lines: &mut Lines) {
     for place in 1..4 {
         let count = about(rng, 32);
         let same = rng.chance(20);
-        let mut items: Vec<Item> = (0..count)
-            .map(|n| if same { Item::Equal(0, 0) } else { Item::Is(n, FIVE) })
-            .collect();
+        let mut items: Vec<Item> =
+            (0..count).map(|n| if same { Item::Equal(0, 0) } else { Item::Is(n, FIVE) }).collect();
         if rng.chance(20) {
             items.push(Item::Equal(0, 99));
         }

@@ -9,10 +9,17 @@ use std::collections::{BTreeMap, BTreeSet};
 
 /// What the reader met, in sheet order.
 pub enum Event {
-    Begin { term: u16, flags: u8 },
+    Begin {
+        term: u16,
+        flags: u8,
+    },
     Site(Site),
     /// A rule, its fate, and the sites known when it was decided.
-    Rule { rule: Rule, result: Result<(), Refusal>, sites: Table },
+    Rule {
+        rule: Rule,
+        result: Result<(), Refusal>,
+        sites: Table,
+    },
     End(Set),
 }
 
@@ -178,13 +185,7 @@ pub fn read(sheet: &[u8]) -> Reading {
             break;
         }
     }
-    Reading {
-        events: reader.events,
-        stopped,
-        flags: reader.flags,
-        edges: reader.edges,
-        open: reader.open,
-    }
+    Reading { events: reader.events, stopped, flags: reader.flags, edges: reader.edges, open: reader.open }
 }
 
 pub fn hex(bytes: &[u8]) -> String {

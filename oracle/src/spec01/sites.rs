@@ -80,11 +80,7 @@ impl Site {
             2 => Site::ConstPrim { val: b.two()? },
             3 => Site::Argument { index: b.one()? },
             4 => Site::Extractor { term: b.two()?, parameter: b.site()? },
-            5 => Site::Constructor {
-                term: b.two()?,
-                instance: b.number(4)? as u32,
-                parameters: b.list()?,
-            },
+            5 => Site::Constructor { term: b.two()?, instance: b.number(4)? as u32, parameters: b.list()? },
             6 => Site::Iterator { source: b.site()? },
             7 => Site::MakeVariant { ty: b.two()?, variant: b.two()?, fields: b.list()? },
             8 => Site::MatchVariant { source: b.site()?, variant: b.two()?, field: b.one()? },
