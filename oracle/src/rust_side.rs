@@ -547,7 +547,7 @@ pub mod scripts {
     pub fn run(script: &str) -> String {
         let mut sets = Sets::default();
         let mut out = String::new();
-        for (n, line) in script.lines().enumerate() {
+        for (n, line) in script.split_terminator('\n').enumerate() {
             match Call::read(line) {
                 Some(call) => out += &(sets.answer(&call) + "\n"),
                 None => return out + &format!("bad {}\n", n + 1),

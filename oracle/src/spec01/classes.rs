@@ -171,7 +171,7 @@ impl Classes {
 pub fn run(script: &str) -> String {
     let mut classes = Classes::default();
     let mut out = String::new();
-    for (n, line) in script.lines().enumerate() {
+    for (n, line) in script.split_terminator('\n').enumerate() {
         match Call::read(line) {
             Some(call) => out += &(classes.answer(&call) + "\n"),
             None => return out + &format!("bad {}\n", n + 1),
