@@ -1,7 +1,7 @@
 // Replays stored graphs: reads edges between terms and writes the cyclic terms of each graph.
 //
 // In: a line `A B` is an edge from term A to term B, in decimal; a line `end` closes a graph, and the next one begins without edges.
-// Out: for each graph a line `cyclic T T ..`, its cyclic terms ascending. An edge with a term over 255 is `refused 7`, and the graph stays as it was.
+// Out: for each graph a line `cyclic T T ..`, its cyclic terms ascending, four digits each. An edge with a term over 255 is `refused 7`, and the graph stays as it was.
 // Any other line is `bad LINE`, counted from 1, and so is a text that ends inside a line or a graph; nothing after it is read.
 use libc::STDIN_FILENO;
 use libc::STDOUT_FILENO;
@@ -94,9 +94,21 @@ fn write_bad(number: u64) {
     io::write_all(STDOUT_FILENO, b"\n");
 }
 
+// The lowest digit of a number in upper-case hexadecimal.
+fn glyph(n: u16) -> u8 {
+    let d = (n % 16) as u8;
+    if d < 10 { 48 + d } else { 55 + d }
+}
+
 fn write_term(term: u16) {
-    io::write_all(STDOUT_FILENO, b" ");
-    io::print_decimal(STDOUT_FILENO, term as u64);
+    let text = [
+        b' ',
+        glyph(term / 4096),
+        glyph(term / 256),
+        glyph(term / 16),
+        glyph(term),
+    ];
+    io::write_all(STDOUT_FILENO, &text);
 }
 
 fn write_terms(found: Listed) {
