@@ -1,0 +1,6 @@
+pub mod Decoded
+pub mod Bodies
+pub mod Frames
+pub mod Turns
+pub mod Whole
+pub mod Rooms

@@ -1,0 +1,27 @@
+use Rattle.frames.proofs.Rooms.{same-line, stop-is}
+use borrow.Author.Needs.{needs}
+use Rattle.frames.proofs.findings.write_stop.Statement.{statement}
+use Rattle.frames.proofs.findings.write_stop.Tie as tie
+use Rattle.frames.proofs.findings.write_stop.Reads as reads
+use Rattle.frames.proofs.findings.write_stop.Lts as lts
+use Rattle.frames.proofs.findings.number_of.Reads as number-of-reads
+use Rattle.frames.proofs.findings.write_five.Reads as write-five-reads
+
+-- src/findings.rt:119:26
+number-of-requires : tie.Need-number-of-requires
+number-of-requires c κs = search needs
+
+-- src/findings.rt:119:5
+write-five-requires : tie.Need-write-five-requires
+write-five-requires c κs = search needs
+
+-- src/findings.rt:116:1
+same-length : tie.Need-same-length
+same-length c = search needs
+
+-- src/findings.rt:116:1
+returns : tie.Need-returns
+returns c = same-line _ _ _ _ _ _ (stop-is _ _ _ (c .before .before .before .before .number-of .ensures)) (c .before .before .write-five .ensures)
+
+pub write-stop-spec : {M : Type 1} → statement M
+write-stop-spec = tie.close (tie.spec number-of-requires write-five-requires same-length returns)

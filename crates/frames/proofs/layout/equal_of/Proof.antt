@@ -1,0 +1,34 @@
+use native.Mathlib.Omega.{arith}
+use mathlib.Core.Path.{_≡_, sym}
+use lib.ListN.{length, getD}
+use denote.Ref.{now}
+use Rattle.frames.proofs.Frames.{frame-wrong, t-equal, frame-equal}
+use borrow.Author.Needs.{needs}
+use Rattle.frames.proofs.layout.equal_of.Statement.{statement}
+use Rattle.frames.proofs.layout.equal_of.Tie as tie
+use Rattle.frames.proofs.layout.equal_of.Reads as reads
+use Rattle.frames.proofs.layout.equal_of.Lts as lts
+use Rattle.frames.proofs.layout.two_at.Reads as two-at-reads
+
+-- src/layout.rt:186:9
+returns : tie.Need-returns
+returns c = sym (frame-wrong t-equal (now (c .before .before .args .s)) (c .before .before .pre .0) (c .before .before .pre .1) (c .if1 .taken))
+
+-- src/layout.rt:188:36
+two-at-requires : tie.Need-two-at-requires
+two-at-requires c κs = search needs
+
+-- src/layout.rt:188:57
+two-at-requires-2 : tie.Need-two-at-requires-2
+two-at-requires-2 c κs = search needs
+
+-- src/layout.rt:181:1
+returns-2 : tie.Need-returns-2
+returns-2 c =
+    let e = frame-equal (now (c .before .before .before .before .args .s)) (omega (arith, c .before .before .if1 .left)) (c .before .before .before .before .pre .1) in
+    let f = c .before .two-at .ensures in
+    let g = c .two-at2 .ensures in
+    cc
+
+pub equal-of-spec : {M : Type 1} → statement M
+equal-of-spec = tie.close (tie.spec returns two-at-requires two-at-requires-2 returns-2)
