@@ -1,0 +1,87 @@
+use Rattle.lines.specs.Held.{stored}
+use borrow.Author.Needs.{needs}
+use mathlib.Core.Path.{_≡_, refl, _∙_}
+use Prim.Native.Nat.{_≤_, _-_, _+_}
+use native.Mathlib.Omega.{arith}
+use lib.ListN.{length, length-set}
+use denote.Ref.{now}
+use Rattle.lines.proofs.Scan.{one-stored, held-full, held-is}
+use Rattle.lines.proofs.hold.Statement.{statement}
+use Rattle.lines.proofs.hold.Tie as tie
+use Rattle.lines.proofs.hold.Reads as reads
+use Rattle.lines.proofs.hold.Lts as lts
+use Rattle.lines.proofs.least.Reads as least-reads
+
+abbrev Inv-loop : tie.InvT-loop
+Inv-loop s bytes₀ n k j₀ bytes j = (j ≤ k) × (bytes ≡ stored bytes₀ n s j) × (n + k ≤ 65) × (k ≤ length s)
+
+abbrev μ-loop : tie.MeasureT-loop
+μ-loop s bytes₀ n k j₀ bytes j = k - j
+
+-- src/lib.rt:58:9
+returns : tie.Need-returns Inv-loop μ-loop
+returns c = held-full (c .before .before .before .args .h) (now (c .before .before .before .args .s)) (c .if1 .taken)
+
+-- src/lib.rt:62:28
+sub-least : tie.Need-sub-least Inv-loop μ-loop
+sub-least c = omega arith
+
+-- src/lib.rt:62:9
+least-requires : tie.Need-least-requires Inv-loop μ-loop
+least-requires c κs = search needs
+
+-- src/lib.rt:64:5
+loop-holds : tie.Need-loop-holds Inv-loop μ-loop
+unfolding stored
+loop-holds c = (omega arith, refl, omega arith, omega arith)
+
+-- src/lib.rt:65:24
+shared-slice-read-bytes : tie.Need-shared-slice-read-bytes Inv-loop μ-loop
+shared-slice-read-bytes c = omega arith
+
+-- src/lib.rt:65:15
+add-bytes : tie.Need-add-bytes Inv-loop μ-loop
+add-bytes c = omega arith
+
+-- src/lib.rt:65:9
+array-write-bytes : tie.Need-array-write-bytes Inv-loop μ-loop
+array-write-bytes c = omega arith
+
+-- src/lib.rt:66:9
+add-j : tie.Need-add-j Inv-loop μ-loop
+add-j c = omega arith
+
+-- src/lib.rt:64:5
+loop-less : tie.Need-loop-less Inv-loop μ-loop
+loop-less c = omega arith
+
+-- src/lib.rt:64:5
+loop-again : tie.Need-loop-again Inv-loop μ-loop
+loop-again c = (omega arith, one-stored _ _ _ _ _ (c .before .before .loop .inv .1), omega arith, omega arith)
+
+-- src/lib.rt:68:20
+add-t8 : tie.Need-add-t8 Inv-loop μ-loop
+add-t8 c = omega arith
+
+-- src/lib.rt:54:1
+returns-2 : tie.Need-returns-2 Inv-loop μ-loop
+returns-2 c = held-is (c .before .before .before .before .before .before .before .args .h) (now (c .before .before .before .before .before .before .before .args .s)) (c .before .before .least .result) (c .before .loop .j) (c .before .loop .bytes) (omega arith) (c .before .before .least .ensures) (omega arith) (c .before .loop .inv .1)
+
+pub hold-spec : {M : Type 1} → statement M
+hold-spec =
+    tie.close
+    (tie.spec
+    Inv-loop
+    μ-loop
+    returns
+    sub-least
+    least-requires
+    loop-holds
+    shared-slice-read-bytes
+    add-bytes
+    array-write-bytes
+    add-j
+    loop-less
+    loop-again
+    add-t8
+    returns-2)
