@@ -2,8 +2,8 @@
 ghost use mathlib.Core.Path.{_≡_};
 ghost use Prim.Native.Nat.{ℕ, min};
 ghost use lib.ListN.{drop};
-ghost use Rattle.lines.specs.Ends.{line-end};
-ghost use Rattle.lines.specs.Held.{no-line, held-more};
+ghost use Rattle.pieces.specs.Ends.{line-end};
+ghost use Rattle.pieces.specs.Held.{no-line, held-more};
 
 // "each ended by LF"
 pub const LINE_FEED: u8 = 10;

@@ -8,12 +8,12 @@ use lib.ListN.{length, getD, take, drop, set}
 use lib.Seq.{drop-cons}
 use lib.Dec.{eqb}
 use borrow.Author.Tests.{eq-eqb, ne-eqb, le-leb, lt-leb}
-use Rattle.lines.specs.declared.Ends.{Ends}
-use Rattle.lines.specs.declared.Ends.the-variants.{At, Open}
-use Rattle.lines.specs.declared.Held.{Held}
-use Rattle.lines.specs.Fed.{max-held}
-use Rattle.lines.specs.Ends.{line-end}
-use Rattle.lines.specs.Held.{stored, held-more}
+use Rattle.pieces.specs.declared.Ends.{Ends}
+use Rattle.pieces.specs.declared.Ends.the-variants.{At, Open}
+use Rattle.pieces.specs.declared.Held.{Held}
+use Rattle.pieces.specs.Fed.{max-held}
+use Rattle.pieces.specs.Ends.{line-end}
+use Rattle.pieces.specs.Held.{stored, held-more}
 
 drop-all : (l : List ℕ) (n : ℕ) → length l ≤ n → drop n l ≡ []
 drop-all [] zero h = refl

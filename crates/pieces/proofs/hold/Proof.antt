@@ -1,16 +1,16 @@
-use Rattle.lines.specs.Held.{stored}
+use Rattle.pieces.specs.Held.{stored}
 use borrow.Author.Needs.{needs}
 use mathlib.Core.Path.{_≡_, refl, _∙_}
 use Prim.Native.Nat.{_≤_, _-_, _+_}
 use native.Mathlib.Omega.{arith}
 use lib.ListN.{length, length-set}
 use denote.Ref.{now}
-use Rattle.lines.proofs.Scan.{one-stored, held-full, held-is}
-use Rattle.lines.proofs.hold.Statement.{statement}
-use Rattle.lines.proofs.hold.Tie as tie
-use Rattle.lines.proofs.hold.Reads as reads
-use Rattle.lines.proofs.hold.Lts as lts
-use Rattle.lines.proofs.least.Reads as least-reads
+use Rattle.pieces.proofs.Scan.{one-stored, held-full, held-is}
+use Rattle.pieces.proofs.hold.Statement.{statement}
+use Rattle.pieces.proofs.hold.Tie as tie
+use Rattle.pieces.proofs.hold.Reads as reads
+use Rattle.pieces.proofs.hold.Lts as lts
+use Rattle.pieces.proofs.least.Reads as least-reads
 
 abbrev Inv-loop : tie.InvT-loop
 Inv-loop s bytes₀ n k j₀ bytes j = (j ≤ k) × (bytes ≡ stored bytes₀ n s j) × (n + k ≤ 65) × (k ≤ length s)

@@ -3,12 +3,12 @@ use Prim.Native.Nat.{_≤_, _-_, _+_}
 use native.Mathlib.Omega.{arith}
 use lib.ListN.{length, drop}
 use denote.Ref.{now}
-use Rattle.lines.specs.Ends.{line-end}
-use Rattle.lines.proofs.Scan.{ends-here, goes-on, no-end}
-use Rattle.lines.proofs.line_end.Statement.{statement}
-use Rattle.lines.proofs.line_end.Tie as tie
-use Rattle.lines.proofs.line_end.Reads as reads
-use Rattle.lines.proofs.line_end.Lts as lts
+use Rattle.pieces.specs.Ends.{line-end}
+use Rattle.pieces.proofs.Scan.{ends-here, goes-on, no-end}
+use Rattle.pieces.proofs.line_end.Statement.{statement}
+use Rattle.pieces.proofs.line_end.Tie as tie
+use Rattle.pieces.proofs.line_end.Reads as reads
+use Rattle.pieces.proofs.line_end.Lts as lts
 
 abbrev Inv-loop : tie.InvT-loop
 Inv-loop s from i₀ i = line-end i (drop i s) ≡ line-end from (drop from s)

@@ -9,8 +9,8 @@ use lib.Seq.{paste, paste-zero, paste-suc, take-paste}
 use lib.Dec.{leb}
 use borrow.Author.Tests.{leb-true, leb-false}
 use Rattle.paper.specs.Words.{if_then_else_}
-use Rattle.lines.specs.declared.Held.{Held}
-use Rattle.lines.specs.Fed.{max-held, held-of}
+use Rattle.pieces.specs.declared.Held.{Held}
+use Rattle.pieces.specs.Fed.{max-held, held-of}
 
 -- the bytes that are held
 abbrev pub held-in : Held → List ℕ
