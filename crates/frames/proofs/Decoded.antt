@@ -11,9 +11,10 @@ use lib.Seq.{drop-cons, drop-drop}
 use lib.Dec.{ltb, leb}
 use borrow.Author.Tests.{lt-ltb, le-ltb, le-leb, lt-leb, ltb-true}
 use Rattle.paper.specs.Words.{if_then_else_, or-else}
+use Rattle.paper.specs.Numbers.{max-digits}
 use Rattle.paper.specs.Layout.{digit, with-byte, bytes, line-bytes}
 use Rattle.frames.specs.declared.Bytes.{Bytes}
-use Rattle.frames.specs.Said.{pair-value, padded, bytes-said}
+use Rattle.frames.specs.Said.{max-bytes, pair-value, padded, bytes-said}
 
 -- ---- two digits
 pub pair-first : (h l a : ℕ) → a ≡ digit h → 16 ≤ a → 256 ≡ pair-value h l
@@ -95,11 +96,11 @@ two-first l i h =
 -- ---- the loop: j bytes of the line l are in `out`
 pub record Decoding (l out : List ℕ) (j : ℕ) : Type 0 where
   pub said : bytes l ≡ ahead (take j out) (bytes (drop (2 * j) l))
-  pub zeros : drop j out ≡ replicate (32 - j) 0
-  pub long : length out ≡ 32
+  pub zeros : drop j out ≡ replicate (max-bytes - j) 0
+  pub long : length out ≡ max-bytes
 
-pub decoding-none : (l : List ℕ) → Decoding l (replicate 32 0) 0
-decoding-none l = record { said = go (bytes l); zeros = refl; long = length-replicate {A = ℕ} 32 0 }
+pub decoding-none : (l : List ℕ) → Decoding l (replicate max-bytes 0) 0
+decoding-none l = record { said = go (bytes l); zeros = refl; long = length-replicate {A = ℕ} max-bytes 0 }
   where
     go : (o : Option (List ℕ)) → o ≡ ahead [] o
     go none = refl
@@ -111,7 +112,7 @@ said-next l j h =
     let e : 2 * (j + 1) ≡ 2 * j + 2 = omega arith in
     rw (e, two-first l (2 * j) (omega arith))
 
-pub decoding-more : (l out : List ℕ) (j v : ℕ) → Decoding l out j → 2 * j + 1 < length l → j < 32 → v ≡ pair-value (getD l (2 * j) 0) (getD l (2 * j + 1) 0) → v < 256 → Decoding l (set out j v) (j + 1)
+pub decoding-more : (l out : List ℕ) (j v : ℕ) → Decoding l out j → 2 * j + 1 < length l → j < max-bytes → v ≡ pair-value (getD l (2 * j) 0) (getD l (2 * j + 1) 0) → v < 256 → Decoding l (set out j v) (j + 1)
 decoding-more l out j v d h k e g =
     let p : pair-value (getD l (2 * j) 0) (getD l (2 * j + 1) 0) < 256 = omega arith in
     let n : j < length out = let x = d .long in omega arith in
@@ -119,10 +120,10 @@ decoding-more l out j v d h k e g =
     let rest = bytes (drop (2 * (j + 1)) l) in
     let b : bytes (drop (2 * j) l) ≡ ahead (v ∷ []) rest = said-next l j h ∙ (pair-right (getD l (2 * j) 0) (getD l (2 * j + 1) 0) rest p ∙ ap (λ x. ahead (x ∷ []) rest) (sym e)) in
     let z : drop (j + 1) (set out j v) ≡ drop 1 (drop j out) = rw (add-one j) (drop-set out j v) ∙ (sym (drop-drop 1 j out ∙ ap (λ i. drop i out) (let q : j + 1 ≡ suc j = omega arith in q))) in
-    let y : 32 - j - 1 ≡ 32 - (j + 1) = omega arith in
+    let y : max-bytes - j - 1 ≡ max-bytes - (j + 1) = omega arith in
     record {
       said = d .said ∙ (ap (ahead (take j out)) b ∙ (ahead-ahead (take j out) (v ∷ []) rest ∙ ap (λ t. ahead t rest) (sym a)));
-      zeros = z ∙ (ap (drop 1) (d .zeros) ∙ (drop-zeros (32 - j) (omega arith) ∙ ap (λ n. replicate n 0) y));
+      zeros = z ∙ (ap (drop 1) (d .zeros) ∙ (drop-zeros (max-bytes - j) (omega arith) ∙ ap (λ n. replicate n 0) y));
       long = simp length-set (d .long);
     }
 
@@ -138,31 +139,31 @@ odd-none [] n = absurd (n refl)
 odd-none (h ∷ []) n = refl
 odd-none (h ∷ d ∷ s) n = rw (odd-none s (λ e. n (omega arith)))
 
-short-line : (l : List ℕ) → length l ≤ 64 → line-bytes l ≡ bytes l
+short-line : (l : List ℕ) → length l ≤ max-digits → line-bytes l ≡ bytes l
 unfolding line-bytes
-short-line l h = rw (le-leb (length l) 64 h)
+short-line l h = rw (le-leb (length l) max-digits h)
 
-pub line-long : (l : List ℕ) → 64 < length l → bytes-said none ≡ bytes-said (line-bytes l)
+pub line-long : (l : List ℕ) → max-digits < length l → bytes-said none ≡ bytes-said (line-bytes l)
 unfolding line-bytes
-line-long l h = rw (lt-leb (length l) 64 h)
+line-long l h = rw (lt-leb (length l) max-digits h)
 
-pub line-odd : (l : List ℕ) → length l ≤ 64 → (length l % 2 ≡ 0 → ⊥) → bytes-said none ≡ bytes-said (line-bytes l)
+pub line-odd : (l : List ℕ) → length l ≤ max-digits → (length l % 2 ≡ 0 → ⊥) → bytes-said none ≡ bytes-said (line-bytes l)
 line-odd l h n = rw (short-line l h, odd-none l n)
 
-pub line-wrong : (l : List ℕ) → length l ≤ 64 → bytes l ≡ none → bytes-said none ≡ bytes-said (line-bytes l)
+pub line-wrong : (l : List ℕ) → length l ≤ max-digits → bytes l ≡ none → bytes-said none ≡ bytes-said (line-bytes l)
 line-wrong l h e = rw (short-line l h, e)
 
-pub line-right : (l out : List ℕ) (k j : ℕ) → length l ≤ 64 → length l % 2 ≡ 0 → k ≡ length l / 2 → k ≤ j → j ≤ k → Decoding l out j → record { right = true; length = k; bytes = out } ≡ bytes-said (line-bytes l)
+pub line-right : (l out : List ℕ) (k j : ℕ) → length l ≤ max-digits → length l % 2 ≡ 0 → k ≡ length l / 2 → k ≤ j → j ≤ k → Decoding l out j → record { right = true; length = k; bytes = out } ≡ bytes-said (line-bytes l)
 unfolding bytes bytes-said padded
 line-right l out k j h p e a b d =
     let q : j ≡ k = omega arith in
     let n : length (take j out) ≡ k = length-take j out ∙ (let x = d .long in omega arith) in
     let s : line-bytes l ≡ some (take j out) = short-line l h ∙ (d .said ∙ (ap (λ t. ahead (take j out) (bytes t)) (drop-all l (2 * j) (omega arith)) ∙ ap some (append-nil (take j out)))) in
-    let m : 32 - j ≡ 32 - length (take j out) = omega arith in
-    let f : out ≡ take j out ++ replicate (32 - length (take j out)) 0 = sym (take-append-drop j out) ∙ ap (λ t. take j out ++ t) (d .zeros ∙ ap (λ i. replicate i 0) m) in
+    let m : max-bytes - j ≡ max-bytes - length (take j out) = omega arith in
+    let f : out ≡ take j out ++ replicate (max-bytes - length (take j out)) 0 = sym (take-append-drop j out) ∙ ap (λ t. take j out ++ t) (d .zeros ∙ ap (λ i. replicate i 0) m) in
     rw s (cc)
 
-pub line-none : (l : List ℕ) (r : Bytes) → r ≡ bytes-said none → bytes-said none ≡ bytes-said (line-bytes l) → (r ≡ bytes-said (line-bytes l)) × (r .length ≤ 32)
+pub line-none : (l : List ℕ) (r : Bytes) → r ≡ bytes-said none → bytes-said none ≡ bytes-said (line-bytes l) → (r ≡ bytes-said (line-bytes l)) × (r .length ≤ max-bytes)
 unfolding bytes-said
 line-none l r e f =
     let n : r .length ≡ 0 = ap (λ b. b .length) e in

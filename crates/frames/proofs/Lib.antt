@@ -3,4 +3,3 @@ pub mod Bodies
 pub mod Frames
 pub mod Turns
 pub mod Whole
-pub mod Rooms

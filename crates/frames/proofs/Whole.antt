@@ -13,7 +13,7 @@ use Rattle.frames.specs.declared.Bytes.{Bytes}
 use Rattle.frames.specs.declared.Read.{Read}
 use Rattle.frames.specs.declared.Frame.{Frame}
 use Rattle.frames.specs.declared.Frame.the-variants as said
-use Rattle.frames.specs.Said.{padded, bytes-said, code, frame-in, reading-of}
+use Rattle.frames.specs.Said.{max-bytes, padded, bytes-said, code, frame-in, reading-of}
 
 abbrev reading : Option (List ℕ) → Read
 reading o = record { frame = code (framed o); length = length (or-else o []); bytes = padded (or-else o []) }
@@ -52,5 +52,5 @@ lent (some s) b e = rw (e, padded-take s)
 
 pub lent-fits : (o : Option (List ℕ)) (b : Bytes) → b ≡ bytes-said o → b .length ≤ length (b .bytes)
 unfolding bytes-said padded
-lent-fits none b e = rw e (let n = length-replicate {A = ℕ} 32 0 in omega arith)
+lent-fits none b e = rw e (let n = length-replicate {A = ℕ} max-bytes 0 in omega arith)
 lent-fits (some s) b e = rw e (simp length-append (omega arith))

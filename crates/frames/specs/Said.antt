@@ -22,10 +22,11 @@ use Rattle.frames.specs.declared.layout.Shape.the-variants.{Are, NoShape
 unfoldable pub pair-value : ℕ → ℕ → ℕ
 pair-value h l = if ltb (digit h) 16 && ltb (digit l) 16 then digit h * 16 + digit l else 256
 
--- bytes, and 0 from there on: as many as 64 digits write
+-- "at most 64 digits": so many bytes
 abbrev pub max-bytes : ℕ
-max-bytes = 32
+max-bytes = max-digits / 2
 
+-- bytes, and 0 from there on
 unfoldable pub padded : List ℕ → List ℕ
 padded s = s ++ replicate (max-bytes - length s) 0
 

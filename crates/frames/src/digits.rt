@@ -4,7 +4,7 @@ ghost use mathlib.Core.Option.{none};
 ghost use Prim.Native.Nat.{_+_, _*_, _≤_, _<_};
 ghost use lib.ListN.{length, getD};
 ghost use Rattle.paper.specs.Layout.{digit, line-bytes};
-ghost use Rattle.frames.specs.Said.{bytes-said, pair-value};
+ghost use Rattle.frames.specs.Said.{max-bytes, bytes-said, pair-value};
 use crate::BYTES;
 use crate::Bytes;
 
@@ -55,7 +55,7 @@ fn no_bytes() -> Bytes
 
 // The bytes of a line: at most 64 digits, two to a byte, in one pass.
 pub fn bytes_of(line: &[u8]) -> Bytes
-    ensures { λ r. ⌜ (r ≡ bytes-said (line-bytes (now (line .entry)))) × (r .length ≤ 32) ⌝ }
+    ensures { λ r. ⌜ (r ≡ bytes-said (line-bytes (now (line .entry)))) × (r .length ≤ max-bytes) ⌝ }
 {
     let n = line.len();
     if paper::DIGITS < n {

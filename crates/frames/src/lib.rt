@@ -1,10 +1,9 @@
-// A line of a sheet: its digits to bytes, its bytes to a frame, and a finding to its line.
+// A line of a sheet: its digits to bytes, and its bytes to a frame.
 ghost use mathlib.Core.Path.{_≡_};
 ghost use Prim.Native.Nat.{_≤_};
-ghost use Rattle.frames.specs.Said.{reading-of};
+ghost use Rattle.frames.specs.Said.{max-bytes, reading-of};
 
 pub mod digits;
-pub mod findings;
 pub mod layout;
 
 use paper::Item;
@@ -45,7 +44,7 @@ pub struct Read {
 
 // A line, without its LF.
 pub fn read_line(line: &[u8]) -> Read
-    ensures { λ r. ⌜ (r ≡ reading-of (now (line .entry))) × (r .length ≤ 32) ⌝ }
+    ensures { λ r. ⌜ (r ≡ reading-of (now (line .entry))) × (r .length ≤ max-bytes) ⌝ }
 {
     let got = digits::bytes_of(line);
     let length = got.length;

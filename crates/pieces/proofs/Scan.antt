@@ -11,7 +11,7 @@ use borrow.Author.Tests.{eq-eqb, ne-eqb, le-leb, lt-leb}
 use Rattle.pieces.specs.declared.Ends.{Ends}
 use Rattle.pieces.specs.declared.Ends.the-variants.{At, Open}
 use Rattle.pieces.specs.declared.Held.{Held}
-use Rattle.pieces.specs.Fed.{max-held}
+use Rattle.pieces.specs.Fed.{max-held, line-feed}
 use Rattle.pieces.specs.Ends.{line-end}
 use Rattle.pieces.specs.Held.{stored, held-more}
 
@@ -21,13 +21,13 @@ drop-all [] (suc n) h = refl
 drop-all (x ∷ l) zero h = absurd (omega arith)
 drop-all (x ∷ l) (suc n) h = drop-all l n (omega arith)
 
-pub ends-here : (s : List ℕ) (i : ℕ) (e : Ends) → i < length s → getD s i 0 ≡ 10 → line-end i (drop i s) ≡ e → At i ≡ e
+pub ends-here : (s : List ℕ) (i : ℕ) (e : Ends) → i < length s → getD s i 0 ≡ line-feed → line-end i (drop i s) ≡ e → At i ≡ e
 unfolding line-end
-ends-here s i e h q p = sym (rw (drop-cons s i 0 h) (rw (eq-eqb (getD s i 0) 10 q, line-end))) ∙ p
+ends-here s i e h q p = sym (rw (drop-cons s i 0 h) (rw (eq-eqb (getD s i 0) line-feed q, line-end))) ∙ p
 
-pub goes-on : (s : List ℕ) (i : ℕ) (e : Ends) → i < length s → (getD s i 0 ≡ 10 → ⊥) → line-end i (drop i s) ≡ e → line-end (i + 1) (drop (i + 1) s) ≡ e
+pub goes-on : (s : List ℕ) (i : ℕ) (e : Ends) → i < length s → (getD s i 0 ≡ line-feed → ⊥) → line-end i (drop i s) ≡ e → line-end (i + 1) (drop (i + 1) s) ≡ e
 unfolding line-end
-goes-on s i e h q p = sym (rw (drop-cons s i 0 h, add-one i) (rw (ne-eqb (getD s i 0) 10 q, line-end))) ∙ p
+goes-on s i e h q p = sym (rw (drop-cons s i 0 h, add-one i) (rw (ne-eqb (getD s i 0) line-feed q, line-end))) ∙ p
 
 pub no-end : (s : List ℕ) (i : ℕ) (e : Ends) → length s ≤ i → line-end i (drop i s) ≡ e → Open ≡ e
 unfolding line-end
@@ -39,8 +39,8 @@ one-stored d at s j out e = rw (e, add-one j)
 
 pub held-full : (h : Held) (s : List ℕ) → max-held < h .length → h ≡ held-more h s
 unfolding held-more
-held-full h s l = rw (lt-leb (h .length) 65 l)
+held-full h s l = rw (lt-leb (h .length) max-held l)
 
 pub held-is : (h : Held) (s : List ℕ) (k j : ℕ) (out : List ℕ) → h .length ≤ max-held → k ≡ min (length s) (max-held - h .length) → j ≡ k → out ≡ stored (h .bytes) (h .length) s j → record { length = h .length + k; bytes = out } ≡ held-more h s
 unfolding held-more
-held-is h s k j out l f g p = rw (p, g, f, le-leb (h .length) 65 l)
+held-is h s k j out l f g p = rw (p, g, f, le-leb (h .length) max-held l)

@@ -1,3 +1,4 @@
+use Rattle.pieces.specs.Fed.{max-held}
 use Rattle.pieces.specs.Held.{stored}
 use borrow.Author.Needs.{needs}
 use mathlib.Core.Path.{_≡_, refl, _∙_}
@@ -13,7 +14,7 @@ use Rattle.pieces.proofs.hold.Lts as lts
 use Rattle.pieces.proofs.least.Reads as least-reads
 
 abbrev Inv-loop : tie.InvT-loop
-Inv-loop s bytes₀ n k j₀ bytes j = (j ≤ k) × (bytes ≡ stored bytes₀ n s j) × (n + k ≤ 65) × (k ≤ length s)
+Inv-loop s bytes₀ n k j₀ bytes j = (j ≤ k) × (bytes ≡ stored bytes₀ n s j) × (n + k ≤ max-held) × (k ≤ length s)
 
 abbrev μ-loop : tie.MeasureT-loop
 μ-loop s bytes₀ n k j₀ bytes j = k - j

@@ -12,9 +12,9 @@ use Rattle.paper.specs.declared.Refusal.{Refusal}
 use Rattle.paper.specs.Numbers.{number}
 use Rattle.paper.specs.Layout.{digit-of, hex}
 use Rattle.paper.specs.Sheets.{refusal-found, stop-found}
-use Rattle.frames.specs.declared.findings.Room.{Room}
-use Rattle.frames.specs.declared.findings.Room.the-variants.{To, Short}
-use Rattle.frames.specs.Written.{written-at, room-said, room-after, digits-of, five-found}
+use Rattle.findings.specs.declared.Room.{Room}
+use Rattle.findings.specs.declared.Room.the-variants.{To, Short}
+use Rattle.findings.specs.Written.{written-at, room-said, room-after, digits-of, five-found}
 
 -- ---- digits
 length-digits : (b : List ℕ) → length (digits-of b) ≡ 2 * length b

@@ -5,7 +5,7 @@ ghost use lib.ListN.{length};
 ghost use Rattle.paper.specs.Numbers.{number};
 ghost use Rattle.paper.specs.Layout.{digit-of, hex};
 ghost use Rattle.paper.specs.Sheets.{refusal-found, term-found, stop-found};
-ghost use Rattle.frames.specs.Written.{written-at, room-said, room-after, digits-of, five-found, ended-found};
+ghost use Rattle.findings.specs.Written.{written-at, room-said, room-after, digits-of, five-found, ended-found};
 use paper::Refusal;
 
 // Written up to here; or the room was too short, and nothing was written.

@@ -1,4 +1,5 @@
 -- Lines in lent memory.
+use mathlib.Core.Path.{_≡_, refl}
 use mathlib.Core.Bool.{Bool, true, false}
 use mathlib.Core.List.{List, [], _∷_, _++_}
 use Prim.Native.Nat.{ℕ, _+_, _/_, _%_}
@@ -6,8 +7,9 @@ use lib.ListN.{length, take, drop}
 use lib.Dec.{leb}
 use Rattle.paper.specs.Words.{if_then_else_, two, four}
 use Rattle.paper.specs.Layout.{digit-of}
-use Rattle.frames.specs.declared.findings.Room.{Room}
-use Rattle.frames.specs.declared.findings.Room.the-variants.{To, Short}
+use Rattle.paper.specs.Sheets.{Ended, end-found}
+use Rattle.findings.specs.declared.Room.{Room}
+use Rattle.findings.specs.declared.Room.the-variants.{To, Short}
 
 -- memory with s from `at` on
 unfoldable pub written-at : List ℕ → ℕ → List ℕ → List ℕ
@@ -32,3 +34,8 @@ five-found kind n number = kind ∷ (four n ++ (number ∷ []))
 -- "15 sets (2), kept rules (2)"
 unfoldable pub ended-found : ℕ → ℕ → List ℕ
 ended-found sets kept = 21 ∷ (two sets ++ two kept)
+
+-- the paper's, of what it holds of the sets that were ended
+pub end-found-is : (e : Ended) → end-found e ≡ ended-found (length (e .heads)) (e .kept)
+unfolding end-found ended-found
+end-found-is e = refl
