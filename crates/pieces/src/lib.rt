@@ -1,9 +1,10 @@
 // Lines of a sheet that comes in pieces: where a line ends, and what is held of one that goes on in the next piece.
 ghost use mathlib.Core.Path.{_≡_};
+ghost use mathlib.Core.List.{List, [], _++_};
 ghost use Prim.Native.Nat.{ℕ, min};
 ghost use lib.ListN.{drop};
 ghost use Rattle.pieces.specs.Ends.{line-end};
-ghost use Rattle.pieces.specs.Held.{no-line, held-more};
+ghost use Rattle.pieces.specs.Held.{Holds, held-in, no-line, held-more};
 
 // "each ended by LF"
 pub const LINE_FEED: u8 = 10;
@@ -39,7 +40,7 @@ pub fn line_end(s: &[u8], from: usize) -> Ends
 
 // Nothing held.
 pub fn nothing() -> Held
-    ensures { λ r. ⌜ r ≡ no-line ⌝ }
+    ensures { λ r. ⌜ (r ≡ no-line) × Holds r [] ⌝ }
 {
     Held {
         length: 0,
@@ -55,12 +56,12 @@ fn least(a: usize, b: usize) -> usize
 
 // More of the line that is held.
 pub fn hold(h: Held, s: &[u8]) -> Held
-    ensures { λ r. ⌜ r ≡ held-more h (now (s .entry)) ⌝ }
+    ensures { λ r. ⌜ (r ≡ held-more h (now (s .entry))) × Holds r (held-in h ++ now (s .entry)) ⌝ }
 {
-    if HELD < h.length {
-        return h;
-    }
     let mut bytes = h.bytes;
+    if HELD < h.length {
+        return Held { length: HELD, bytes: bytes };
+    }
     let n = h.length;
     let k = least(s.len(), HELD - n);
     let mut j = 0;

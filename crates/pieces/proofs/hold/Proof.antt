@@ -1,12 +1,12 @@
-use Rattle.pieces.specs.Fed.{max-held}
-use Rattle.pieces.specs.Held.{stored}
 use borrow.Author.Needs.{needs}
 use mathlib.Core.Path.{_≡_, refl, _∙_}
 use Prim.Native.Nat.{_≤_, _-_, _+_}
 use native.Mathlib.Omega.{arith}
-use lib.ListN.{length, length-set}
+use lib.ListN.{length}
 use denote.Ref.{now}
-use Rattle.pieces.proofs.Scan.{one-stored, held-full, held-is}
+use Rattle.pieces.specs.Fed.{max-held}
+use Rattle.pieces.specs.Held.{stored}
+use Rattle.pieces.proofs.Scan.{one-stored, held-full, held-is, holding}
 use Rattle.pieces.proofs.hold.Statement.{statement}
 use Rattle.pieces.proofs.hold.Tie as tie
 use Rattle.pieces.proofs.hold.Reads as reads
@@ -19,54 +19,54 @@ Inv-loop s bytes₀ n k j₀ bytes j = (j ≤ k) × (bytes ≡ stored bytes₀ n
 abbrev μ-loop : tie.MeasureT-loop
 μ-loop s bytes₀ n k j₀ bytes j = k - j
 
--- src/lib.rt:58:9
+-- src/lib.rt:63:9
 returns : tie.Need-returns Inv-loop μ-loop
-returns c = held-full (c .before .before .before .args .h) (now (c .before .before .before .args .s)) (c .if1 .taken)
+returns c = holding (c .before .before .before .before .args .h) _ (now (c .before .before .before .before .args .s)) _ (c .before .before .before .before .good .0 .1 .1 .1 .0 .1 .0 .1) (held-full (c .before .before .before .before .args .h) (now (c .before .before .before .before .args .s)) (c .if1 .taken))
 
--- src/lib.rt:62:28
+-- src/lib.rt:66:28
 sub-least : tie.Need-sub-least Inv-loop μ-loop
 sub-least c = omega arith
 
--- src/lib.rt:62:9
+-- src/lib.rt:66:9
 least-requires : tie.Need-least-requires Inv-loop μ-loop
 least-requires c κs = search needs
 
--- src/lib.rt:64:5
+-- src/lib.rt:68:5
 loop-holds : tie.Need-loop-holds Inv-loop μ-loop
 unfolding stored
 loop-holds c = (omega arith, refl, omega arith, omega arith)
 
--- src/lib.rt:65:24
+-- src/lib.rt:69:24
 shared-slice-read-bytes : tie.Need-shared-slice-read-bytes Inv-loop μ-loop
 shared-slice-read-bytes c = omega arith
 
--- src/lib.rt:65:15
+-- src/lib.rt:69:15
 add-bytes : tie.Need-add-bytes Inv-loop μ-loop
 add-bytes c = omega arith
 
--- src/lib.rt:65:9
+-- src/lib.rt:69:9
 array-write-bytes : tie.Need-array-write-bytes Inv-loop μ-loop
 array-write-bytes c = omega arith
 
--- src/lib.rt:66:9
+-- src/lib.rt:70:9
 add-j : tie.Need-add-j Inv-loop μ-loop
 add-j c = omega arith
 
--- src/lib.rt:64:5
+-- src/lib.rt:68:5
 loop-less : tie.Need-loop-less Inv-loop μ-loop
 loop-less c = omega arith
 
--- src/lib.rt:64:5
+-- src/lib.rt:68:5
 loop-again : tie.Need-loop-again Inv-loop μ-loop
 loop-again c = (omega arith, one-stored _ _ _ _ _ (c .before .before .loop .inv .1), omega arith, omega arith)
 
--- src/lib.rt:68:20
-add-t8 : tie.Need-add-t8 Inv-loop μ-loop
-add-t8 c = omega arith
+-- src/lib.rt:73:17
+add-t9 : tie.Need-add-t9 Inv-loop μ-loop
+add-t9 c = omega arith
 
--- src/lib.rt:54:1
+-- src/lib.rt:58:1
 returns-2 : tie.Need-returns-2 Inv-loop μ-loop
-returns-2 c = held-is (c .before .before .before .before .before .before .before .args .h) (now (c .before .before .before .before .before .before .before .args .s)) (c .before .before .least .result) (c .before .loop .j) (c .before .loop .bytes) (omega arith) (c .before .before .least .ensures) (omega arith) (c .before .loop .inv .1)
+returns-2 c = holding (c .before .before .before .before .before .before .before .args .h) _ (now (c .before .before .before .before .before .before .before .args .s)) _ (c .before .before .before .before .before .before .before .good .0 .1 .1 .1 .0 .1 .0 .1) (held-is (c .before .before .before .before .before .before .before .args .h) (now (c .before .before .before .before .before .before .before .args .s)) (c .before .before .least .result) (c .before .loop .j) (c .before .loop .bytes) (omega arith) (c .before .before .least .ensures) (omega arith) (c .before .loop .inv .1))
 
 pub hold-spec : {M : Type 1} → statement M
 hold-spec =
@@ -84,5 +84,5 @@ hold-spec =
     add-j
     loop-less
     loop-again
-    add-t8
+    add-t9
     returns-2)
