@@ -21,8 +21,9 @@ pub fn value_of(d: u8) -> u8
     if d < 65 {
         return 16;
     }
+    // A letter by its last five bits: A is 1.
     if d < 71 {
-        return d - 55;
+        return d % 32 + 9;
     }
     16
 }

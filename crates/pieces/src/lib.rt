@@ -60,7 +60,10 @@ pub fn hold(h: Held, s: &[u8]) -> Held
 {
     let mut bytes = h.bytes;
     if HELD < h.length {
-        return Held { length: HELD, bytes: bytes };
+        return Held {
+            length: HELD,
+            bytes: bytes,
+        };
     }
     let n = h.length;
     let k = least(s.len(), HELD - n);

@@ -1,3 +1,5 @@
+use mathlib.Core.Path.{_≡_}
+use Prim.Native.Nat.{_+_, _-_, _%_}
 use native.Mathlib.Omega.{arith}
 use borrow.Author.Tests.{lt-ltb, le-ltb}
 use Rattle.paper.specs.Layout.{digit}
@@ -22,14 +24,14 @@ returns-3 : tie.Need-returns-3
 unfolding digit
 returns-3 c = (rw (le-ltb (c .before .before .before .args .d) 48 (omega arith), le-ltb (c .before .before .before .args .d) 58 (omega arith), lt-ltb (c .before .before .before .args .d) 65 (c .if3 .taken)), omega arith)
 
--- src/digits.rt:25:16
-sub-result : tie.Need-sub-result
-sub-result c = search needs
+-- src/digits.rt:26:16
+add-result : tie.Need-add-result
+add-result c = search needs
 
--- src/digits.rt:25:9
+-- src/digits.rt:26:9
 returns-4 : tie.Need-returns-4
 unfolding digit
-returns-4 c = (rw (le-ltb (c .before .before .before .before .args .d) 48 (omega arith), le-ltb (c .before .before .before .before .args .d) 58 (omega arith), le-ltb (c .before .before .before .before .args .d) 65 (omega arith), lt-ltb (c .before .before .before .before .args .d) 71 (c .if4 .taken)), omega arith)
+returns-4 c = (rw (le-ltb (c .before .before .before .before .args .d) 48 (omega arith), le-ltb (c .before .before .before .before .args .d) 58 (omega arith), le-ltb (c .before .before .before .before .args .d) 65 (omega arith), lt-ltb (c .before .before .before .before .args .d) 71 (c .if4 .taken)) (omega arith), omega arith)
 
 -- src/digits.rt:12:1
 returns-5 : tie.Need-returns-5
@@ -37,4 +39,4 @@ unfolding digit
 returns-5 c = (rw (le-ltb (c .before .before .before .before .args .d) 48 (omega arith), le-ltb (c .before .before .before .before .args .d) 58 (omega arith), le-ltb (c .before .before .before .before .args .d) 65 (omega arith), le-ltb (c .before .before .before .before .args .d) 71 (omega arith)), omega arith)
 
 pub value-of-spec : {M : Type 1} → statement M
-value-of-spec = tie.close (tie.spec returns returns-2 returns-3 sub-result returns-4 returns-5)
+value-of-spec = tie.close (tie.spec returns returns-2 returns-3 add-result returns-4 returns-5)
