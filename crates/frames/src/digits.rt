@@ -28,7 +28,7 @@ pub fn value_of(d: u8) -> u8
     16
 }
 
-// What two digits write, 256 or more where one is none.
+// What two digits write, 256 where one is none.
 fn pair(h: u8, l: u8) -> u16
     ensures { λ r. ⌜ r ≡ pair-value h l ⌝ }
 {

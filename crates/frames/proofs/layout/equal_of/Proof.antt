@@ -2,7 +2,7 @@ use native.Mathlib.Omega.{arith}
 use mathlib.Core.Path.{_≡_, sym}
 use lib.ListN.{length, getD}
 use denote.Ref.{now}
-use Rattle.frames.proofs.Frames.{frame-wrong, t-equal, frame-equal}
+use Rattle.frames.proofs.Frames.{frame-wrong, t-equal, equal-said}
 use borrow.Author.Needs.{needs}
 use Rattle.frames.proofs.layout.equal_of.Statement.{statement}
 use Rattle.frames.proofs.layout.equal_of.Tie as tie
@@ -24,11 +24,7 @@ two-at-requires-2 c κs = search needs
 
 -- src/layout.rt:181:1
 returns-2 : tie.Need-returns-2
-returns-2 c =
-    let e = frame-equal (now (c .before .before .before .before .args .s)) (omega (arith, c .before .before .if1 .left)) (c .before .before .before .before .pre .1) in
-    let f = c .before .two-at .ensures in
-    let g = c .two-at2 .ensures in
-    cc
+returns-2 c = equal-said (now (c .before .before .before .before .args .s)) (c .before .two-at .result) (c .two-at2 .result) (omega (arith, c .before .before .if1 .left)) (c .before .before .before .before .pre .1) (c .before .two-at .ensures) (c .two-at2 .ensures)
 
 pub equal-of-spec : {M : Type 1} → statement M
 equal-of-spec = tie.close (tie.spec returns two-at-requires two-at-requires-2 returns-2)
