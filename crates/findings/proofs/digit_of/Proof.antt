@@ -4,23 +4,17 @@ use Rattle.paper.specs.Layout.{digit-of}
 use borrow.Author.Needs.{needs}
 use Rattle.findings.proofs.digit_of.Statement.{statement}
 use Rattle.findings.proofs.digit_of.Tie as tie
-use Rattle.findings.proofs.digit_of.Reads as reads
-use Rattle.findings.proofs.digit_of.Lts as lts
 
--- src/lib.rt:21:17
 add-result : tie.Need-add-result
 add-result c = search needs
 
--- src/lib.rt:21:33
 add-result-2 : tie.Need-add-result-2
 add-result-2 c = search needs
 
--- src/lib.rt:17:1
 returns : tie.Need-returns
 unfolding digit-of
 returns c = rw (lt-ltb (c .before .args .v) 10 (c .if1 .taken))
 
--- src/lib.rt:17:1
 returns-2 : tie.Need-returns-2
 unfolding digit-of
 returns-2 c = rw (le-ltb (c .before .args .v) 10 (omega arith))

@@ -3,39 +3,28 @@ use Rattle.findings.specs.Written.{ended-found}
 use borrow.Author.Needs.{needs}
 use Rattle.findings.proofs.write_end.Statement.{statement}
 use Rattle.findings.proofs.write_end.Tie as tie
-use Rattle.findings.proofs.write_end.Reads as reads
-use Rattle.findings.proofs.write_end.Lts as lts
-use Rattle.findings.proofs.write_line.Reads as write-line-reads
 
--- src/lib.rt:111:18
 cast-t7 : tie.Need-cast-t7
 cast-t7 c = search needs
 
--- src/lib.rt:111:38
 cast-t9 : tie.Need-cast-t9
 cast-t9 c = search needs
 
--- src/lib.rt:111:58
 cast-t11 : tie.Need-cast-t11
 cast-t11 c = search needs
 
--- src/lib.rt:111:78
 cast-t13 : tie.Need-cast-t13
 cast-t13 c = search needs
 
--- src/lib.rt:112:16
 slice-aggregate-write-line : tie.Need-slice-aggregate-write-line
 slice-aggregate-write-line c = search needs
 
--- src/lib.rt:112:5
 write-line-requires : tie.Need-write-line-requires
 write-line-requires c κs = search needs
 
--- src/lib.rt:108:1
 same-length : tie.Need-same-length
 same-length c = search needs
 
--- src/lib.rt:108:1
 returns : tie.Need-returns
 unfolding ended-found two
 returns c = c .before .before .write-line .ensures

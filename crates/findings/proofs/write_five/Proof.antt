@@ -3,39 +3,28 @@ use Rattle.findings.specs.Written.{five-found}
 use borrow.Author.Needs.{needs}
 use Rattle.findings.proofs.write_five.Statement.{statement}
 use Rattle.findings.proofs.write_five.Tie as tie
-use Rattle.findings.proofs.write_five.Reads as reads
-use Rattle.findings.proofs.write_five.Lts as lts
-use Rattle.findings.proofs.write_line.Reads as write-line-reads
 
--- src/lib.rt:88:20
 cast-t10 : tie.Need-cast-t10
 cast-t10 c = search needs
 
--- src/lib.rt:88:49
 cast-t14 : tie.Need-cast-t14
 cast-t14 c = search needs
 
--- src/lib.rt:88:78
 cast-t17 : tie.Need-cast-t17
 cast-t17 c = search needs
 
--- src/lib.rt:88:101
 cast-t19 : tie.Need-cast-t19
 cast-t19 c = search needs
 
--- src/lib.rt:89:16
 slice-aggregate-write-line : tie.Need-slice-aggregate-write-line
 slice-aggregate-write-line c = search needs
 
--- src/lib.rt:89:5
 write-line-requires : tie.Need-write-line-requires
 write-line-requires c κs = search needs
 
--- src/lib.rt:85:1
 same-length : tie.Need-same-length
 same-length c = search needs
 
--- src/lib.rt:85:1
 returns : tie.Need-returns
 unfolding five-found four
 returns c = c .before .before .write-line .ensures

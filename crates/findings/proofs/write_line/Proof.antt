@@ -5,59 +5,43 @@ use Rattle.findings.proofs.Rooms.{short-room, long-room}
 use borrow.Author.Needs.{needs}
 use Rattle.findings.proofs.write_line.Statement.{statement}
 use Rattle.findings.proofs.write_line.Tie as tie
-use Rattle.findings.proofs.write_line.Reads as reads
-use Rattle.findings.proofs.write_line.Lts as lts
-use Rattle.findings.proofs.write_digits.Reads as write-digits-reads
 
--- src/lib.rt:43:9
 returns : tie.Need-returns
 returns c = short-room (now (c .before .before .before .args .out)) (c .before .before .before .args .at) (now (c .before .before .before .args .b)) (omega arith)
 
--- src/lib.rt:45:16
 sub-left : tie.Need-sub-left
 sub-left c = search needs
 
--- src/lib.rt:47:9
 returns-2 : tie.Need-returns-2
 returns-2 c = short-room (now (c .before .before .before .before .args .out)) (c .before .before .before .before .args .at) (now (c .before .before .before .before .args .b)) (omega arith)
 
--- src/lib.rt:49:15
 mul-if3 : tie.Need-mul-if3
 mul-if3 c = search needs
 
--- src/lib.rt:49:8
 sub-if3 : tie.Need-sub-if3
 sub-if3 c = search needs
 
--- src/lib.rt:50:9
 returns-3 : tie.Need-returns-3
 returns-3 c = short-room (now (c .before .before .before .before .before .args .out)) (c .before .before .before .before .before .args .at) (now (c .before .before .before .before .before .args .b)) (omega arith)
 
--- src/lib.rt:52:5
 write-digits-requires : tie.Need-write-digits-requires
 write-digits-requires c κs = search needs
 
--- src/lib.rt:53:18
 mul-e : tie.Need-mul-e
 mul-e c = search needs
 
--- src/lib.rt:53:13
 add-e : tie.Need-add-e
 add-e c = search needs
 
--- src/lib.rt:54:5
 slice-write-out : tie.Need-slice-write-out
 slice-write-out c = search needs
 
--- src/lib.rt:55:14
 add-t9 : tie.Need-add-t9
 add-t9 c = search needs
 
--- src/lib.rt:39:1
 same-length : tie.Need-same-length
 same-length c = simp length-set (c .before .before .write-digits .kept .1 .0)
 
--- src/lib.rt:39:1
 returns-4 : tie.Need-returns-4
 returns-4 c = long-room (now (c .before .before .before .before .before .before .before .before .before .args .out)) (c .before .before .before .before .before .before .before .before .before .args .at) (now (c .before .before .before .before .before .before .before .before .before .args .b)) _ (omega arith) (c .before .before .write-digits .ensures)
 

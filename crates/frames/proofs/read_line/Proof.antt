@@ -1,4 +1,3 @@
-use mathlib.Core.Path.{_≡_, sym}
 use denote.Ref.{now}
 use Rattle.paper.specs.Layout.{line-bytes}
 use borrow.Author.Tests.{not-true, not-false}
@@ -6,32 +5,22 @@ use Rattle.frames.proofs.Whole.{wrong-read, right-read, lent, lent-fits
 use borrow.Author.Needs.{needs}
 use Rattle.frames.proofs.read_line.Statement.{statement}
 use Rattle.frames.proofs.read_line.Tie as tie
-use Rattle.frames.proofs.read_line.Reads as reads
-use Rattle.frames.proofs.read_line.Lts as lts
-use Rattle.frames.proofs.digits.bytes_of.Reads as bytes-of-reads
-use Rattle.frames.proofs.layout.frame_of.Reads as frame-of-reads
 
--- src/lib.rt:41:9
 bytes-of-requires : tie.Need-bytes-of-requires
 bytes-of-requires c κs = search needs
 
--- src/lib.rt:45:9
 returns : tie.Need-returns
 returns c = (wrong-read (now (c .before .before .before .before .before .args .line)) (c .before .before .before .bytes-of .result) (c .before .before .before .bytes-of .ensures .0) (not-true _ (c .if1 .taken)), c .before .before .before .bytes-of .ensures .1)
 
--- src/lib.rt:47:34
 array-share-prefix-bytes : tie.Need-array-share-prefix-bytes
 array-share-prefix-bytes c = lent-fits (line-bytes (now (c .before .before .before .before .before .args .line))) (c .before .before .before .bytes-of .result) (c .before .before .before .bytes-of .ensures .0)
 
--- src/lib.rt:47:34
 slice-aggregate-frame-of : tie.Need-slice-aggregate-frame-of
 slice-aggregate-frame-of c = lent (line-bytes (now (c .before .before .before .before .before .before .args .line))) (c .before .before .before .before .bytes-of .result) (c .before .before .before .before .bytes-of .ensures .0)
 
--- src/lib.rt:47:9
 frame-of-requires : tie.Need-frame-of-requires
 frame-of-requires c κs = search needs
 
--- src/lib.rt:38:1
 returns-2 : tie.Need-returns-2
 returns-2 c = (right-read (now (c .before .before .before .before .before .before .before .args .line)) (c .before .before .before .before .before .bytes-of .result) (c .frame-of .result) (c .before .before .before .before .before .bytes-of .ensures .0) (not-false _ (c .before .before .if1 .left)) (c .frame-of .ensures), c .before .before .before .before .before .bytes-of .ensures .1)
 

@@ -6,12 +6,6 @@ use lib.ListN.{length}
 use Rattle.frames_replay.proofs.Parts.{end-fits}
 use Rattle.frames_replay.proofs.feed.Statement.{statement}
 use Rattle.frames_replay.proofs.feed.Tie as tie
-use Rattle.frames_replay.proofs.feed.Reads as reads
-use Rattle.frames_replay.proofs.feed.Lts as lts
-use Rattle.frames_replay.proofs.show_held.Reads as show-held-reads
-use Rattle.pieces.proofs.hold.Reads as hold-reads
-use Rattle.pieces.proofs.line_end.Reads as line-end-reads
-use Rattle.pieces.proofs.nothing.Reads as nothing-reads
 
 abbrev Inv-loop : tie.InvT-loop
 Inv-loop s held₀ at₀ held at = at ≤ length s
@@ -19,79 +13,60 @@ Inv-loop s held₀ at₀ held at = at ≤ length s
 abbrev μ-loop : tie.MeasureT-loop
 μ-loop s held₀ at₀ held at = length s + 1 - at
 
--- src/main.rt:125:5
 loop-holds : tie.Need-loop-holds Inv-loop μ-loop
 loop-holds c = omega arith
 
--- src/main.rt:126:13
 line-end-requires : tie.Need-line-end-requires Inv-loop μ-loop
 line-end-requires c κs = search needs
 
--- src/main.rt:127:22
 enum-known-end : tie.Need-enum-known-end Inv-loop μ-loop
 enum-known-end c = search needs
 
--- src/main.rt:128:39
 enum-told : tie.Need-enum-told Inv-loop μ-loop
 enum-told c = search needs
 
--- src/main.rt:128:39
 sub-hold : tie.Need-sub-hold Inv-loop μ-loop
 sub-hold c = omega arith
 
--- src/main.rt:128:39
 part-hold-start : tie.Need-part-hold-start Inv-loop μ-loop
 part-hold-start c = omega arith
 
--- src/main.rt:128:39
 part-hold-end : tie.Need-part-hold-end Inv-loop μ-loop
 part-hold-end c = omega arith
 
--- src/main.rt:128:13
 hold-requires : tie.Need-hold-requires Inv-loop μ-loop
 hold-requires c κs = search needs
 
--- src/main.rt:128:13
 returns : tie.Need-returns Inv-loop μ-loop
 returns c = search needs
 
--- src/main.rt:130:39
 sub-hold-2 : tie.Need-sub-hold-2 Inv-loop μ-loop
 sub-hold-2 c = let w = end-fits (now (c .before .before .before .before .before .before .before .args .s)) (c .before .before .before .before .before .loop .at) (c .before .end .given .0 .0) (c .before .before .before .line-end .result) (c .before .before .before .before .before .loop .inv) (c .before .before .before .line-end .ensures) (c .before .end .given .1) in omega arith
 
--- src/main.rt:130:39
 part-hold-start-2 : tie.Need-part-hold-start-2 Inv-loop μ-loop
 part-hold-start-2 c = let w = end-fits (now (c .before .before .before .before .before .before .before .args .s)) (c .before .before .before .before .before .loop .at) (c .before .end .given .0 .0) (c .before .before .before .line-end .result) (c .before .before .before .before .before .loop .inv) (c .before .before .before .line-end .ensures) (c .before .end .given .1) in omega arith
 
--- src/main.rt:130:39
 part-hold-end-2 : tie.Need-part-hold-end-2 Inv-loop μ-loop
 part-hold-end-2 c = let w = end-fits (now (c .before .before .before .before .before .before .before .args .s)) (c .before .before .before .before .before .loop .at) (c .before .end .given .0 .0) (c .before .before .before .line-end .result) (c .before .before .before .before .before .loop .inv) (c .before .before .before .line-end .ensures) (c .before .end .given .1) in omega arith
 
--- src/main.rt:130:13
 hold-requires-2 : tie.Need-hold-requires-2 Inv-loop μ-loop
 hold-requires-2 c κs = search needs
 
--- src/main.rt:131:9
 show-held-requires : tie.Need-show-held-requires Inv-loop μ-loop
 show-held-requires c κs = search needs
 
--- src/main.rt:132:13
 nothing-requires : tie.Need-nothing-requires Inv-loop μ-loop
 nothing-requires c κs = search needs
 
--- src/main.rt:134:14
 add-at : tie.Need-add-at Inv-loop μ-loop
 add-at c = let w = end-fits (now (c .before .before .before .before .before .before .before .before .before .before .before .args .s)) (c .before .before .before .before .before .before .before .before .before .loop .at) (c .before .before .before .before .before .end .given .0 .0) (c .before .before .before .before .before .before .before .line-end .result) (c .before .before .before .before .before .before .before .before .before .loop .inv) (c .before .before .before .before .before .before .before .line-end .ensures) (c .before .before .before .before .before .end .given .1) in omega arith
 
--- src/main.rt:125:5
 loop-less : tie.Need-loop-less Inv-loop μ-loop
 loop-less c = let w = end-fits (now (c .before .before .before .before .before .before .before .before .before .before .before .args .s)) (c .before .before .before .before .before .before .before .before .before .loop .at) (c .before .before .before .before .before .end .given .0 .0) (c .before .before .before .before .before .before .before .line-end .result) (c .before .before .before .before .before .before .before .before .before .loop .inv) (c .before .before .before .before .before .before .before .line-end .ensures) (c .before .before .before .before .before .end .given .1) in omega arith
 
--- src/main.rt:125:5
 loop-again : tie.Need-loop-again Inv-loop μ-loop
 loop-again c = let w = end-fits (now (c .before .before .before .before .before .before .before .before .before .before .before .args .s)) (c .before .before .before .before .before .before .before .before .before .loop .at) (c .before .before .before .before .before .end .given .0 .0) (c .before .before .before .before .before .before .before .line-end .result) (c .before .before .before .before .before .before .before .before .before .loop .inv) (c .before .before .before .before .before .before .before .line-end .ensures) (c .before .before .before .before .before .end .given .1) in omega arith
 
--- src/main.rt:122:1
 returns-2 : tie.Need-returns-2 Inv-loop μ-loop
 returns-2 c = search needs
 

@@ -1,5 +1,5 @@
 use mathlib.Core.Path.{_≡_, refl}
-use Prim.Native.Nat.{_≤_, _-_, _+_}
+use Prim.Native.Nat.{_-_}
 use native.Mathlib.Omega.{arith}
 use lib.ListN.{length, drop}
 use denote.Ref.{now}
@@ -7,8 +7,6 @@ use Rattle.pieces.specs.Ends.{line-end}
 use Rattle.pieces.proofs.Scan.{ends-here, goes-on, no-end}
 use Rattle.pieces.proofs.line_end.Statement.{statement}
 use Rattle.pieces.proofs.line_end.Tie as tie
-use Rattle.pieces.proofs.line_end.Reads as reads
-use Rattle.pieces.proofs.line_end.Lts as lts
 
 abbrev Inv-loop : tie.InvT-loop
 Inv-loop s from i₀ i = line-end i (drop i s) ≡ line-end from (drop from s)
@@ -16,31 +14,24 @@ Inv-loop s from i₀ i = line-end i (drop i s) ≡ line-end from (drop from s)
 abbrev μ-loop : tie.MeasureT-loop
 μ-loop s from i₀ i = length s - i
 
--- src/lib.rt:31:5
 loop-holds : tie.Need-loop-holds Inv-loop μ-loop
 loop-holds c = refl
 
--- src/lib.rt:32:12
 shared-slice-read-if1 : tie.Need-shared-slice-read-if1 Inv-loop μ-loop
 shared-slice-read-if1 c = omega arith
 
--- src/lib.rt:33:13
 returns : tie.Need-returns Inv-loop μ-loop
 returns c = ends-here (now (c .before .before .before .before .args .s)) (c .before .before .before .loop .i) _ (omega arith) (c .if1 .taken) (c .before .before .before .loop .inv)
 
--- src/lib.rt:35:9
 add-i : tie.Need-add-i Inv-loop μ-loop
 add-i c = omega arith
 
--- src/lib.rt:31:5
 loop-less : tie.Need-loop-less Inv-loop μ-loop
 loop-less c = omega arith
 
--- src/lib.rt:31:5
 loop-again : tie.Need-loop-again Inv-loop μ-loop
 loop-again c = goes-on (now (c .before .before .before .before .args .s)) (c .before .before .before .loop .i) _ (omega arith) (c .if1 .left) (c .before .before .before .loop .inv)
 
--- src/lib.rt:27:1
 returns-2 : tie.Need-returns-2 Inv-loop μ-loop
 returns-2 c = no-end (now (c .before .before .args .s)) (c .before .loop .i) _ (omega arith) (c .before .loop .inv)
 

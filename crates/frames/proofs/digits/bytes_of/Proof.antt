@@ -1,16 +1,12 @@
 use borrow.Author.Needs.{needs}
 use mathlib.Core.Path.{_≡_}
-use Prim.Native.Nat.{_≤_, _-_, _*_, _+_, _/_}
+use Prim.Native.Nat.{_≤_, _-_, _/_}
 use native.Mathlib.Omega.{arith}
 use lib.ListN.{length}
 use denote.Ref.{now}
 use Rattle.frames.proofs.Decoded.{Decoding, decoding-none, decoding-more, decoding-wrong, line-long, line-odd, line-wrong, line-right, line-none}
 use Rattle.frames.proofs.digits.bytes_of.Statement.{statement}
 use Rattle.frames.proofs.digits.bytes_of.Tie as tie
-use Rattle.frames.proofs.digits.bytes_of.Reads as reads
-use Rattle.frames.proofs.digits.bytes_of.Lts as lts
-use Rattle.frames.proofs.digits.no_bytes.Reads as no-bytes-reads
-use Rattle.frames.proofs.digits.pair.Reads as pair-reads
 
 abbrev Inv-loop : tie.InvT-loop
 Inv-loop line n out₀ k j₀ out j = (n ≡ length line) × (k ≡ length line / 2) × (j ≤ k) × Decoding line out j
@@ -18,79 +14,60 @@ Inv-loop line n out₀ k j₀ out j = (n ≡ length line) × (k ≡ length line 
 abbrev μ-loop : tie.MeasureT-loop
 μ-loop line n out₀ k j₀ out j = k - j
 
--- src/digits.rt:58:9
 no-bytes-requires : tie.Need-no-bytes-requires Inv-loop μ-loop
 no-bytes-requires c κs = search needs
 
--- src/digits.rt:58:9
 returns : tie.Need-returns Inv-loop μ-loop
 returns c = line-none (now (c .before .before .before .args .line)) (c .no-bytes .result) (c .no-bytes .ensures) (line-long (now (c .before .before .before .args .line)) (c .before .if1 .taken))
 
--- src/digits.rt:61:9
 no-bytes-requires-2 : tie.Need-no-bytes-requires-2 Inv-loop μ-loop
 no-bytes-requires-2 c κs = search needs
 
--- src/digits.rt:61:9
 returns-2 : tie.Need-returns-2 Inv-loop μ-loop
 returns-2 c = line-none (now (c .before .before .before .before .args .line)) (c .no-bytes2 .result) (c .no-bytes2 .ensures) (line-odd (now (c .before .before .before .before .args .line)) (omega arith) (c .before .if2 .taken))
 
--- src/digits.rt:66:5
 loop-holds : tie.Need-loop-holds Inv-loop μ-loop
 loop-holds c = (omega arith, omega arith, omega arith, decoding-none (now (c .before .before .before .args .line)))
 
--- src/digits.rt:67:27
 mul-pair : tie.Need-mul-pair Inv-loop μ-loop
 mul-pair c = omega arith
 
--- src/digits.rt:67:22
 shared-slice-read-pair : tie.Need-shared-slice-read-pair Inv-loop μ-loop
 shared-slice-read-pair c = omega arith
 
--- src/digits.rt:67:40
 mul-pair-2 : tie.Need-mul-pair-2 Inv-loop μ-loop
 mul-pair-2 c = omega arith
 
--- src/digits.rt:67:40
 add-pair : tie.Need-add-pair Inv-loop μ-loop
 add-pair c = omega arith
 
--- src/digits.rt:67:35
 shared-slice-read-pair-2 : tie.Need-shared-slice-read-pair-2 Inv-loop μ-loop
 shared-slice-read-pair-2 c = omega arith
 
--- src/digits.rt:67:13
 pair-requires : tie.Need-pair-requires Inv-loop μ-loop
 pair-requires c κs = search needs
 
--- src/digits.rt:69:13
 no-bytes-requires-3 : tie.Need-no-bytes-requires-3 Inv-loop μ-loop
 no-bytes-requires-3 c κs = search needs
 
--- src/digits.rt:69:13
 returns-3 : tie.Need-returns-3 Inv-loop μ-loop
 returns-3 c = line-none (now (c .before .before .before .before .before .before .before .before .before .before .args .line)) (c .no-bytes3 .result) (c .no-bytes3 .ensures) (line-wrong (now (c .before .before .before .before .before .before .before .before .before .before .args .line)) (omega arith) (decoding-wrong (now (c .before .before .before .before .before .before .before .before .before .before .args .line)) (c .before .before .before .before .before .before .loop .out) (c .before .before .before .before .before .before .loop .j) (c .before .before .pair .result) (c .before .before .before .before .before .before .loop .inv .3) (omega arith) (c .before .before .pair .ensures) (c .before .if3 .taken)))
 
--- src/digits.rt:71:18
 cast-out : tie.Need-cast-out Inv-loop μ-loop
 cast-out c = omega arith
 
--- src/digits.rt:71:9
 array-write-out : tie.Need-array-write-out Inv-loop μ-loop
 array-write-out c = omega arith
 
--- src/digits.rt:72:9
 add-j : tie.Need-add-j Inv-loop μ-loop
 add-j c = omega arith
 
--- src/digits.rt:66:5
 loop-less : tie.Need-loop-less Inv-loop μ-loop
 loop-less c = omega arith
 
--- src/digits.rt:66:5
 loop-again : tie.Need-loop-again Inv-loop μ-loop
 loop-again c = (omega arith, omega arith, omega arith, decoding-more (now (c .before .before .before .before .before .before .before .before .before .args .line)) (c .before .before .before .before .before .loop .out) (c .before .before .before .before .before .loop .j) (c .before .pair .result) (c .before .before .before .before .before .loop .inv .3) (omega arith) (omega arith) (c .before .pair .ensures) (omega arith))
 
--- src/digits.rt:53:1
 returns-4 : tie.Need-returns-4 Inv-loop μ-loop
 returns-4 c = (line-right (now (c .before .before .before .before .before .args .line)) (c .before .loop .out) _ (c .before .loop .j) (omega arith) (omega arith) (c .before .loop .inv .1) (omega arith) (omega arith) (c .before .loop .inv .3), omega arith)
 

@@ -1,39 +1,30 @@
-use mathlib.Core.Path.{_≡_}
-use Prim.Native.Nat.{_+_, _-_, _%_}
+use Prim.Native.Nat.{_-_}
 use native.Mathlib.Omega.{arith}
 use borrow.Author.Tests.{lt-ltb, le-ltb}
 use Rattle.paper.specs.Layout.{digit}
 use borrow.Author.Needs.{needs}
 use Rattle.frames.proofs.digits.value_of.Statement.{statement}
 use Rattle.frames.proofs.digits.value_of.Tie as tie
-use Rattle.frames.proofs.digits.value_of.Reads as reads
-use Rattle.frames.proofs.digits.value_of.Lts as lts
 
--- src/digits.rt:16:9
 returns : tie.Need-returns
 unfolding digit
 returns c = (rw (lt-ltb (c .before .args .d) 48 (c .if1 .taken)), omega arith)
 
--- src/digits.rt:19:9
 returns-2 : tie.Need-returns-2
 unfolding digit
 returns-2 c = (rw (le-ltb (c .before .before .args .d) 48 (omega arith), lt-ltb (c .before .before .args .d) 58 (c .if2 .taken)), omega arith)
 
--- src/digits.rt:22:9
 returns-3 : tie.Need-returns-3
 unfolding digit
 returns-3 c = (rw (le-ltb (c .before .before .before .args .d) 48 (omega arith), le-ltb (c .before .before .before .args .d) 58 (omega arith), lt-ltb (c .before .before .before .args .d) 65 (c .if3 .taken)), omega arith)
 
--- src/digits.rt:26:16
 add-result : tie.Need-add-result
 add-result c = search needs
 
--- src/digits.rt:26:9
 returns-4 : tie.Need-returns-4
 unfolding digit
 returns-4 c = (rw (le-ltb (c .before .before .before .before .args .d) 48 (omega arith), le-ltb (c .before .before .before .before .args .d) 58 (omega arith), le-ltb (c .before .before .before .before .args .d) 65 (omega arith), lt-ltb (c .before .before .before .before .args .d) 71 (c .if4 .taken)) (omega arith), omega arith)
 
--- src/digits.rt:12:1
 returns-5 : tie.Need-returns-5
 unfolding digit
 returns-5 c = (rw (le-ltb (c .before .before .before .before .args .d) 48 (omega arith), le-ltb (c .before .before .before .before .args .d) 58 (omega arith), le-ltb (c .before .before .before .before .args .d) 65 (omega arith), le-ltb (c .before .before .before .before .args .d) 71 (omega arith)), omega arith)

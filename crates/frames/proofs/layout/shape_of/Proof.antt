@@ -7,66 +7,50 @@ use Rattle.frames.proofs.Frames.{kind-at, shape-none, shape-past, shape
 use borrow.Author.Needs.{needs}
 use Rattle.frames.proofs.layout.shape_of.Statement.{statement}
 use Rattle.frames.proofs.layout.shape_of.Tie as tie
-use Rattle.frames.proofs.layout.shape_of.Reads as reads
-use Rattle.frames.proofs.layout.shape_of.Lts as lts
-use Rattle.frames.proofs.layout.eight_at.Reads as eight-at-reads
-use Rattle.frames.proofs.layout.size.Reads as size-reads
-use Rattle.frames.proofs.layout.two_at.Reads as two-at-reads
 
--- src/lib.rt:104:9
 returns : tie.Need-returns
 returns c =
     sym (shape-none (now (c .before .before .args .s)) (c .if1 .taken))
 
--- src/lib.rt:106:18
 shared-slice-read-size : tie.Need-shared-slice-read-size
 shared-slice-read-size c = search needs
 
--- src/lib.rt:106:9
 size-requires : tie.Need-size-requires
 size-requires c κs = search needs
 
--- src/lib.rt:108:9
 returns-2 : tie.Need-returns-2
 returns-2 c =
     let m : 6 ≤ getD (now (c .before .before .before .before .before .args .s)) 0 0 = omega (arith, c .if2 .taken, c .before .size .ensures .0) in
     sym (shape-past (now (c .before .before .before .before .before .args .s)) m)
 
--- src/lib.rt:110:18
 array-read-size : tie.Need-array-read-size
 array-read-size c = search needs
 
--- src/lib.rt:110:9
 size-requires-2 : tie.Need-size-requires-2
 size-requires-2 c κs = search needs
 
--- src/lib.rt:112:9
 returns-3 : tie.Need-returns-3
 returns-3 c =
     shape-size (now (c .before .before .before .before .before .before .before .args .s)) (c .before .before .before .size .result) (c .before .size2 .result) (c .before .before .before .before .before .if1 .left) (c .before .before .before .size .ensures .0) (omega (arith, c .before .before .if2 .left)) (c .before .size2 .ensures .0) (c .if3 .taken)
 
--- src/lib.rt:115:53
 two-at-requires : tie.Need-two-at-requires
 two-at-requires c κs =
     let p = kind-at (now (c .before .before .before .before .before .before .before .before .args .s)) (c .before .before .before .before .size .result) (c .before .before .size2 .result) 0 (c .before .before .before .before .size .ensures .0) (c .before .before .size2 .ensures .0) (omega (arith, c .before .if3 .left)) (c .if4 .taken) in
     let l : length (now (c .before .before .before .before .before .before .before .before .args .s)) ≡ 6 = p .0 in
     omega (arith, l)
 
--- src/lib.rt:115:76
 two-at-requires-2 : tie.Need-two-at-requires-2
 two-at-requires-2 c κs =
     let p = kind-at (now (c .before .before .before .before .before .before .before .before .before .args .s)) (c .before .before .before .before .before .size .result) (c .before .before .before .size2 .result) 0 (c .before .before .before .before .before .size .ensures .0) (c .before .before .before .size2 .ensures .0) (omega (arith, c .before .before .if3 .left)) (c .before .if4 .taken) in
     let l : length (now (c .before .before .before .before .before .before .before .before .before .args .s)) ≡ 6 = p .0 in
     omega (arith, l)
 
--- src/lib.rt:115:98
 shared-slice-read-t15 : tie.Need-shared-slice-read-t15
 shared-slice-read-t15 c =
     let p = kind-at (now (c .before .before .before .before .before .before .before .before .before .before .before .args .s)) (c .before .before .before .before .before .before .before .size .result) (c .before .before .before .before .before .size2 .result) 0 (c .before .before .before .before .before .before .before .size .ensures .0) (c .before .before .before .before .before .size2 .ensures .0) (omega (arith, c .before .before .before .before .if3 .left)) (c .before .before .before .if4 .taken) in
     let l : length (now (c .before .before .before .before .before .before .before .before .before .before .before .args .s)) ≡ 6 = p .0 in
     omega (arith, l)
 
--- src/lib.rt:115:9
 returns-4 : tie.Need-returns-4
 returns-4 c =
     let p = kind-at (now (c .before .before .before .before .before .before .before .before .before .before .before .args .s)) (c .before .before .before .before .before .before .before .size .result) (c .before .before .before .before .before .size2 .result) 0 (c .before .before .before .before .before .before .before .size .ensures .0) (c .before .before .before .before .before .size2 .ensures .0) (omega (arith, c .before .before .before .before .if3 .left)) (c .before .before .before .if4 .taken) in
@@ -75,21 +59,18 @@ returns-4 c =
     let f1 = c .before .two-at2 .ensures in
     cc
 
--- src/lib.rt:118:52
 two-at-requires-3 : tie.Need-two-at-requires-3
 two-at-requires-3 c κs =
     let p = kind-at (now (c .before .before .before .before .before .before .before .before .before .args .s)) (c .before .before .before .before .before .size .result) (c .before .before .before .size2 .result) 1 (c .before .before .before .before .before .size .ensures .0) (c .before .before .before .size2 .ensures .0) (omega (arith, c .before .before .if3 .left)) (c .if5 .taken) in
     let l : length (now (c .before .before .before .before .before .before .before .before .before .args .s)) ≡ 4 = p .0 in
     omega (arith, l)
 
--- src/lib.rt:118:74
 shared-slice-read-t19 : tie.Need-shared-slice-read-t19
 shared-slice-read-t19 c =
     let p = kind-at (now (c .before .before .before .before .before .before .before .before .before .before .before .args .s)) (c .before .before .before .before .before .before .before .size .result) (c .before .before .before .before .before .size2 .result) 1 (c .before .before .before .before .before .before .before .size .ensures .0) (c .before .before .before .before .before .size2 .ensures .0) (omega (arith, c .before .before .before .before .if3 .left)) (c .before .before .if5 .taken) in
     let l : length (now (c .before .before .before .before .before .before .before .before .before .before .before .args .s)) ≡ 4 = p .0 in
     omega (arith, l)
 
--- src/lib.rt:118:9
 returns-5 : tie.Need-returns-5
 returns-5 c =
     let p = kind-at (now (c .before .before .before .before .before .before .before .before .before .before .before .args .s)) (c .before .before .before .before .before .before .before .size .result) (c .before .before .before .before .before .size2 .result) 1 (c .before .before .before .before .before .before .before .size .ensures .0) (c .before .before .before .before .before .size2 .ensures .0) (omega (arith, c .before .before .before .before .if3 .left)) (c .before .before .if5 .taken) in
@@ -97,27 +78,23 @@ returns-5 c =
     let f0 = c .before .two-at3 .ensures in
     cc
 
--- src/lib.rt:121:17
 shared-slice-read-b : tie.Need-shared-slice-read-b
 shared-slice-read-b c =
     let p = kind-at (now (c .before .before .before .before .before .before .before .before .before .before .before .args .s)) (c .before .before .before .before .before .before .before .size .result) (c .before .before .before .before .before .size2 .result) 2 (c .before .before .before .before .before .before .before .size .ensures .0) (c .before .before .before .before .before .size2 .ensures .0) (omega (arith, c .before .before .before .before .if3 .left)) (c .before .if6 .taken) in
     let l : length (now (c .before .before .before .before .before .before .before .before .before .before .before .args .s)) ≡ 4 = p .0 in
     omega (arith, l)
 
--- src/lib.rt:123:13
 returns-6 : tie.Need-returns-6
 returns-6 c =
     let p = kind-at (now (c .before .before .before .before .before .before .before .before .before .before .before .before .args .s)) (c .before .before .before .before .before .before .before .before .size .result) (c .before .before .before .before .before .before .size2 .result) 2 (c .before .before .before .before .before .before .before .before .size .ensures .0) (c .before .before .before .before .before .before .size2 .ensures .0) (omega (arith, c .before .before .before .before .before .if3 .left)) (c .before .before .if6 .taken) in
     sym (shape-no-bool (now (c .before .before .before .before .before .before .before .before .before .before .before .before .args .s)) (p .0) (p .1) (c .if7 .taken))
 
--- src/lib.rt:125:55
 two-at-requires-4 : tie.Need-two-at-requires-4
 two-at-requires-4 c κs =
     let p = kind-at (now (c .before .before .before .before .before .before .before .before .before .before .before .before .args .s)) (c .before .before .before .before .before .before .before .before .size .result) (c .before .before .before .before .before .before .size2 .result) 2 (c .before .before .before .before .before .before .before .before .size .ensures .0) (c .before .before .before .before .before .before .size2 .ensures .0) (omega (arith, c .before .before .before .before .before .if3 .left)) (c .before .before .if6 .taken) in
     let l : length (now (c .before .before .before .before .before .before .before .before .before .before .before .before .args .s)) ≡ 4 = p .0 in
     omega (arith, l)
 
--- src/lib.rt:125:9
 returns-7 : tie.Need-returns-7
 returns-7 c =
     let p = kind-at (now (c .before .before .before .before .before .before .before .before .before .before .before .before .before .args .s)) (c .before .before .before .before .before .before .before .before .before .size .result) (c .before .before .before .before .before .before .before .size2 .result) 2 (c .before .before .before .before .before .before .before .before .before .size .ensures .0) (c .before .before .before .before .before .before .before .size2 .ensures .0) (omega (arith, c .before .before .before .before .before .before .if3 .left)) (c .before .before .before .if6 .taken) in
@@ -125,28 +102,24 @@ returns-7 c =
     let f0 = c .two-at4 .ensures in
     cc
 
--- src/lib.rt:128:54
 two-at-requires-5 : tie.Need-two-at-requires-5
 two-at-requires-5 c κs =
     let p = kind-at (now (c .before .before .before .before .before .before .before .before .before .before .before .args .s)) (c .before .before .before .before .before .before .before .size .result) (c .before .before .before .before .before .size2 .result) 3 (c .before .before .before .before .before .before .before .size .ensures .0) (c .before .before .before .before .before .size2 .ensures .0) (omega (arith, c .before .before .before .before .if3 .left)) (c .if8 .taken) in
     let l : length (now (c .before .before .before .before .before .before .before .before .before .before .before .args .s)) ≡ 19 = p .0 in
     omega (arith, l)
 
--- src/lib.rt:128:74
 eight-at-requires : tie.Need-eight-at-requires
 eight-at-requires c κs =
     let p = kind-at (now (c .before .before .before .before .before .before .before .before .before .before .before .before .args .s)) (c .before .before .before .before .before .before .before .before .size .result) (c .before .before .before .before .before .before .size2 .result) 3 (c .before .before .before .before .before .before .before .before .size .ensures .0) (c .before .before .before .before .before .before .size2 .ensures .0) (omega (arith, c .before .before .before .before .before .if3 .left)) (c .before .if8 .taken) in
     let l : length (now (c .before .before .before .before .before .before .before .before .before .before .before .before .args .s)) ≡ 19 = p .0 in
     omega (arith, l)
 
--- src/lib.rt:128:95
 eight-at-requires-2 : tie.Need-eight-at-requires-2
 eight-at-requires-2 c κs =
     let p = kind-at (now (c .before .before .before .before .before .before .before .before .before .before .before .before .before .args .s)) (c .before .before .before .before .before .before .before .before .before .size .result) (c .before .before .before .before .before .before .before .size2 .result) 3 (c .before .before .before .before .before .before .before .before .before .size .ensures .0) (c .before .before .before .before .before .before .before .size2 .ensures .0) (omega (arith, c .before .before .before .before .before .before .if3 .left)) (c .before .before .if8 .taken) in
     let l : length (now (c .before .before .before .before .before .before .before .before .before .before .before .before .before .args .s)) ≡ 19 = p .0 in
     omega (arith, l)
 
--- src/lib.rt:128:9
 returns-8 : tie.Need-returns-8
 returns-8 c =
     let p = kind-at (now (c .before .before .before .before .before .before .before .before .before .before .before .before .before .before .args .s)) (c .before .before .before .before .before .before .before .before .before .before .size .result) (c .before .before .before .before .before .before .before .before .size2 .result) 3 (c .before .before .before .before .before .before .before .before .before .before .size .ensures .0) (c .before .before .before .before .before .before .before .before .size2 .ensures .0) (omega (arith, c .before .before .before .before .before .before .before .if3 .left)) (c .before .before .before .if8 .taken) in
@@ -156,14 +129,12 @@ returns-8 c =
     let f2 = c .eight-at2 .ensures in
     cc
 
--- src/lib.rt:131:56
 two-at-requires-6 : tie.Need-two-at-requires-6
 two-at-requires-6 c κs =
     let p = kind-at (now (c .before .before .before .before .before .before .before .before .before .before .before .before .args .s)) (c .before .before .before .before .before .before .before .before .size .result) (c .before .before .before .before .before .before .size2 .result) 4 (c .before .before .before .before .before .before .before .before .size .ensures .0) (c .before .before .before .before .before .before .size2 .ensures .0) (omega (arith, c .before .before .before .before .before .if3 .left)) (c .if9 .taken) in
     let l : length (now (c .before .before .before .before .before .before .before .before .before .before .before .before .args .s)) ≡ 3 = p .0 in
     omega (arith, l)
 
--- src/lib.rt:131:9
 returns-9 : tie.Need-returns-9
 returns-9 c =
     let p = kind-at (now (c .before .before .before .before .before .before .before .before .before .before .before .before .before .args .s)) (c .before .before .before .before .before .before .before .before .before .size .result) (c .before .before .before .before .before .before .before .size2 .result) 4 (c .before .before .before .before .before .before .before .before .before .size .ensures .0) (c .before .before .before .before .before .before .before .size2 .ensures .0) (omega (arith, c .before .before .before .before .before .before .if3 .left)) (c .before .if9 .taken) in
@@ -171,7 +142,6 @@ returns-9 c =
     let f0 = c .two-at6 .ensures in
     cc
 
--- src/lib.rt:100:1
 returns-10 : tie.Need-returns-10
 returns-10 c =
     let p = kind-at (now (c .before .before .before .before .before .before .before .before .before .before .before .before .args .s)) (c .before .before .before .before .before .before .before .before .size .result) (c .before .before .before .before .before .before .size2 .result) 5 (c .before .before .before .before .before .before .before .before .size .ensures .0) (c .before .before .before .before .before .before .size2 .ensures .0) (omega (arith, c .before .before .before .before .before .if3 .left)) (omega (arith, c .before .before .before .before .before .before .before .if2 .left, c .before .before .before .before .if4 .left, c .before .before .before .if5 .left, c .before .before .if6 .left, c .before .if8 .left, c .if9 .left)) in
