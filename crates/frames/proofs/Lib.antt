@@ -1,0 +1,5 @@
+pub mod Decoded
+pub mod Bodies
+pub mod Frames
+pub mod Turns
+pub mod Whole

@@ -1,0 +1,4 @@
+pub mod Fed
+pub mod Pieces
+pub mod Ends
+pub mod Held
