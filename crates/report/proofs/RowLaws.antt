@@ -271,9 +271,9 @@ pub place-so : (ws : List ℕ) (i a p : ℕ) → a ≡ base i → p ≡ place-at
 unfolding place-in
 place-so ws i a p e f = f ∙ ap (place-at ws) e
 
-pub named-so : (ps os : List ℕ) (q i p : ℕ) → i ≡ getD os q 0 → p ≡ getD ps i 0 → p ≡ named ps os q
+pub named-so : (ws os : List ℕ) (q i p : ℕ) → i ≡ getD os q 0 → p ≡ place-in ws i → p ≡ named ws os q
 unfolding named
-named-so ps os q i p e f = f ∙ ap (λ k. getD ps k 0) e
+named-so ws os q i p e f = f ∙ ap (place-in ws) e
 
 pub earlier-so : (ws os : List ℕ) (p q i j : ℕ) (t : Bool) → i ≡ getD os q 0 → j ≡ getD os p 0 → t ≡ edge (kept-in ws i) (kept-in ws j) → t ≡ earlier ws os p q
 unfolding earlier

@@ -28,7 +28,7 @@ place-in ws i = place-at ws (base i)
 
 -- the place of rule q of the order os
 unfoldable pub named : List ℕ → List ℕ → ℕ → ℕ
-named ps os q = getD ps (getD os q 0) 0
+named ws os q = place-in ws (getD os q 0)
 
 -- whether rule p of the order has an edge with rule q, which stands before it; and the word of these
 unfoldable pub earlier : List ℕ → List ℕ → ℕ → ℕ → Bool
