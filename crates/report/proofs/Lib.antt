@@ -1,3 +1,5 @@
 pub mod RowLaws
 pub mod OrderLaws
 pub mod LineLaws
+pub mod ListLaws
+pub mod TakeLaws
