@@ -3,3 +3,4 @@ pub mod OrderLaws
 pub mod LineLaws
 pub mod ListLaws
 pub mod TakeLaws
+pub mod TextLaws
