@@ -4,3 +4,4 @@ pub mod LineLaws
 pub mod ListLaws
 pub mod TakeLaws
 pub mod TextLaws
+pub mod ReportLaws

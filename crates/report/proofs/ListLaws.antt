@@ -138,7 +138,7 @@ place-map K f x [] = refl
 place-map {A} {B} K f x (y ∷ ys) = go (ltb (K (f y)) (K (f x))) (place-map K f x ys)
   where
     go : (t : Bool) → map f (place-by (λ a. K (f a)) x ys) ≡ place-by K (f x) (map f ys)
-      → map f (elim t as (λ _. List A) [ true ↦ y ∷ place-by (λ a. K (f a)) x ys | false ↦ x ∷ y ∷ ys ]) ≡ elim t as (λ _. List B) [ true ↦ f y ∷ place-by K (f x) (map f ys) | false ↦ f x ∷ f y ∷ map f ys ]
+        → map f (elim t as (λ _. List A) [ true ↦ y ∷ place-by (λ a. K (f a)) x ys | false ↦ x ∷ y ∷ ys ]) ≡ elim t as (λ _. List B) [ true ↦ f y ∷ place-by K (f x) (map f ys) | false ↦ f x ∷ f y ∷ map f ys ]
     go true h = ap (λ z. f y ∷ z) h
     go false h = refl
 

@@ -243,15 +243,14 @@ abbrev Gone : ℕ → ℕ → Graph → List ℕ → ℕ → List ℕ → ℕ �
 Gone k n g rows left taken i = (firsts i (take-places k n g) ≡ []) × (getD (take-from k n rows left taken) i 0 ≡ getD taken i 0)
 
 gone-turn : (k n : ℕ) (g : Graph) (rows : List ℕ) (left : ℕ) (taken : List ℕ) (i : ℕ) (h : Held n g rows left) (few : n ≤ 64) (l : i < n) (pos : 0 < n) → ((j : ℕ) → j < n → g i j ≡ false) → Turn n g rows left h few pos
-  → (top rows left n < n → Gone k n (without (top rows left n) g) (set rows (top rows left n) 0) (cleared left (top rows left n)) (set taken (top rows left n) (word-of rows left n)) i)
-  → Gone (suc k) n g rows left taken i
+    → (top rows left n < n → Gone k n (without (top rows left n) g) (set rows (top rows left n) 0) (cleared left (top rows left n)) (set taken (top rows left n) (word-of rows left n)) i)
+    → Gone (suc k) n g rows left taken i
 gone-turn k n g rows left taken i h few l pos dead (stops z e) rec = (ap (firsts i) (places-stop k n g e) ∙ firsts-none i, ap (λ y. getD y i 0) (from-stop k n rows left taken z))
 gone-turn k n g rows left taken i h few l pos dead (goes s z m ms e) rec =
     let w : top rows left n ≡ i → ⊥ = λ q. z (near-is n g rows left h few pos ∙ (ap (λ y. bits (g y) n) q ∙ (bits-same (g i) (λ q. false) n dead ∙ no-bits n))) in
-    let r = rec s in
-    (
+    let r = rec s in (
       ap (firsts i) (places-at k n g (top rows left n) m ms (busiest-same n g rows left h few pos n (omega arith)) e)
-      ∙ (keep-no (λ (x : ℕ × List ℕ). eqb (x .0) i) (top rows left n, keep (g (top rows left n)) (numbers n)) (take-places k n (without (top rows left n) g)) (ne-eqb (top rows left n) i w) ∙ r .0),
+          ∙ (keep-no (λ (x : ℕ × List ℕ). eqb (x .0) i) (top rows left n, keep (g (top rows left n)) (numbers n)) (take-places k n (without (top rows left n) g)) (ne-eqb (top rows left n) i w) ∙ r .0),
       ap (λ y. getD y i 0) (from-go k n rows left taken z) ∙ (r .1 ∙ getD-set-other taken (top rows left n) i (word-of rows left n) 0 (λ q. w (sym q))),
     )
 
@@ -261,7 +260,7 @@ gone (suc k) n g rows left taken i h few l dead =
     let pos : 0 < n = omega arith in
     gone-turn k n g rows left taken i h few l pos dead (turn n g rows left h few pos)
     (λ s. gone k n (without (top rows left n) g) (set rows (top rows left n) 0) (cleared left (top rows left n)) (set taken (top rows left n) (word-of rows left n)) i
-        (held-without n g rows left h few pos (top rows left n) s) few l (without-still n g (top rows left n) i dead))
+    (held-without n g rows left h few pos (top rows left n) s) few l (without-still n g (top rows left n) i dead))
 
 -- ---- and each is taken once or never
 pub data Taken (n i w : ℕ) (ls : Lists) : Type 0 where
@@ -279,29 +278,29 @@ live-stop : (k n : ℕ) (g : Graph) (rows : List ℕ) (left : ℕ) (taken : List
 live-stop k n g rows left taken i e z f = never (ap (λ y. getD y i 0) (from-stop k n rows left taken z) ∙ e) (ap (firsts i) (places-stop k n g f) ∙ firsts-none i)
 
 live-taken : (k n : ℕ) (g : Graph) (rows : List ℕ) (left : ℕ) (taken : List ℕ) (i m : ℕ) (ms : List ℕ) → top rows left n ≡ i → i < length taken → (word-of rows left n ≡ 0 → ⊥) → word-of rows left n ≡ bits (g (top rows left n)) n → top rows left n ≡ busiest n g n → neighbours n g (busiest n g n) ≡ m ∷ ms
-  → Gone k n (without (top rows left n) g) (set rows (top rows left n) 0) (cleared left (top rows left n)) (set taken (top rows left n) (word-of rows left n)) (top rows left n)
-  → Live (suc k) n g rows left taken i
+    → Gone k n (without (top rows left n) g) (set rows (top rows left n) 0) (cleared left (top rows left n)) (set taken (top rows left n) (word-of rows left n)) (top rows left n)
+    → Live (suc k) n g rows left taken i
 live-taken k n g rows left taken i m ms q long z near eb e r =
     let l : top rows left n < length taken = omega arith in
     let v : getD (take-from (suc k) n rows left taken) i 0 ≡ word-of rows left n =
     ap (λ y. getD (take-from (suc k) n rows left taken) y 0) (sym q) ∙ (ap (λ y. getD y (top rows left n) 0) (from-go k n rows left taken z) ∙ (r .1 ∙ getD-set-same taken (top rows left n) (word-of rows left n) 0 l)) in
     once (g (top rows left n)) (v ∙ near) (λ y. z (sym v ∙ y))
-        (ap (firsts i) (places-at k n g (top rows left n) m ms eb e)
-        ∙ (keep-yes (λ (x : ℕ × List ℕ). eqb (x .0) i) (top rows left n, keep (g (top rows left n)) (numbers n)) (take-places k n (without (top rows left n) g)) (eq-eqb (top rows left n) i q)
-        ∙ (ap (λ y. (top rows left n, keep (g (top rows left n)) (numbers n)) ∷ y) (ap (λ y. firsts y (take-places k n (without (top rows left n) g))) (sym q) ∙ r .0)
-        ∙ ap (λ y. (y, keep (g (top rows left n)) (numbers n)) ∷ []) q)))
+    (ap (firsts i) (places-at k n g (top rows left n) m ms eb e)
+    ∙ (keep-yes (λ (x : ℕ × List ℕ). eqb (x .0) i) (top rows left n, keep (g (top rows left n)) (numbers n)) (take-places k n (without (top rows left n) g)) (eq-eqb (top rows left n) i q)
+    ∙ (ap (λ y. (top rows left n, keep (g (top rows left n)) (numbers n)) ∷ y) (ap (λ y. firsts y (take-places k n (without (top rows left n) g))) (sym q) ∙ r .0)
+    ∙ ap (λ y. (y, keep (g (top rows left n)) (numbers n)) ∷ []) q)))
 
 live-passed : (k n : ℕ) (g : Graph) (rows : List ℕ) (left : ℕ) (taken : List ℕ) (i m : ℕ) (ms : List ℕ) → (top rows left n ≡ i → ⊥) → (word-of rows left n ≡ 0 → ⊥) → top rows left n ≡ busiest n g n → neighbours n g (busiest n g n) ≡ m ∷ ms
-  → Taken n i (getD (next k n rows left taken) i 0) (firsts i (take-places k n (without (top rows left n) g)))
-  → Live (suc k) n g rows left taken i
+    → Taken n i (getD (next k n rows left taken) i 0) (firsts i (take-places k n (without (top rows left n) g)))
+    → Live (suc k) n g rows left taken i
 live-passed k n g rows left taken i m ms w z eb e (never v u) = never (ap (λ y. getD y i 0) (from-go k n rows left taken z) ∙ v) (passed k n g (top rows left n) i m ms w eb e ∙ u)
 live-passed k n g rows left taken i m ms w z eb e (once f v x u) =
     let y = ap (λ y. getD y i 0) (from-go k n rows left taken z) in
     once f (y ∙ v) (λ q. x (sym y ∙ q)) (passed k n g (top rows left n) i m ms w eb e ∙ u)
 
 live-turn : (k n : ℕ) (g : Graph) (rows : List ℕ) (left : ℕ) (taken : List ℕ) (i : ℕ) (h : Held n g rows left) (few : n ≤ 64) (l : i < n) (pos : 0 < n) → length taken ≡ 64 → getD taken i 0 ≡ 0 → Turn n g rows left h few pos → Dec (top rows left n ≡ i)
-  → (top rows left n < n → (top rows left n ≡ i → ⊥) → Taken n i (getD (next k n rows left taken) i 0) (firsts i (take-places k n (without (top rows left n) g))))
-  → Live (suc k) n g rows left taken i
+    → (top rows left n < n → (top rows left n ≡ i → ⊥) → Taken n i (getD (next k n rows left taken) i 0) (firsts i (take-places k n (without (top rows left n) g))))
+    → Live (suc k) n g rows left taken i
 live-turn k n g rows left taken i h few l pos t e (stops z f) d rec = live-stop k n g rows left taken i e z f
 live-turn k n g rows left taken i h few l pos t e (goes s z m ms f) (yes q) rec =
     live-taken k n g rows left taken i m ms q (omega arith) z (near-is n g rows left h few pos) (busiest-same n g rows left h few pos n (omega arith)) f
@@ -315,5 +314,5 @@ live (suc k) n g rows left taken i h few l t e =
     let pos : 0 < n = omega arith in
     live-turn k n g rows left taken i h few l pos t e (turn n g rows left h few pos) (ℕ-discrete (top rows left n) i)
     (λ s q. live k n (without (top rows left n) g) (set rows (top rows left n) 0) (cleared left (top rows left n)) (set taken (top rows left n) (word-of rows left n)) i
-        (held-without n g rows left h few pos (top rows left n) s) few l (length-set taken (top rows left n) (word-of rows left n) ∙ t)
-        (getD-set-other taken (top rows left n) i (word-of rows left n) 0 (λ y. q (sym y)) ∙ e))
+    (held-without n g rows left h few pos (top rows left n) s) few l (length-set taken (top rows left n) (word-of rows left n) ∙ t)
+    (getD-set-other taken (top rows left n) i (word-of rows left n) 0 (λ y. q (sym y)) ∙ e))

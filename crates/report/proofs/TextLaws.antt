@@ -81,7 +81,7 @@ module _ (names : List ℕ) (P : ℕ → ℕ) (f : ℕ → Bool) (n : ℕ) (few 
       let l : k < n = omega arith in
       places-more names (bits f n) k
       ∙ (rw (places-are k (omega arith), place-is k l, kept-next f k, map-append P (keep f (numbers k)) (keep f (k ∷ [])), map-append four (map P (keep f (numbers k))) (map P (keep f (k ∷ []))), joined-append (map four (map P (keep f (numbers k)))) (map four (map P (keep f (k ∷ [])))))
-          (sym (digits-append (joined (map four (map P (keep f (numbers k))))) (joined (map four (map P (keep f (k ∷ [])))))) ))
+      (sym (digits-append (joined (map four (map P (keep f (numbers k))))) (joined (map four (map P (keep f (k ∷ []))))))))
 
   abbrev pub Members : List ℕ
   Members = map P (keep f (numbers n))
@@ -169,7 +169,7 @@ module _ (ws : List ℕ) (n : ℕ) (os : List ℕ) (long : n ≤ length os) (sor
     linked-is p q h k = go (decLt p q) (decLt q p)
       where
         go : Dec (p < q) → Dec (q < p) → (if ltb p q then edge (getD (by-place (kept-first ws n)) p no-rule) (getD (by-place (kept-first ws n)) q no-rule) else (if ltb q p then edge (getD (by-place (kept-first ws n)) q no-rule) (getD (by-place (kept-first ws n)) p no-rule) else false))
-          ≡ (if ltb q p then bit-at (getD (filled (lower-word ws os) n) p 0) q else (if ltb p q then bit-at (getD (filled (lower-word ws os) n) q 0) p else false))
+            ≡ (if ltb q p then bit-at (getD (filled (lower-word ws os) n) p 0) q else (if ltb p q then bit-at (getD (filled (lower-word ws os) n) q 0) p else false))
         go (yes a) b = let c : p ≤ q = omega arith in rw (lt-ltb p q a, le-ltb q p c) (sym (low-at q p a k))
         go (no a) (yes b) = let c : q ≤ p = omega arith in rw (le-ltb p q c, lt-ltb q p b) (sym (low-at p q b h))
         go (no a) (no b) = let c : q ≤ p = omega arith in let d : p ≤ q = omega arith in rw (le-ltb p q c, le-ltb q p d)
@@ -321,7 +321,7 @@ module _ (ws : List ℕ) (n : ℕ) (os : List ℕ) (long : n ≤ length os) (sor
       let t = live n n (linked (by-place (kept-first ws n))) Rows 18446744073709551615 (replicate 64 0) p (rows-held ws n os long sorted few) few h (length-replicate {A = ℕ} 64 0) (getD-replicate {A = ℕ} 64 p 0 0 l) in
       rule-is ws All os Names Words n p
       ∙ (rw (overlap-all Names (map (λ k. k .place) (by-place (kept-first ws n))) (take-places n n (linked (by-place (kept-first ws n)))) n p (getD Words p 0) few h (named-at ws n os long sorted few) t, mask-at p h)
-          (sym (text-append (overlap-lists (map (λ k. k .place) (by-place (kept-first ws n))) (take-places n n (linked (by-place (kept-first ws n)))) p) (mask-lists (getD (map (λ k. k .place) (by-place (kept-first ws n))) p 0) (masked-by (kept-first ws n) (getD (by-place (kept-first ws n)) p no-rule))))))
+      (sym (text-append (overlap-lists (map (λ k. k .place) (by-place (kept-first ws n))) (take-places n n (linked (by-place (kept-first ws n)))) p) (mask-lists (getD (map (λ k. k .place) (by-place (kept-first ws n))) p 0) (masked-by (kept-first ws n) (getD (by-place (kept-first ws n)) p no-rule))))))
 
   pub lists-report : lists-text ws (filled (place-in ws) n) os (filled (named ws os) n) (take-from n n (filled (row-word (filled (lower-word ws os) n) n) n) 18446744073709551615 (replicate 64 0)) n n ≡ text (report-of (kept-first ws n))
   lists-report =

@@ -2,7 +2,7 @@
 use mathlib.Core.Path.{_≡_}
 use mathlib.Core.Bool.{Bool, true, false}
 use mathlib.Core.List.{List, [], _∷_, _++_, map}
-use Prim.Native.Nat.{ℕ, zero, suc, _+_}
+use Prim.Native.Nat.{ℕ, zero, suc, _+_, _*_}
 use lib.ListN.{length, getD, drop}
 use lib.Seq.{sets}
 use lib.Count.{ones}
@@ -14,7 +14,9 @@ use Rattle.paper.specs.Sheets.{listed-found}
 use Rattle.paper.specs.Rules.{masks, report-for}
 use Rattle.kept.specs.Stored.{kept-in, kept-first}
 use Rattle.lines.specs.Digits.{digits}
-use Rattle.report.specs.Rows.{bits, bit-at, place-in}
+use Rattle.report.specs.declared.Reported.{Reported}
+use Rattle.report.specs.declared.Reported.the-variants.{Done, TooManyRules, NoRoom}
+use Rattle.report.specs.Rows.{bits, bit-at}
 
 -- from `at` up to `end` the text was written into the room
 pub record Wrote (old new : List ℕ) (at end : ℕ) (text : List ℕ) : Type 0 where
@@ -50,3 +52,31 @@ rule-text ws all os ps ts n p = overlap-text ps p (getD ts p 0) n ++ mask-text a
 unfoldable pub lists-text : List ℕ → List ℕ → List ℕ → List ℕ → List ℕ → ℕ → ℕ → List ℕ
 lists-text ws all os ps ts n zero = []
 lists-text ws all os ps ts n (suc k) = lists-text ws all os ps ts n k ++ rule-text ws all os ps ts n k
+
+-- ---- the report of the first n rules in the words, as the lines of its findings
+unfoldable pub report-text : List ℕ → ℕ → ℕ → List ℕ
+report-text ws n flags = joined (map (λ l. hex (listed-found l)) (report-for flags (kept-first ws n)))
+
+-- room that is enough for any report (proofs/ReportLaws.antt, `room-enough`)
+abbrev pub report-room : ℕ
+report-room = 2 * max-rules * (15 + 8 * max-rules)
+
+unfoldable pub reported : List ℕ → ℕ → ℕ → List ℕ → Reported
+reported ws n flags room =
+    if ltb max-rules n then TooManyRules else (if ltb (length room) report-room then NoRoom else Done (length (report-text ws n flags)))
+
+unfoldable pub room-after : List ℕ → ℕ → ℕ → List ℕ → List ℕ
+room-after ws n flags room =
+    if ltb max-rules n then room
+    else (if ltb (length room) report-room then room else report-text ws n flags ++ drop (length (report-text ws n flags)) room)
+
+-- 01's number of each answer, and what is told with it
+abbrev pub number-of : Reported → ℕ
+number-of (Done count) = 0
+number-of TooManyRules = 7
+number-of NoRoom = 7
+
+abbrev pub told-with : Reported → List ℕ
+told-with (Done count) = count ∷ []
+told-with TooManyRules = []
+told-with NoRoom = []
