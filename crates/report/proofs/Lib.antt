@@ -5,3 +5,4 @@ pub mod ListLaws
 pub mod TakeLaws
 pub mod TextLaws
 pub mod ReportLaws
+pub mod OnceLaws

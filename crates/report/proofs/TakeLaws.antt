@@ -67,7 +67,7 @@ some-at : (xs : List ℕ) → (length xs ≡ 0 → ⊥) → (m : ℕ) × ((ms : 
 some-at [] e = absurd (e refl)
 some-at (m ∷ ms) e = (m, (ms, refl))
 
-none-at : (xs : List ℕ) → length xs ≡ 0 → xs ≡ []
+pub none-at : (xs : List ℕ) → length xs ≡ 0 → xs ≡ []
 none-at [] e = refl
 none-at (x ∷ xs) e = absurd (omega arith)
 
@@ -84,7 +84,7 @@ neighbours-count : (n : ℕ) (g : Graph) (b : ℕ) → length (neighbours n g b)
 unfolding neighbours
 neighbours-count n g b = count-kept (g b) n
 
-without-is : (b : ℕ) (g : Graph) (p q : ℕ) → without b g p q ≡ (not (eqb p b) && (not (eqb q b) && g p q))
+pub without-is : (b : ℕ) (g : Graph) (p q : ℕ) → without b g p q ≡ (not (eqb p b) && (not (eqb q b) && g p q))
 unfolding without
 without-is b g p q = refl
 
@@ -175,7 +175,7 @@ Lists = List (ℕ × List ℕ)
 abbrev pub firsts : ℕ → Lists → Lists
 firsts i ls = keep (λ l. eqb (l .0) i) ls
 
-places-stop : (k n : ℕ) (g : Graph) → neighbours n g (busiest n g n) ≡ [] → take-places (suc k) n g ≡ []
+pub places-stop : (k n : ℕ) (g : Graph) → neighbours n g (busiest n g n) ≡ [] → take-places (suc k) n g ≡ []
 unfolding take-places
 places-stop k n g e = rw (e, take-places)
 
@@ -183,11 +183,11 @@ places-go : (k n : ℕ) (g : Graph) (m : ℕ) (ms : List ℕ) → neighbours n g
 unfolding take-places
 places-go k n g m ms e = rw (e, take-places)
 
-neighbours-are : (n : ℕ) (g : Graph) (b : ℕ) → neighbours n g b ≡ keep (g b) (numbers n)
+pub neighbours-are : (n : ℕ) (g : Graph) (b : ℕ) → neighbours n g b ≡ keep (g b) (numbers n)
 unfolding neighbours
 neighbours-are n g b = refl
 
-places-at : (k n : ℕ) (g : Graph) (b m : ℕ) (ms : List ℕ) → b ≡ busiest n g n → neighbours n g (busiest n g n) ≡ m ∷ ms → take-places (suc k) n g ≡ (b, keep (g b) (numbers n)) ∷ take-places k n (without b g)
+pub places-at : (k n : ℕ) (g : Graph) (b m : ℕ) (ms : List ℕ) → b ≡ busiest n g n → neighbours n g (busiest n g n) ≡ m ∷ ms → take-places (suc k) n g ≡ (b, keep (g b) (numbers n)) ∷ take-places k n (without b g)
 places-at k n g b m ms e f =
     places-go k n g m ms f
     ∙ (ap (λ z. (busiest n g n, z) ∷ take-places k n (without (busiest n g n) g)) (sym f)
@@ -209,7 +209,7 @@ from-none : (n : ℕ) (rows : List ℕ) (left : ℕ) (taken : List ℕ) → take
 unfolding take-from
 from-none n rows left taken = refl
 
-places-none : (n : ℕ) (g : Graph) → take-places 0 n g ≡ []
+pub places-none : (n : ℕ) (g : Graph) → take-places 0 n g ≡ []
 unfolding take-places
 places-none n g = refl
 
@@ -217,7 +217,7 @@ firsts-none : (i : ℕ) → firsts i [] ≡ []
 unfolding keep
 firsts-none i = refl
 
-no-edge : (x y : Bool) → (x && (y && false)) ≡ false
+pub no-edge : (x y : Bool) → (x && (y && false)) ≡ false
 no-edge true true = refl
 no-edge true false = refl
 no-edge false y = refl

@@ -132,7 +132,14 @@ fn equals(s: State, equal: &mut [u16], low: &mut [u16]) -> State {
     with_counts(s, s.sites, n + 1, s.rules)
 }
 
-fn keep(s: State, words: &mut [u64], sites: &[u16], shapes: &[u64], equal: &[u16], low: &[u16]) -> State {
+fn keep(
+    s: State,
+    words: &mut [u64],
+    sites: &[u16],
+    shapes: &[u64],
+    equal: &[u16],
+    low: &[u16],
+) -> State {
     let n = s.sites;
     let m = s.equal;
     let i = s.rules;
@@ -145,7 +152,16 @@ fn keep(s: State, words: &mut [u64], sites: &[u16], shapes: &[u64], equal: &[u16
     if i >= 64 {
         return s;
     }
-    if kept::write(words, i, low32(s.c), s.d, &sites[..n], shapes, &equal[..m], low) {
+    if kept::write(
+        words,
+        i,
+        low32(s.c),
+        s.d,
+        &sites[..n],
+        shapes,
+        &equal[..m],
+        low,
+    ) {
         return with_counts(s, 0, 0, i + 1);
     }
     with_counts(s, 0, 0, i)
@@ -190,7 +206,16 @@ fn reported(s: State, words: &[u64], room: &mut [u8]) {
     }
 }
 
-fn step(s: State, x: u8, words: &mut [u64], sites: &mut [u16], shapes: &mut [u64], equal: &mut [u16], low: &mut [u16], room: &mut [u8]) -> State {
+fn step(
+    s: State,
+    x: u8,
+    words: &mut [u64],
+    sites: &mut [u16],
+    shapes: &mut [u64],
+    equal: &mut [u16],
+    low: &mut [u16],
+    room: &mut [u8],
+) -> State {
     let v = digit(x);
     if v < 16 {
         return with_digit(s, v);
@@ -222,7 +247,15 @@ fn step(s: State, x: u8, words: &mut [u64], sites: &mut [u16], shapes: &mut [u64
     s
 }
 
-fn run(text: &[u8], words: &mut [u64], sites: &mut [u16], shapes: &mut [u64], equal: &mut [u16], low: &mut [u16], room: &mut [u8]) {
+fn run(
+    text: &[u8],
+    words: &mut [u64],
+    sites: &mut [u16],
+    shapes: &mut [u64],
+    equal: &mut [u16],
+    low: &mut [u16],
+    room: &mut [u8],
+) {
     let mut s = begin();
     let mut i: usize = 0;
     while i < text.len() {
@@ -241,5 +274,13 @@ fn main() {
     let mut equal = [0u16; 32];
     let mut low = [0u16; 32];
     let mut room = [0u8; 67456];
-    run(&text[..n], &mut words, &mut sites, &mut shapes, &mut equal, &mut low, &mut room);
+    run(
+        &text[..n],
+        &mut words,
+        &mut sites,
+        &mut shapes,
+        &mut equal,
+        &mut low,
+        &mut room,
+    );
 }
