@@ -6,3 +6,4 @@ pub mod TakeLaws
 pub mod TextLaws
 pub mod ReportLaws
 pub mod OnceLaws
+pub mod NamedLaws

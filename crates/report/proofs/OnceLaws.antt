@@ -16,15 +16,15 @@ use Rattle.report.proofs.ListLaws.{numbers, keep-yes, keep-no, keep-app
 use Rattle.report.proofs.TakeLaws.{places-at, places-stop, places-none, without-is, none-at, neighbours-are, no-edge}
 
 -- ---- counting a number among those that pass a test
-count-append : (j : ℕ) (xs ys : List ℕ) → count j (xs ++ ys) ≡ count j xs + count j ys
+pub count-append : (j : ℕ) (xs ys : List ℕ) → count j (xs ++ ys) ≡ count j xs + count j ys
 unfolding count
 count-append j xs ys = ap length (keep-append (eqb j) xs ys) ∙ length-append (keep (eqb j) xs) (keep (eqb j) ys)
 
-count-none : (j : ℕ) → count j [] ≡ 0
+pub count-none : (j : ℕ) → count j [] ≡ 0
 unfolding count keep
 count-none j = refl
 
-count-single : (j k : ℕ) → count j (k ∷ []) ≡ flag (eqb j k)
+pub count-single : (j k : ℕ) → count j (k ∷ []) ≡ flag (eqb j k)
 unfolding count keep
 count-single j k = go (eqb j k)
   where
@@ -40,7 +40,7 @@ flag-yes : (t : Bool) → flag (t && true) ≡ flag t
 flag-yes true = refl
 flag-yes false = refl
 
-keep-none : (f : ℕ → Bool) → keep f [] ≡ []
+pub keep-none : (f : ℕ → Bool) → keep f [] ≡ []
 unfolding keep
 keep-none f = refl
 
@@ -191,3 +191,99 @@ busy-fewer n g b i = go (ℕ-discrete (degree n g i) 0)
 
 busy-drops : (n : ℕ) (g : Graph) (b : ℕ) → b < n → (degree n g b ≡ 0 → ⊥) → tally (busy n (without b g)) n + 1 ≤ tally (busy n g) n
 busy-drops n g b l e = tally-drop (busy n (without b g)) (busy n g) b n l (λ i k. busy-fewer n g b i) (busy-not n (without b g) b (without-none n g b)) (busy-so n g b e)
+
+-- ---- every edge once
+pub busiest-less : (n : ℕ) (g : Graph) (k m : ℕ) → k ≤ m → 0 < m → busiest n g k < m
+unfolding busiest better
+busiest-less n g zero m h l = l
+busiest-less n g (suc k) m h l = go (leb (degree n g (busiest n g k)) (degree n g k)) (busiest-less n g k m (omega arith) l)
+  where
+    go : (t : Bool) → busiest n g k < m → (if t then k else busiest n g k) < m
+    go true r = omega arith
+    go false r = r
+
+times-none : (i j : ℕ) → times i j [] ≡ 0
+unfolding times
+times-none i j = refl
+
+times-more : (i j : ℕ) (l : ℕ × List ℕ) (ls : List (ℕ × List ℕ)) → times i j (l ∷ ls) ≡ named-in i j l + times i j ls
+unfolding times
+times-more i j l ls = refl
+
+named-first : (i j b : ℕ) (xs : List ℕ) → b ≡ i → named-in i j (b, xs) ≡ count j xs
+unfolding named-in
+named-first i j b xs e = rw (eq-eqb b i e)
+
+named-second : (i j b : ℕ) (xs : List ℕ) → (b ≡ i → ⊥) → b ≡ j → named-in i j (b, xs) ≡ count i xs
+unfolding named-in
+named-second i j b xs n e = rw (ne-eqb b i n, eq-eqb b j e)
+
+named-not : (i j b : ℕ) (xs : List ℕ) → (b ≡ i → ⊥) → (b ≡ j → ⊥) → named-in i j (b, xs) ≡ 0
+unfolding named-in
+named-not i j b xs n m = rw (ne-eqb b i n, ne-eqb b j m)
+
+without-sym : (b : ℕ) (g : Graph) → ((i j : ℕ) → g i j ≡ g j i) → (i j : ℕ) → without b g i j ≡ without b g j i
+without-sym b g s i j = without-is b g i j ∙ (rw (s i j) (swap (not (eqb i b)) (not (eqb j b)) (g j i)) ∙ sym (without-is b g j i))
+  where
+    swap : (x y z : Bool) → (x && (y && z)) ≡ (y && (x && z))
+    swap true true z = refl
+    swap true false z = refl
+    swap false true z = refl
+    swap false false z = refl
+
+no-more : (x : Bool) → (x && false) ≡ false
+no-more true = refl
+no-more false = refl
+
+-- a turn's list and what is left together name a pair as often as there was an edge
+turn-names : (n : ℕ) (g : Graph) (b i j : ℕ) → ((i j : ℕ) → g i j ≡ g j i) → i < n → j < n → (i ≡ j → ⊥) → named-in i j (b, keep (g b) (numbers n)) + flag (without b g i j) ≡ flag (g i j)
+turn-names n g b i j s li lj ne = go (ℕ-discrete b i) (ℕ-discrete b j)
+  where
+    go : Dec (b ≡ i) → Dec (b ≡ j) → named-in i j (b, keep (g b) (numbers n)) + flag (without b g i j) ≡ flag (g i j)
+    go (yes e) d =
+        let w : without b g i j ≡ false = without-is b g i j ∙ rw (eq-eqb i b (sym e)) in
+        omega (arith, named-first i j b (keep (g b) (numbers n)) e, count-in (g b) j n lj, ap flag w, ap (λ z. flag (g z j)) e)
+    go (no e) (yes d) =
+        let w : without b g i j ≡ false = without-is b g i j ∙ rw (eq-eqb j b (sym d)) (no-more (not (eqb i b))) in
+        omega (arith, named-second i j b (keep (g b) (numbers n)) e d, count-in (g b) i n li, ap flag w, ap (λ z. flag (g z i)) d, ap flag (s i j))
+    go (no e) (no d) =
+        let w : without b g i j ≡ g i j = without-is b g i j ∙ rw (ne-eqb i b (λ q. e (sym q)), ne-eqb j b (λ q. d (sym q))) in
+        omega (arith, named-not i j b (keep (g b) (numbers n)) e d, ap flag w)
+
+lonely-flag : (n : ℕ) (g : Graph) (i j : ℕ) → j < n → degree n g i ≡ 0 → 0 ≡ flag (g i j)
+lonely-flag n g i j l e = sym (ap flag (lonely n g i j l e))
+
+none-busy : (n : ℕ) (g : Graph) (i : ℕ) → i < n → tally (busy n g) n ≤ 0 → degree n g i ≡ 0
+none-busy n g i l h = go (ℕ-discrete (degree n g i) 0)
+  where
+    go : Dec (degree n g i ≡ 0) → degree n g i ≡ 0
+    go (yes e) = e
+    go (no e) = absurd (omega (arith, busy-so n g i e, tally-zero (busy n g) n (omega arith) i l))
+
+abbrev Once : ℕ → ℕ → Graph → ℕ → ℕ → Type 0
+Once k n g i j = times i j (take-places k n g) ≡ flag (g i j)
+
+once-turn : (k n : ℕ) (g : Graph) (i j : ℕ) → ((i j : ℕ) → g i j ≡ g j i) → tally (busy n g) n ≤ suc k → i < n → j < n → (i ≡ j → ⊥) → (ns : List ℕ) → neighbours n g (busiest n g n) ≡ ns
+    → (busiest n g n < n → tally (busy n (without (busiest n g n) g)) n ≤ k → Once k n (without (busiest n g n) g) i j)
+    → Once (suc k) n g i j
+once-turn k n g i j s h li lj ne [] e rec =
+    let m : degree n g (busiest n g n) ≡ 0 = degree-is n g (busiest n g n) ∙ ap length e in
+    let z : degree n g i ≡ 0 = omega (arith, busiest-most n g n i li) in
+    ap (times i j) (places-stop k n g e) ∙ (times-none i j ∙ lonely-flag n g i j lj z)
+once-turn k n g i j s h li lj ne (m ∷ ms) e rec =
+    let l : busiest n g n < n = busiest-less n g n n (omega arith) (omega arith) in
+    let d : degree n g (busiest n g n) ≡ suc (length ms) = degree-is n g (busiest n g n) ∙ ap length e in
+    let t : tally (busy n (without (busiest n g n) g)) n + 1 ≤ tally (busy n g) n = busy-drops n g (busiest n g n) l (λ q. omega arith) in
+    ap (times i j) (places-at k n g (busiest n g n) m ms refl e)
+    ∙ (times-more i j (busiest n g n, keep (g (busiest n g n)) (numbers n)) (take-places k n (without (busiest n g n) g))
+    ∙ (ap (λ z. named-in i j (busiest n g n, keep (g (busiest n g n)) (numbers n)) + z) (rec l (omega arith)) ∙ turn-names n g (busiest n g n) i j s li lj ne))
+
+once-each : (k n : ℕ) (g : Graph) (i j : ℕ) → ((i j : ℕ) → g i j ≡ g j i) → tally (busy n g) n ≤ k → i < n → j < n → (i ≡ j → ⊥) → times i j (take-places k n g) ≡ flag (g i j)
+once-each zero n g i j s h li lj ne = ap (times i j) (places-none n g) ∙ (times-none i j ∙ lonely-flag n g i j lj (none-busy n g i li h))
+once-each (suc k) n g i j s h li lj ne =
+    once-turn k n g i j s h li lj ne (neighbours n g (busiest n g n)) refl
+    (λ l t. once-each k n (without (busiest n g n) g) i j (without-sym (busiest n g n) g s) t li lj ne)
+
+-- taken as often as there are places, every edge is named exactly once, and no pair that is no edge
+pub edges-once : (n : ℕ) (g : Graph) (i j : ℕ) → ((i j : ℕ) → g i j ≡ g j i) → i < n → j < n → (i ≡ j → ⊥) → times i j (take-places n n g) ≡ flag (g i j)
+edges-once n g i j s = once-each n n g i j s (tally-bound (busy n g) n)
