@@ -16,7 +16,7 @@ use Rattle.paper.specs.declared.Item.{Item}
 use Rattle.paper.specs.Words.{if_then_else_, look, below, zip, joined, pairs, keep, Edges, Walk, one, more, returns}
 use Rattle.paper.specs.Sites.{same-constraint, child-count, child-number}
 use Rattle.paper.specs.Inputs.{Value, Given, shape, and-then}
-use Rattle.paper.specs.Loading.{Loading, Labels, Constraints, Holder, holder, holders, lowest, join-all, Together, written-so, itself, back, through, like, alike, turn, pass, same-classes, close, closure, first-holder, differs, conflict, steps, endless}
+use Rattle.paper.specs.Loading.{Loading, Labels, Constraints, Holder, holder, holders, lowest, join-all, Together, written-so, itself, back, through, like, alike, turn, pass, same-classes, close, closure, closure-of, first-holder, differs, conflict, steps, endless}
 use Rattle.paper.specs.Laws.{same-constraint-true}
 use Rattle.paper.specs.Closure.{of-below, in-below, closure-is}
 use Rattle.paper.specs.Walks.{returns-is}
@@ -125,7 +125,7 @@ close-well (suc n) hs k W = go (same-classes (pass k (pairs hs)) k) (close-well 
     go false r = r
 
 pub closure-well : (l : Loading) → Well (closure l)
-unfolding closure
+unfolding closure closure-of
 closure-well l = close-well (suc (length (l .sites))) (holders l) (join-all [] (l .equalities)) (all-well (l .equalities) [] none-well)
 
 -- ---- the holders
@@ -188,7 +188,7 @@ module _ (items : List Item) (l : Loading) (P : Part items l) where
       absurd (omega arith)
 
   empty-closure : length (l .sites) ≡ 0 → closure l ≡ []
-  unfolding closure holders close pass pairs same-classes join-all
+  unfolding closure closure-of holders close pass pairs same-classes join-all
   empty-closure z = let a = no-constraints z (l .constraints) refl in let b = no-equalities z (l .equalities) refl in rw (a, b) refl
 
   pub closes : (x y : ℕ) → (lowest (closure l) x ≡ lowest (closure l) y) ↔ Together (l .equalities) (holders l) x y
