@@ -1,0 +1,2 @@
+-- What the contracts of `classes` cite, beside paper's Classes.
+pub mod Answers
