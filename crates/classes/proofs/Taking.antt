@@ -23,11 +23,11 @@ use Rattle.classes.specs.Answers.{noted, over, Sweeps, taken, taken-by}
 -- ---- note
 
 module _ (m : List ℕ) (n r y : ℕ) (f : Found) where
-  pub note-none : f ≡ Nothing → _≡_ {A = List ℕ × ℕ} (m, n) (noted m n (is-at (At r) f) y)
-  note-none e = sym (ap (λ (g : Found). noted m n (is-at (At r) g) y) e)
+  pub note-none : f ≡ Nothing → _≡_ {A = List ℕ × ℕ} (m, n) (noted m n (is-at f (At r)) y)
+  note-none e = sym (ap (λ (g : Found). noted m n (is-at g (At r)) y) e)
 
-  pub note-at : (s : ℕ) (b : Bool) → f ≡ At s → eqb r s ≡ b → noted m n b y ≡ noted m n (is-at (At r) f) y
-  note-at s b e q = ap (λ (c : Bool). noted m n c y) (sym q) ∙ sym (ap (λ (g : Found). noted m n (is-at (At r) g) y) e)
+  pub note-at : (s : ℕ) (b : Bool) → f ≡ At s → eqb s r ≡ b → noted m n b y ≡ noted m n (is-at f (At r)) y
+  note-at s b e q = ap (λ (c : Bool). noted m n c y) (sym q) ∙ sym (ap (λ (g : Found). noted m n (is-at g (At r)) y) e)
 
 -- ---- sweep
 
@@ -37,7 +37,7 @@ one-longer xs y = simp length-append
 pub sweep-few : (k : ℕ) (p : List ℕ) (r : ℕ) → length (sweep k p r .members) ≤ k
 unfolding sweep
 sweep-few zero p r = omega arith
-sweep-few (suc k) p r = go (is-at (At r) (halve-in (sweep k p r .parents) k .1)) (sweep-few k p r)
+sweep-few (suc k) p r = go (is-at (halve-in (sweep k p r .parents) k .1) (At r)) (sweep-few k p r)
   where
     go : (b : Bool) → length (sweep k p r .members) ≤ k → length (if b then sweep k p r .members ++ (k ∷ []) else sweep k p r .members) ≤ suc k
     go true h = omega (arith, one-longer (sweep k p r .members) k)
@@ -74,13 +74,13 @@ pub sweep-fits : (k : ℕ) (p m p′ m′ : List ℕ) (r n : ℕ) → Sweeps (sw
 sweep-fits k p m p′ m′ r n S h = omega (arith, S .number, sweep-few k p r, sweep-length k p m p′ m′ r n S h)
 
 pub sweep-turn : (k : ℕ) (p m p′ m′ : List ℕ) (r n : ℕ) → Sweeps (sweep k p r) m p′ m′ n → k < length m → (q : List ℕ) (f : Found) (m″ : List ℕ) (n′ : ℕ)
-    → _≡_ {A = List ℕ × Found} (q, f) (halve-in p′ k) → _≡_ {A = List ℕ × ℕ} (m″, n′) (noted m′ n (is-at (At r) f) k)
+    → _≡_ {A = List ℕ × Found} (q, f) (halve-in p′ k) → _≡_ {A = List ℕ × ℕ} (m″, n′) (noted m′ n (is-at f (At r)) k)
     → Sweeps (sweep (k + 1) p r) m q m″ n′
 unfolding sweep
 sweep-turn k p m p′ m′ r n S h q f m″ n′ e g =
     let s = sweep k p r in
     let e′ : _≡_ {A = List ℕ × Found} (q, f) (halve-in (s .parents) k) = e ∙ ap (λ (z : List ℕ). halve-in z k) (S .parents) in
-    let H = noted-sweeps s m p′ m′ n k (is-at (At r) f) q S (omega (arith, sweep-few k p r)) in
+    let H = noted-sweeps s m p′ m′ n k (is-at f (At r)) q S (omega (arith, sweep-few k p r)) in
     rw (add-one k, ← e′) (rw (← g) at H)
 
 -- every member is one of the sites that were looked at
@@ -96,7 +96,7 @@ below-one xs k i h l = go (decLt i (length xs))
 pub sweep-below : (k : ℕ) (p : List ℕ) (r i : ℕ) → i < length (sweep k p r .members) → getD (sweep k p r .members) i 0 < k
 unfolding sweep
 sweep-below zero p r i h = absurd (omega arith)
-sweep-below (suc k) p r i h = go (is-at (At r) (halve-in (sweep k p r .parents) k .1)) (λ g. sweep-below k p r i g) h
+sweep-below (suc k) p r i h = go (is-at (halve-in (sweep k p r .parents) k .1) (At r)) (λ g. sweep-below k p r i g) h
   where
     go : (b : Bool) → (i < length (sweep k p r .members) → getD (sweep k p r .members) i 0 < k)
         → i < length (if b then sweep k p r .members ++ (k ∷ []) else sweep k p r .members)

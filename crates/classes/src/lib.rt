@@ -266,12 +266,12 @@ pub fn in_same_set_in(parents: &[u16; SITES], x: u16, y: u16) -> Same
 // Lists y in members, after the n that are there, where r was found: how many there are then.
 fn note(members: &mut [u16], n: usize, f: Found, r: u16, y: u16) -> usize
     requires { ⌜ n < length (now members) ⌝ }
-    ensures { λ k. ⌜ (now (members .exit), k) ≡ noted (now (members .entry)) n (C.is-at (At r) f) y ⌝ }
+    ensures { λ k. ⌜ (now (members .exit), k) ≡ noted (now (members .entry)) n (C.is-at f (At r)) y ⌝ }
 {
     let Found::At(s) = f else {
         return n;
     };
-    if r != s {
+    if s != r {
         return n;
     }
     members[n] = y;
