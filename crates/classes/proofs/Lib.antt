@@ -10,3 +10,5 @@ pub mod Entering
 pub mod Linking
 pub mod Merging
 pub mod Uniting
+pub mod Removing
+pub mod Removal

@@ -4,10 +4,12 @@ use mathlib.Core.List.{List}
 use mathlib.Core.Bool.{Bool, true, false, _||_, _&&_, not}
 use Prim.Native.Nat.{ℕ, _+_, _<_}
 use lib.Dec.{eqb}
+use lib.ListN.{length}
+use Rattle.paper.specs.Words.{keep, below, has}
 use Rattle.paper.specs.Numbers.{max-sites}
-use Rattle.paper.specs.Classes.{Classes}
+use Rattle.paper.specs.Classes.{Classes, Removed}
 use Rattle.classes.specs.Answers.{rep}
-use Rattle.classes.specs.Well.{WellMade, cnt, has-up}
+use Rattle.classes.specs.Well.{WellMade, cnt, has-up, in-class, members, rep-of, dropped}
 
 -- how many classes there are, a lone site being one
 unfoldable pub class-count : List ℕ → ℕ
@@ -28,3 +30,15 @@ pub record Unites (c d : Classes) (x y : ℕ) (two : Bool) : Type 0 where
   pub entered : (z : ℕ) → z < max-sites → has-up (d .parents) z ≡ (has-up (c .parents) z || (eqb z x || eqb z y))
   pub same : two ≡ false → (z : ℕ) → rep (d .parents) z ≡ rep (c .parents) z
   pub fewer : two ≡ true → class-count (c .parents) ≡ class-count (d .parents) + 1
+
+-- the sites with the root r, ascending
+unfoldable pub sites-below : ℕ → List ℕ → ℕ → List ℕ
+sites-below k p r = keep (in-class p r) (below k (λ z. z))
+
+-- "removing takes exactly the members and leaves every other class as it was": q is c without the class of the root r
+pub record TakesOut (c : Classes) (r : ℕ) (q : Removed) : Type 0 where
+  pub well : WellMade (q .after)
+  pub found : (z : ℕ) → rep-of (q .after) z ≡ dropped r (rep-of c z)
+  pub list : q .members ≡ sites-below max-sites (c .parents) r
+  pub size : length (q .members) ≡ members (c .parents) r
+  pub leaves : (z : ℕ) → z < max-sites → has-up (q .after .parents) z ≡ (has-up (c .parents) z && not (has (q .members) z))
