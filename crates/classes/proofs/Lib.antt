@@ -12,3 +12,4 @@ pub mod Merging
 pub mod Uniting
 pub mod Removing
 pub mod Removal
+pub mod Laws

@@ -182,32 +182,7 @@ module _ (c : Classes) (W : WellMade c) (x : ℕ) (hx : x < max-sites) where
       go (At r) e = at-root r e
       go Nothing e = at-none e
 
--- THE LAW OF A JOIN: of two different sites, on a well-made state
-pub record Joins (c d : Classes) (x y a b : ℕ) : Type 0 where
-  pub well : WellMade d
-  pub found : (z : ℕ) → rep-of d z ≡ turned a b (alone-as y z (alone-as x z (rep-of c z)))
-
-pub unite-joins : (c : Classes) → WellMade c → (x y : ℕ) → x < max-sites → y < max-sites
-    → (a : ℕ) × (b : ℕ) × Joins c (unite c x y) x y a b
-unfolding unite
-unite-joins c W x y hx hy =
-    let s = enter c x in
-    let E : Entered c (s .after) x (s .root) = enter-entered c W x hx in
-    let t = enter (s .after) y in
-    let F : Entered (s .after) (t .after) y (t .root) = enter-entered (s .after) (E .well) y hy in
-    let m : rep-of (t .after) x ≡ At (s .root) = F .found x ∙ ap (alone-as y x) (E .mine) in
-    let p = root-of (t .after) (F .well) x (s .root) m in
-    let q = root-of (t .after) (F .well) y (t .root) (F .mine) in
-    let L = link-turned (t .after) (F .well) (s .root) (t .root) (p .0) (p .1) (q .0) (q .1) in (
-      winner (t .after) (s .root) (t .root),
-      loser (t .after) (s .root) (t .root),
-      record {
-        well = L .well;
-        found = λ z. L .found z ∙ ap (turned (winner (t .after) (s .root) (t .root)) (loser (t .after) (s .root) (t .root))) (F .found z ∙ ap (alone-as y z) (E .found z));
-      },
-    )
-
--- the classes with no class is well made
+-- "Classes start empty": that state is well made
 cnt-zero : (f : ℕ → Bool) (n : ℕ) → ((z : ℕ) → z < n → f z ≡ false) → cnt f n ≡ 0
 unfolding cnt
 cnt-zero f zero h = refl
@@ -226,4 +201,3 @@ empty-well = record {
   where
     none : (x : ℕ) → x < max-sites → up (replicate max-sites max-sites) x < max-sites → ⊥
     none x h j = omega (arith, getD-replicate {A = ℕ} max-sites x max-sites 0 h)
-

@@ -2,3 +2,4 @@
 pub mod Answers
 pub mod Well
 pub mod Equal
+pub mod Made
