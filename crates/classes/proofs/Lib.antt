@@ -13,3 +13,4 @@ pub mod Uniting
 pub mod Removing
 pub mod Removal
 pub mod Laws
+pub mod Reading

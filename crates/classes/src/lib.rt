@@ -13,6 +13,8 @@ use paper::Found;
 use paper::Refusal;
 use paper::SITES;
 
+pub mod script;
+
 // The parent of a site that was never joined.
 const NEVER: u16 = SITES as u16;
 
