@@ -14,3 +14,4 @@ pub mod Removing
 pub mod Removal
 pub mod Laws
 pub mod Reading
+pub mod Stepping

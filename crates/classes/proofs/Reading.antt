@@ -14,7 +14,11 @@ use Rattle.classes.specs.declared.script.Number.{Number}
 use Rattle.classes.specs.declared.script.Number.the-variants as N
 use Rattle.classes.specs.declared.script.Numbers.{Numbers}
 use Rattle.classes.specs.declared.script.Numbers.the-variants as P
-use Rattle.classes.specs.Script.{next, goes-on, number-from, number-in, space-in, starts, both, pair-in}
+use Rattle.classes.specs.declared.script.Call.{Call}
+use Rattle.classes.specs.declared.script.Call.the-variants as K
+use Rattle.classes.specs.Well.{bit}
+use Rattle.paper.specs.Text.{unended}
+use Rattle.classes.specs.Script.{next, goes-on, number-from, number-in, space-in, starts, both, pair-in, to-merge, to-same, to-find, to-find-mut, to-remove, call-in}
 
 -- ---- a number
 
@@ -125,3 +129,53 @@ module _ (s : List ℕ) (k : ℕ) (e : k ≡ space-in s) where
   pub pair-told : (a b : Number) → a ≡ number-in (take k s) → b ≡ number-in (take (length s - (k + 1)) (drop (k + 1) s)) → k < length s
       → {m n : Number} → a ≡ m → b ≡ n → both m n ≡ pair-in s
   pair-told a b f g h p q = rw (sym p, sym q) (pair-of a b f g h)
+
+-- ---- a call
+
+pub starts-length : (w s : List ℕ) → starts s w ≡ true → length w ≤ length s
+unfolding starts
+starts-length [] s e = omega arith
+starts-length (x ∷ w) [] e = let z : _≡_ {A = ℕ} 0 1 = ap bit e in absurd (omega arith)
+starts-length (x ∷ w) (b ∷ s) e = go (eqb b x) (λ f. starts-length w s f) e
+  where
+    go : (t : Bool) → (starts s w ≡ true → length w ≤ length s) → (if t then starts s w else false) ≡ true → suc (length w) ≤ suc (length s)
+    go true ih f = omega (arith, ih f)
+    go false ih f = let z : _≡_ {A = ℕ} 0 1 = ap bit f in absurd (omega arith)
+
+module _ (s : List ℕ) where
+  pub call-merge : starts s (unended "merge ") ≡ true → (n : Numbers) (r : Call) → n ≡ pair-in (take (length s - 6) (drop 6 s)) → r ≡ to-merge n → r ≡ call-in s
+  unfolding call-in
+  call-merge h n r e f = simp h (f ∙ ap to-merge (e ∙ ap pair-in (take-rest 6 s)))
+
+  module _ (a : starts s (unended "merge ") ≡ false) where
+    pub call-find : starts s (unended "find ") ≡ true → (n : Number) (r : Call) → n ≡ number-in (take (length s - 5) (drop 5 s)) → r ≡ to-find n → r ≡ call-in s
+    unfolding call-in
+    call-find h n r e f = simp (a, h) (f ∙ ap to-find (e ∙ ap number-in (take-rest 5 s)))
+
+    module _ (b : starts s (unended "find ") ≡ false) where
+      pub call-find-mut : starts s (unended "findmut ") ≡ true → (n : Number) (r : Call) → n ≡ number-in (take (length s - 8) (drop 8 s)) → r ≡ to-find-mut n → r ≡ call-in s
+      unfolding call-in
+      call-find-mut h n r e f = simp (a, b, h) (f ∙ ap to-find-mut (e ∙ ap number-in (take-rest 8 s)))
+
+      module _ (d : starts s (unended "findmut ") ≡ false) where
+        pub call-same : starts s (unended "same ") ≡ true → (n : Numbers) (r : Call) → n ≡ pair-in (take (length s - 5) (drop 5 s)) → r ≡ to-same n → r ≡ call-in s
+        unfolding call-in
+        call-same h n r e f = simp (a, b, d, h) (f ∙ ap to-same (e ∙ ap pair-in (take-rest 5 s)))
+
+        module _ (g : starts s (unended "same ") ≡ false) where
+          pub call-remove : starts s (unended "remove ") ≡ true → (n : Number) (r : Call) → n ≡ number-in (take (length s - 7) (drop 7 s)) → r ≡ to-remove n → r ≡ call-in s
+          unfolding call-in
+          call-remove h n r e f = simp (a, b, d, g, h) (f ∙ ap to-remove (e ∙ ap number-in (take-rest 7 s)))
+
+          module _ (k : starts s (unended "remove ") ≡ false) where
+            pub call-three : (t : Bool) → length s ≡ 3 → starts s (unended "len") ≡ t → (if t then K.Len else K.Bad) ≡ call-in s
+            unfolding call-in
+            call-three t l h = simp (a, b, d, g, k, eq-eqb (length s) 3 l, h)
+
+            pub call-five : (t : Bool) → (length s ≡ 3 → ⊥) → length s ≡ 5 → starts s (unended "empty") ≡ t → (if t then K.Empty else K.Bad) ≡ call-in s
+            unfolding call-in
+            call-five t n l h = simp (a, b, d, g, k, ne-eqb (length s) 3 n, eq-eqb (length s) 5 l, h)
+
+            pub call-bad : (length s ≡ 3 → ⊥) → (length s ≡ 5 → ⊥) → K.Bad ≡ call-in s
+            unfolding call-in
+            call-bad n l = simp (a, b, d, g, k, ne-eqb (length s) 3 n, ne-eqb (length s) 5 l)

@@ -7,12 +7,16 @@ use lib.ListN.{length, take, drop}
 use lib.Dec.{ltb, leb, eqb}
 use Rattle.paper.specs.Words.{if_then_else_}
 use Rattle.paper.specs.Text.{unended}
+use Rattle.paper.specs.Classes.{Classes, find, in-same-set, len, is-empty}
 use Rattle.classes.specs.declared.script.Number.{Number}
 use Rattle.classes.specs.declared.script.Number.the-variants as N
 use Rattle.classes.specs.declared.script.Numbers.{Numbers}
 use Rattle.classes.specs.declared.script.Numbers.the-variants as P
 use Rattle.classes.specs.declared.script.Call.{Call}
 use Rattle.classes.specs.declared.script.Call.the-variants as K
+use Rattle.classes.specs.declared.script.Reply.{Reply}
+use Rattle.classes.specs.declared.script.Reply.the-variants as R
+use Rattle.classes.specs.Answers.{looked, sought, joined, same, taken}
 
 -- the digit d after the number v: a number again, if it is a digit and the number at most 65,535
 abbrev pub next : ℕ → ℕ → ℕ
@@ -46,3 +50,45 @@ both N.Not n = P.Not
 
 unfoldable pub pair-in : List ℕ → Numbers
 pair-in s = both (number-in (take (space-in s) s)) (number-in (drop (suc (space-in s)) s))
+
+abbrev pub to-merge : Numbers → Call
+to-merge (P.Are x y) = K.Merge x y
+to-merge P.Not = K.Bad
+
+abbrev pub to-same : Numbers → Call
+to-same (P.Are x y) = K.SameSet x y
+to-same P.Not = K.Bad
+
+abbrev pub to-find : Number → Call
+to-find (N.Is x) = K.Find x
+to-find N.Not = K.Bad
+
+abbrev pub to-find-mut : Number → Call
+to-find-mut (N.Is x) = K.FindMut x
+to-find-mut N.Not = K.Bad
+
+abbrev pub to-remove : Number → Call
+to-remove (N.Is x) = K.Remove x
+to-remove N.Not = K.Bad
+
+-- the call that a line is
+unfoldable pub call-in : List ℕ → Call
+call-in s =
+    if starts s (unended "merge ") then to-merge (pair-in (drop 6 s)) else
+    (if starts s (unended "find ") then to-find (number-in (drop 5 s)) else
+    (if starts s (unended "findmut ") then to-find-mut (number-in (drop 8 s)) else
+    (if starts s (unended "same ") then to-same (pair-in (drop 5 s)) else
+    (if starts s (unended "remove ") then to-remove (number-in (drop 7 s)) else
+    (if eqb (length s) 3 then (if starts s (unended "len") then K.Len else K.Bad) else
+    (if eqb (length s) 5 then (if starts s (unended "empty") then K.Empty else K.Bad) else K.Bad))))))
+
+-- what a call leaves of the classes and of the memory lent for members, and answers
+abbrev pub stepped : Classes → List ℕ → Call → Classes × List ℕ × Reply
+stepped c m (K.Merge x y) = (joined c x y .0, m, R.Merged (joined c x y .1))
+stepped c m (K.Find x) = (c, m, R.Found (looked (find c x)))
+stepped c m (K.FindMut x) = (sought c x .0, m, R.FoundMut (sought c x .1))
+stepped c m (K.SameSet x y) = (c, m, R.Compared (same (in-same-set c x y)))
+stepped c m (K.Remove x) = (taken c m x .0, taken c m x .1, R.Removed (taken c m x .2))
+stepped c m K.Len = (c, m, R.Length (len c))
+stepped c m K.Empty = (c, m, R.Emptiness (is-empty c))
+stepped c m K.Bad = (c, m, R.Bad)
