@@ -81,6 +81,15 @@ fn wide(x: u16) -> usize
 
 // ---- on lent parts
 
+// "Classes start empty".
+pub fn clear_in(parents: &mut [u16; SITES], ranks: &mut [u8; SITES], count: &mut u16)
+    ensures { λ _. ⌜ C.classes (now (parents .exit)) (now (ranks .exit)) (now (count .exit)) ≡ C.no-classes ⌝ }
+{
+    *parents = [NEVER; SITES];
+    *ranks = [0u8; SITES];
+    *count = 0;
+}
+
 // The root of x's class, with the links on the way.
 fn trail_in(parents: &[u16; SITES], x: u16) -> Trail
     ensures { λ r. ⌜ C.trail (r .found) (r .links) ≡ C.find-in (now (parents .entry)) x ⌝ }
