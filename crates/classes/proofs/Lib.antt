@@ -15,3 +15,4 @@ pub mod Removal
 pub mod Laws
 pub mod Reading
 pub mod Stepping
+pub mod Labelled

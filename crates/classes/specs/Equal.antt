@@ -5,7 +5,7 @@ use mathlib.Core.Bool.{Bool, true, false, _||_, _&&_, not}
 use Prim.Native.Nat.{ℕ, _+_, _<_}
 use lib.Dec.{eqb}
 use lib.ListN.{length}
-use Rattle.paper.specs.Words.{keep, below, has}
+use Rattle.paper.specs.Words.{if_then_else_, keep, below, has}
 use Rattle.paper.specs.Numbers.{max-sites}
 use Rattle.paper.specs.Classes.{Classes, Removed}
 use Rattle.classes.specs.Answers.{rep}
@@ -42,3 +42,12 @@ pub record TakesOut (c : Classes) (r : ℕ) (q : Removed) : Type 0 where
   pub list : q .members ≡ sites-below max-sites (c .parents) r
   pub size : length (q .members) ≡ members (c .parents) r
   pub leaves : (z : ℕ) → z < max-sites → has-up (q .after .parents) z ≡ (has-up (c .parents) z && not (has (q .members) z))
+
+-- The parts hold the classes that a function to a member gives: as paper's labels do, by their lowest members.
+pub record Holds (p : List ℕ) (f : ℕ → ℕ) : Type 0 where
+  pub to : (u v : ℕ) → rep p u ≡ rep p v → f u ≡ f v
+  pub from : (u v : ℕ) → f u ≡ f v → rep p u ≡ rep p v
+
+-- the class of the lowest member `low` taken apart
+unfoldable pub dissolve-at : (ℕ → ℕ) → ℕ → ℕ → ℕ
+dissolve-at f low n = if eqb (f n) low then n else f n
