@@ -16,3 +16,4 @@ pub mod Laws
 pub mod Reading
 pub mod Stepping
 pub mod Labelled
+pub mod Room
