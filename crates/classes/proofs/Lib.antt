@@ -17,3 +17,4 @@ pub mod Reading
 pub mod Stepping
 pub mod Labelled
 pub mod Room
+pub mod Tables
