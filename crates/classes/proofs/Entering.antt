@@ -1,4 +1,4 @@
--- A site that was never joined becomes a class of its own: the classes stays well made, and every other find answers as before.
+-- A site that was never joined becomes a class of its own: the state stays well made, and every other find answers as before.
 use mathlib.Core.Path.{_≡_, refl, sym, _∙_, ap, subst, subst⁻¹}
 use mathlib.Core.List.{List}
 use mathlib.Core.Bool.{Bool, true, false}

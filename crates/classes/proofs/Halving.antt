@@ -1,4 +1,4 @@
--- A step of path halving, and a halving find, keep a classes well made and every find's answer.
+-- A step of path halving, and a halving find, keep a state well made and every find's answer.
 use mathlib.Core.Path.{_≡_, refl, sym, _∙_, ap, subst, subst⁻¹}
 use mathlib.Core.List.{List}
 use mathlib.Core.Bool.{Bool, true, false}
@@ -158,7 +158,7 @@ kept p R c W = record { well = W; same = λ z. refl }
 pub kept-by : (p q s R : List ℕ) (c : ℕ) → ((z : ℕ) → find-in q z .found ≡ find-in p z .found) → Kept q s R c → Kept p s R c
 kept-by p q s R c f K = record { well = K .well; same = λ z. K .same z ∙ f z }
 
--- a halving find keeps the classes well made and every answer
+-- a halving find keeps the state well made and every answer
 pub halve-kept : (k : ℕ) (p R : List ℕ) (c at : ℕ) → Well p R c → Kept p (halve k p at .0) R c
 halve-kept zero p R c at W = subst⁻¹ (λ (h : List ℕ × Found). Kept p (h .0) R c) (halve-nil p at) (kept p R c W)
 halve-kept (suc k) p R c at W =
@@ -187,7 +187,7 @@ halve-led (suc k) (suc (suc n)) p R c at r W l t =
     ap (λ (h : List ℕ × Found). h .1) (halve-step p at k (t .0) (t .1) (t .2 .0))
     ∙ halve-led k (i .0) (skip p at) R c (up p (up p at)) r (skip-well p R c W at (t .0) (t .2 .0) (t .1)) (omega (arith, i .2)) (i .1)
 
--- On a well-made classes the halving find answers what the plain find answers, and keeps every answer and the classes well made.
+-- On a well-made state the halving find answers what the plain find answers, and keeps every answer and the state well made.
 module _ (p R : List ℕ) (c : ℕ) (W : Well p R c) (x : ℕ) where
   pub halved-kept : Kept p (halve-in p x .0) R c
   unfolding halve-in

@@ -1,4 +1,4 @@
--- On a well-made classes a find follows at most log2 of the class's members.
+-- On a well-made state a find follows at most log2 of the class's members.
 use mathlib.Core.Path.{_≡_, refl, sym, _∙_, ap, subst}
 use mathlib.Core.List.{List}
 use Prim.Native.Nat.{ℕ, zero, suc, _+_, _^_, _≤_, _<_}

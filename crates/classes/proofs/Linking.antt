@@ -1,4 +1,4 @@
--- The root b goes under the root a: the classes stays well made, b's class joins a's, and every other find answers as before.
+-- The root b goes under the root a: the state stays well made, b's class joins a's, and every other find answers as before.
 use mathlib.Core.Path.{_≡_, refl, sym, _∙_, ap, subst, subst⁻¹}
 use mathlib.Core.List.{List}
 use mathlib.Core.Bool.{Bool, true, false}

@@ -1,4 +1,4 @@
--- A join keeps a classes well made; it puts the two classes together and leaves the others.
+-- The two steps of a join keep a state well made: a site enters a class, and one root goes under another.
 use mathlib.Core.Path.{_≡_, refl, sym, _∙_, ap, subst, subst⁻¹}
 use mathlib.Core.List.{List}
 use mathlib.Core.Bool.{Bool, true, false}
@@ -127,7 +127,7 @@ module _ (c : Classes) (W : WellMade c) (x : ℕ) (hx : x < max-sites) where
   unfolding d halved
   K = halved-kept (c .parents) (c .ranks) (c .count) W x
 
-  -- the classes after the find is well made, and has the old ranks and count
+  -- the state after the find is well made, and has the old ranks and count
   D : WellMade d
   unfolding d halved
   D = K .well
