@@ -1,0 +1,20 @@
+-- Laws of paper's Classes.
+pub mod Steps
+pub mod Calls
+pub mod Taking
+pub mod Counting
+pub mod Leading
+pub mod Linked
+pub mod Halving
+pub mod Entering
+pub mod Linking
+pub mod Merging
+pub mod Uniting
+pub mod Removing
+pub mod Removal
+pub mod Laws
+pub mod Reading
+pub mod Stepping
+pub mod Labelled
+pub mod Room
+pub mod Tables
