@@ -1,0 +1,10 @@
+-- Laws of paper's Classes.
+pub mod Steps
+pub mod Calls
+pub mod Taking
+pub mod Counting
+pub mod Leading
+pub mod Linked
+pub mod Halving
+pub mod Entering
+pub mod Linking

@@ -1,0 +1,96 @@
+-- `classes::halve_in` meets its contract: what is left of the turns gives what all of them give. Assumes nothing.
+use Prim.Native.Nat.{ℕ, _≤_, _-_}
+use mathlib.Core.Path.{_≡_, refl, _∙_, sym}
+use native.Mathlib.Omega.{arith}
+use borrow.Author.Needs.{needs}
+use Rattle.paper.specs.Numbers.{max-sites}
+use Rattle.paper.specs.Classes.{halve, halve-in}
+use Rattle.classes.proofs.Steps.{halve-nil, half-out, half-root, half-none, half-step}
+use Rattle.classes.proofs.halve_in.Statement.{statement}
+use Rattle.classes.proofs.halve_in.Tie as tie
+use Rattle.classes.proofs.halve_in.Reads as reads
+use Rattle.classes.proofs.halve_in.Lts as lts
+use Rattle.classes.proofs.wide.Reads as wide-reads
+
+abbrev Inv-loop : tie.InvT-loop
+Inv-loop parents₀ x at₀ steps₀ parents at steps = (steps ≤ max-sites) × (halve (max-sites - steps) parents at ≡ halve-in parents₀ x)
+
+abbrev μ-loop : tie.MeasureT-loop
+μ-loop parents₀ x at₀ steps₀ parents at steps = max-sites - steps
+
+loop-holds : tie.Need-loop-holds Inv-loop μ-loop
+unfolding halve-in
+loop-holds c = (search needs, refl)
+
+wide-requires : tie.Need-wide-requires Inv-loop μ-loop
+wide-requires c κs = search needs
+
+returns : tie.Need-returns Inv-loop μ-loop
+returns c = half-out _ _ _ _ (c .before .wide .ensures) (omega arith) (c .if1 .taken) (c .before .before .before .loop .inv .1)
+
+mul-up : tie.Need-mul-up Inv-loop μ-loop
+mul-up c = omega arith
+
+element-copy-out-up : tie.Need-element-copy-out-up Inv-loop μ-loop
+element-copy-out-up c = omega arith
+
+returns-2 : tie.Need-returns-2 Inv-loop μ-loop
+returns-2 c = half-root _ _ _ _ (c .before .before .before .wide .ensures) (omega arith) (omega arith) (c .if2 .taken) (c .before .before .before .before .before .loop .inv .1)
+
+wide-requires-2 : tie.Need-wide-requires-2 Inv-loop μ-loop
+wide-requires-2 c κs = search needs
+
+returns-3 : tie.Need-returns-3 Inv-loop μ-loop
+returns-3 c = half-none _ _ _ _ (c .before .before .before .before .before .wide .ensures) (omega arith) (omega arith) _ (c .before .wide2 .ensures) (c .before .before .if2 .left) (c .if3 .taken) (c .before .before .before .before .before .before .before .loop .inv .1)
+
+mul-over : tie.Need-mul-over Inv-loop μ-loop
+mul-over c = omega arith
+
+element-copy-out-over : tie.Need-element-copy-out-over Inv-loop μ-loop
+element-copy-out-over c = omega arith
+
+mul-parents : tie.Need-mul-parents Inv-loop μ-loop
+mul-parents c = omega arith
+
+element-write-parents : tie.Need-element-write-parents Inv-loop μ-loop
+element-write-parents c = omega arith
+
+add-steps : tie.Need-add-steps Inv-loop μ-loop
+add-steps c = omega arith
+
+loop-less : tie.Need-loop-less Inv-loop μ-loop
+loop-less c = omega arith
+
+loop-again : tie.Need-loop-again Inv-loop μ-loop
+loop-again c = (
+  omega arith,
+  half-step _ _ _ _ (c .before .before .before .before .before .before .wide .ensures) (omega arith) (omega arith) _ (c .before .before .wide2 .ensures) (c .before .before .before .if2 .left) (c .before .if3 .left) (c .before .before .before .before .before .before .before .before .loop .inv .1),
+)
+
+returns-4 : tie.Need-returns-4 Inv-loop μ-loop
+returns-4 c =
+    let z : max-sites - c .before .loop .steps ≡ 0 = omega arith in
+    sym (halve-nil _ _) ∙ (rw z at (c .before .loop .inv .1))
+
+pub halve-in-spec : {M : Type 1} → statement M
+halve-in-spec =
+    tie.close
+    (tie.spec
+    Inv-loop
+    μ-loop
+    loop-holds
+    wide-requires
+    returns
+    mul-up
+    element-copy-out-up
+    returns-2
+    wide-requires-2
+    returns-3
+    mul-over
+    element-copy-out-over
+    mul-parents
+    element-write-parents
+    add-steps
+    loop-less
+    loop-again
+    returns-4)

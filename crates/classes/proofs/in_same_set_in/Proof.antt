@@ -1,0 +1,72 @@
+-- `classes::in_same_set_in` meets its contract. Assumes nothing.
+use borrow.Author.Needs.{needs}
+use Rattle.paper.specs.declared.Found.the-variants.{At, Nothing}
+use Rattle.classes.proofs.Calls.{test-out, test-in, same-x, same-y, same-no, same-two}
+use Rattle.classes.proofs.in_same_set_in.Statement.{statement}
+use Rattle.classes.proofs.in_same_set_in.Tie as tie
+use Rattle.classes.proofs.in_same_set_in.Reads as reads
+use Rattle.classes.proofs.in_same_set_in.Lts as lts
+use Rattle.classes.proofs.trail_in.Reads as trail-in-reads
+use Rattle.classes.proofs.wide.Reads as wide-reads
+
+wide-requires : tie.Need-wide-requires
+wide-requires c κs = search needs
+
+returns : tie.Need-returns
+returns c = λ R n. same-x _ _ _ (test-out _ _ (c .before .wide .ensures) (c .if1 .taken))
+
+wide-requires-2 : tie.Need-wide-requires-2
+wide-requires-2 c κs = search needs
+
+returns-2 : tie.Need-returns-2
+returns-2 c = λ R n. same-y _ _ _ (test-in _ _ (c .before .before .before .wide .ensures) (c .before .before .if1 .left)) (test-out _ _ (c .before .wide2 .ensures) (c .if2 .taken))
+
+trail-in-requires : tie.Need-trail-in-requires
+trail-in-requires c κs = search needs
+
+enum-known-f : tie.Need-enum-known-f
+enum-known-f c = search needs
+
+enum-told : tie.Need-enum-told
+enum-told c = search needs
+
+returns-3 : tie.Need-returns-3
+returns-3 c =
+    λ R n. same-no _ _ _ (test-in _ _ (c .before .before .before .before .before .before .wide .ensures) (c .before .before .before .before .before .if1 .left)) (test-in _ _ (c .before .before .before .before .wide2 .ensures) (c .before .before .before .if2 .left)) _ (c .before .before .trail-in .ensures) (c .enum-told .given .1)
+
+trail-in-requires-2 : tie.Need-trail-in-requires-2
+trail-in-requires-2 c κs = search needs
+
+enum-known-g : tie.Need-enum-known-g
+enum-known-g c = search needs
+
+enum-told-2 : tie.Need-enum-told-2
+enum-told-2 c = search needs
+
+returns-4 : tie.Need-returns-4
+returns-4 c =
+    λ R n. same-two _ _ _ (test-in _ _ (c .before .before .before .before .before .before .before .before .before .before .wide .ensures) (c .before .before .before .before .before .before .before .before .before .if1 .left)) (test-in _ _ (c .before .before .before .before .before .before .before .before .wide2 .ensures) (c .before .before .before .before .before .before .before .if2 .left)) _ _ _ Nothing
+    (c .before .before .before .before .before .before .trail-in .ensures) (c .before .before .before .before .f .given .1) (c .before .before .trail-in2 .ensures) (c .enum-told2 .given .1)
+
+returns-5 : tie.Need-returns-5
+returns-5 c =
+    λ R n. same-two _ _ _ (test-in _ _ (c .before .before .before .before .before .before .before .before .before .before .before .wide .ensures) (c .before .before .before .before .before .before .before .before .before .before .if1 .left)) (test-in _ _ (c .before .before .before .before .before .before .before .before .before .wide2 .ensures) (c .before .before .before .before .before .before .before .before .if2 .left)) _ _ _ (At _)
+    (c .before .before .before .before .before .before .before .trail-in .ensures) (c .before .before .before .before .before .f .given .1) (c .before .before .before .trail-in2 .ensures) (c .before .g .given .1)
+
+pub in-same-set-in-spec : {M : Type 1} → statement M
+in-same-set-in-spec =
+    tie.close
+    (tie.spec
+    wide-requires
+    returns
+    wide-requires-2
+    returns-2
+    trail-in-requires
+    enum-known-f
+    enum-told
+    returns-3
+    trail-in-requires-2
+    enum-known-g
+    enum-told-2
+    returns-4
+    returns-5)

@@ -1,0 +1,3 @@
+-- What the contracts and the laws of `classes` cite, beside paper's Classes.
+pub mod Answers
+pub mod Well
