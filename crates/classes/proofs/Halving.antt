@@ -152,10 +152,10 @@ pub record Kept (p q R : List ℕ) (c : ℕ) : Type 0 where
   pub well : Well q R c
   pub same : (z : ℕ) → find-in q z .found ≡ find-in p z .found
 
-kept : (p R : List ℕ) (c : ℕ) → Well p R c → Kept p p R c
+pub kept : (p R : List ℕ) (c : ℕ) → Well p R c → Kept p p R c
 kept p R c W = record { well = W; same = λ z. refl }
 
-kept-by : (p q s R : List ℕ) (c : ℕ) → ((z : ℕ) → find-in q z .found ≡ find-in p z .found) → Kept q s R c → Kept p s R c
+pub kept-by : (p q s R : List ℕ) (c : ℕ) → ((z : ℕ) → find-in q z .found ≡ find-in p z .found) → Kept q s R c → Kept p s R c
 kept-by p q s R c f K = record { well = K .well; same = λ z. K .same z ∙ f z }
 
 -- a halving find keeps the classes well made and every answer

@@ -8,3 +8,7 @@ pub mod Linked
 pub mod Halving
 pub mod Entering
 pub mod Linking
+pub mod Merging
+pub mod Uniting
+pub mod Removing
+pub mod Removal
