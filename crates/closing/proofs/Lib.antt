@@ -1,0 +1,4 @@
+-- Laws of the class check.
+pub mod Reading
+pub mod Joining
+pub mod Turning

@@ -1,0 +1,27 @@
+use Rattle.closing.proofs.Joining.{equate-done, equate-not}
+use borrow.Author.Needs.{needs}
+use Rattle.closing.proofs.equate.Statement.{statement}
+use Rattle.closing.proofs.equate.Tie as tie
+use Rattle.closing.proofs.equate.Reads as reads
+use Rattle.closing.proofs.equate.Lts as lts
+use Rattle.classes.proofs.merge_in.Reads as merge-in-reads
+
+merge-in-requires : tie.Need-merge-in-requires
+merge-in-requires c κs = search needs
+
+enum-known-j : tie.Need-enum-known-j
+enum-known-j c = search needs
+
+enum-told : tie.Need-enum-told
+enum-told c = search needs
+
+returns : tie.Need-returns
+returns c =
+    equate-not _ _ _ _ _ (c .before .before .before .before .before .before .pre .0) (c .before .before .before .before .before .before .pre .1 .0) (c .before .before .before .before .before .before .pre .1 .1) _ _ _ _ _ (c .before .before .merge-in .ensures) (c .enum-told .given .1)
+
+returns-2 : tie.Need-returns-2
+returns-2 c =
+    equate-done _ _ _ _ _ (c .before .before .before .before .before .before .before .pre .0) (c .before .before .before .before .before .before .before .pre .1 .0) (c .before .before .before .before .before .before .before .pre .1 .1) _ _ _ _ _ (c .before .before .before .merge-in .ensures) (c .before .j .given .1)
+
+pub equate-spec : {M : Type 1} → statement M
+equate-spec = tie.close (tie.spec merge-in-requires enum-known-j enum-told returns returns-2)

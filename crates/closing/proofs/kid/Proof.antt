@@ -1,0 +1,27 @@
+use Rattle.closing.proofs.Reading.{kid-at}
+use borrow.Author.Needs.{needs}
+use Rattle.closing.proofs.kid.Statement.{statement}
+use Rattle.closing.proofs.kid.Tie as tie
+use Rattle.closing.proofs.kid.Reads as reads
+use Rattle.closing.proofs.kid.Lts as lts
+use Rattle.closing.proofs.at.Reads as at-reads
+use Rattle.closing.proofs.wide.Reads as wide-reads
+
+wide-requires : tie.Need-wide-requires
+wide-requires c κs = search needs
+
+mul-at : tie.Need-mul-at
+mul-at c = search needs
+
+add-at : tie.Need-add-at
+add-at c = search needs
+
+at-requires : tie.Need-at-requires
+at-requires c κs = search needs
+
+returns : tie.Need-returns
+returns c =
+    kid-at _ _ _ _ _ (c .before .wide .ensures) (c .at .ensures)
+
+pub kid-spec : {M : Type 1} → statement M
+kid-spec = tie.close (tie.spec wide-requires mul-at add-at at-requires returns)
