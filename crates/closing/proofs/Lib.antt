@@ -2,3 +2,6 @@
 pub mod Reading
 pub mod Joining
 pub mod Turning
+pub mod Seating
+pub mod Settling
+pub mod Searching

@@ -145,6 +145,21 @@ module _ (H : Held) where
           let e : g' ≡ g = omega arith in
           subst⁻¹ (λ (x : ℕ). Kids H p x h) e (λ f b. sym (K .grown .same o (kid-of H g f)) ∙ (K .joined f b ∙ K .grown .same o (kid-of H h f)))
 
+  -- the body of meet: j, s and b are the row, the site and the representative of h
+  module _ (p₀ p : List ℕ) (ep : p ≡ p₀) (h j s b : ℕ) (ej : j ≡ row-of H h) (es : s ≡ site-of H h) (eb : b ≡ rep p₀ s) where
+    pub test-is : (g : ℕ) (t : Bool) → t ≡ (same-constraint (shape-of H g) (shape-in (H .words) j) && eqb (rep p (site-of H g)) b) → t ≡ mate H p g h
+    test-is g t e = mate-is p g h j s b t ej es (eb ∙ ap (λ (x : List ℕ). rep x s) (sym ep)) e
+
+    pub met : (q r : List ℕ) (n g i m : ℕ) (k t : Bool) → g < h → t ≡ (same-constraint (shape-of H g) (shape-in (H .words) j) && eqb (rep p (site-of H g)) b) → t ≡ true
+        → ((f : ℕ) → f < g → mate H p f h ≡ false) → i ≡ row-of H g → m ≡ kid-count (H .words) i → JoinsKids (H .kids) p q r n i j m k → Meets H p₀ q r n k h
+    met q r n g i m k t l e o first ei em K =
+        let em' : m ≡ count-of H g = rw ei at em in
+        let K' : JoinsKids (H .kids) p q r n (row-of H g) (row-of H h) (count-of H g) k = rw (ei, ej, em') at K in
+        subst (λ (x : List ℕ). Meets H x q r n k h) ep (meets-join p q r n h g k l (sym (test-is g t e) ∙ o) first K')
+
+    pub not-met : (r : List ℕ) (n : ℕ) → Well p r n → ((g : ℕ) → g < h → mate H p g h ≡ false) → Meets H p₀ p r n false h
+    not-met r n W N = subst (λ (x : List ℕ). Meets H x p r n false h) ep (meets-none p r n h W N)
+
   -- ---- sweep
 
   pub swept-none : (p r : List ℕ) (n m : ℕ) → Well p r n → SweptTo H p p r n false m 0

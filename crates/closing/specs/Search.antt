@@ -28,8 +28,7 @@ pub data Path (H : Held) (p boss : List ℕ) : ℕ → ℕ → Type 0 where
   then : {a b d : ℕ} → Edge H p boss a b → Path H p boss b d → Path H p boss a d
 
 -- what the search needs of the classes
-pub record Ready (p boss kids : List ℕ) : Type 0 where
-  pub long : length boss ≡ max-sites
+pub record Ready (p kids : List ℕ) : Type 0 where
   pub reps : Reps p
   pub inside : Inside kids
 

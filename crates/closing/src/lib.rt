@@ -313,6 +313,17 @@ fn conflict(
 
 // ---- check 6
 
+// Whether the class of the root z has had its turn, or has no holder.
+fn over(boss: &[u16; SITES], turned: &[u8; SITES], z: usize) -> bool
+    requires { ⌜ z < max-sites ⌝ }
+    ensures { λ t. ⌜ (t ≡ true → Over (now (boss .entry)) (now (turned .entry)) z) ⌝ }
+{
+    if NEVER <= boss[z] {
+        return true;
+    }
+    turned[z] != 0
+}
+
 // Whether the classes of the children of row i have all had their turn, or have no holder.
 fn ready(
     p: &[u16; SITES],
@@ -322,18 +333,15 @@ fn ready(
     kids: &[u16],
     i: u16,
 ) -> bool
-    requires { ⌜ Ready (now p) (now boss) (now kids) ⌝ }
-    requires { ⌜ length (now turned) ≡ max-sites ⌝ }
+    requires { ⌜ Ready (now p) (now kids) ⌝ }
     ensures { λ t. ⌜ (t ≡ true → (f : ℕ) → f < kid-count (now (words .entry)) i → Over (now (boss .entry)) (now (turned .entry)) (rep (now (p .entry)) (kid-in (now (kids .entry)) i f))) ⌝ }
 {
     let m = fields(words, i);
     for f in 0..m {
         let k = kid(kids, i, f);
         let z = wide(classes::rep_in(p, k));
-        if boss[z] < NEVER {
-            if turned[z] == 0 {
-                return false;
-            }
+        if !over(boss, turned, z) {
+            return false;
         }
     }
     true
@@ -349,7 +357,7 @@ fn turn(
     kids: &[u16],
     s: u16,
 ) -> bool
-    requires { ⌜ Ready (now p) (now boss) (now kids) ⌝ }
+    requires { ⌜ Ready (now p) (now kids) ⌝ }
     requires { ⌜ s < max-sites ⌝ }
     requires { ⌜ Safe (chart (now rows) (now words) (now kids)) (now p) (now boss) (now turned) ⌝ }
     ensures { λ t. ⌜ Safe (chart (now (rows .entry)) (now (words .entry)) (now (kids .entry))) (now (p .entry)) (now (boss .entry)) (now (turned .exit)) ⌝ }
@@ -379,7 +387,7 @@ fn turns(
     kids: &[u16],
     m: usize,
 ) -> usize
-    requires { ⌜ Ready (now p) (now boss) (now kids) ⌝ }
+    requires { ⌜ Ready (now p) (now kids) ⌝ }
     requires { ⌜ Inside (now sites) ⌝ }
     requires { ⌜ Safe (chart (now rows) (now words) (now kids)) (now p) (now boss) (now turned) ⌝ }
     ensures { λ t. ⌜ Safe (chart (now (rows .entry)) (now (words .entry)) (now (kids .entry))) (now (p .entry)) (now (boss .entry)) (now (turned .exit)) ⌝ }
@@ -407,18 +415,18 @@ fn settled(
     kids: &[u16],
     m: usize,
 ) -> bool
-    requires { ⌜ Ready (now p) (now boss) (now kids) ⌝ }
+    requires { ⌜ Ready (now p) (now kids) ⌝ }
     requires { ⌜ Inside (now sites) ⌝ }
     ensures { λ t. ⌜ (t ≡ true → (h : ℕ) → h < m → Path (chart (now (rows .entry)) (now (words .entry)) (now (kids .entry))) (now (p .entry)) (now (boss .entry)) (rep (now (p .entry)) (getD (now (sites .entry)) h 0)) (rep (now (p .entry)) (getD (now (sites .entry)) h 0)) → ⊥) ⌝ }
 {
     let mut turned = [0u8; SITES];
     let mut left = m;
     while 0 < left {
-        let now = turns(p, boss, &mut turned, sites, rows, words, kids, m);
-        if left <= now {
+        let still = turns(p, boss, &mut turned, sites, rows, words, kids, m);
+        if left <= still {
             return false;
         }
-        left = now;
+        left = still;
     }
     true
 }
@@ -426,7 +434,6 @@ fn settled(
 // Marks a root and lists it, if it is not marked: how many are listed then.
 fn visit(seen: &mut [u8; SITES], queue: &mut [u16; SITES], tail: usize, z: u16) -> usize
     requires { ⌜ (z < max-sites) × (getD (now seen) z 0 ≡ 0 → tail < max-sites) ⌝ }
-    requires { ⌜ (length (now seen) ≡ max-sites) × (length (now queue) ≡ max-sites) ⌝ }
     ensures { λ t. ⌜ Visit (now (seen .entry)) (now (queue .entry)) tail z (now (seen .exit)) (now (queue .exit)) t ⌝ }
 {
     let i = wide(z);
@@ -451,7 +458,7 @@ fn visit_kids(
     tail: usize,
     x: u16,
 ) -> usize
-    requires { ⌜ Ready (now p) (now boss) (now kids) ⌝ }
+    requires { ⌜ Ready (now p) (now kids) ⌝ }
     requires { ⌜ Visited (chart (now rows) (now words) (now kids)) (now p) (now boss) l (now seen) (now queue) tail ⌝ }
     requires { ⌜ (x < max-sites) × ((x ≡ l) ⊎ Path (chart (now rows) (now words) (now kids)) (now p) (now boss) l x) ⌝ }
     ensures { λ t. ⌜ Visited (chart (now (rows .entry)) (now (words .entry)) (now (kids .entry))) (now (p .entry)) (now (boss .entry)) l (now (seen .exit)) (now (queue .exit)) t ⌝ }
@@ -482,7 +489,7 @@ fn returning(
     kids: &[u16],
     l: u16,
 ) -> bool
-    requires { ⌜ Ready (now p) (now boss) (now kids) ⌝ }
+    requires { ⌜ Ready (now p) (now kids) ⌝ }
     requires { ⌜ l < max-sites ⌝ }
     ensures { λ t. ⌜ (t ≡ true → Path (chart (now (rows .entry)) (now (words .entry)) (now (kids .entry))) (now (p .entry)) (now (boss .entry)) l l) × (t ≡ false → Path (chart (now (rows .entry)) (now (words .entry)) (now (kids .entry))) (now (p .entry)) (now (boss .entry)) l l → ⊥) ⌝ }
 {
@@ -500,7 +507,7 @@ fn returning(
 
 // The lowest site from whose class a walk returns, NEVER where there is none.
 fn endless(p: &[u16; SITES], boss: &[u16; SITES], rows: &[u16], words: &[u64], kids: &[u16]) -> u16
-    requires { ⌜ Ready (now p) (now boss) (now kids) ⌝ }
+    requires { ⌜ Ready (now p) (now kids) ⌝ }
     ensures { λ z. ⌜ Lowest (chart (now (rows .entry)) (now (words .entry)) (now (kids .entry))) (now (p .entry)) (now (boss .entry)) z ⌝ }
 {
     for z in 0..NEVER {
@@ -522,7 +529,7 @@ fn walks(
     kids: &[u16],
     m: usize,
 ) -> Verdict
-    requires { ⌜ Ready (now p) (now boss) (now kids) ⌝ }
+    requires { ⌜ Ready (now p) (now kids) ⌝ }
     requires { ⌜ Inside (now sites) ⌝ }
     ensures { λ v. ⌜ WalksIs (held (now (sites .entry)) (now (rows .entry)) (now (words .entry)) (now (kids .entry))) (now (p .entry)) (now (boss .entry)) m v ⌝ }
 {

@@ -1,3 +1,6 @@
+use native.Mathlib.Omega.{arith}
+use Rattle.closing.specs.Holding.{bare}
+use Rattle.closing.proofs.Seating.{in-range, seat-new, seat-like, seat-unlike}
 use borrow.Author.Needs.{needs}
 use Rattle.closing.proofs.seat.Statement.{statement}
 use Rattle.closing.proofs.seat.Tie as tie
@@ -8,65 +11,55 @@ use Rattle.closing.proofs.alike.Reads as alike-reads
 use Rattle.closing.proofs.at.Reads as at-reads
 use Rattle.closing.proofs.wide.Reads as wide-reads
 
--- src/lib.rt:272:9
 wide-requires : tie.Need-wide-requires
 wide-requires c κs = search needs
 
--- src/lib.rt:273:9
 at-requires : tie.Need-at-requires
 at-requires c κs = search needs
 
--- src/lib.rt:274:21
 rep-in-requires : tie.Need-rep-in-requires
 rep-in-requires c κs = search needs
 
--- src/lib.rt:274:9
 wide-requires-2 : tie.Need-wide-requires-2
 wide-requires-2 c κs = search needs
 
--- src/lib.rt:275:13
 mul-b : tie.Need-mul-b
 mul-b c = search needs
 
--- src/lib.rt:275:13
 element-copy-out-b : tie.Need-element-copy-out-b
-element-copy-out-b c = ?
+element-copy-out-b c =
+    in-range (bare (c .before .before .before .before .before .before .before .args .sites .now) (c .before .before .before .before .before .before .before .args .rows .now) (c .before .before .before .before .before .before .before .args .words .now)) (c .before .before .before .before .before .before .before .args .p .now) (c .before .before .before .before .before .before .before .pre .0) (c .before .before .before .before .before .before .before .pre .1 .0 .1) (c .before .before .before .before .before .before .before .args .boss .now) (c .before .before .before .before .before .before .before .args .h) (c .before .before .before .before .before .before .before .pre .1 .0 .0) (c .before .before .before .before .before .before .before .pre .1 .1) _ _ _ _ (c .before .before .before .wide .ensures) (c .before .before .at .ensures) (c .before .rep-in .ensures) (c .wide2 .ensures)
 
--- src/lib.rt:277:9
 mul-boss : tie.Need-mul-boss
 mul-boss c = search needs
 
--- src/lib.rt:277:9
 element-write-boss : tie.Need-element-write-boss
-element-write-boss c = ?
+element-write-boss c =
+    in-range (bare (c .before .before .before .before .before .before .before .before .before .args .sites .now) (c .before .before .before .before .before .before .before .before .before .args .rows .now) (c .before .before .before .before .before .before .before .before .before .args .words .now)) (c .before .before .before .before .before .before .before .before .before .args .p .now) (c .before .before .before .before .before .before .before .before .before .pre .0) (c .before .before .before .before .before .before .before .before .before .pre .1 .0 .1) (c .before .before .before .before .before .before .before .before .before .args .boss .now) (c .before .before .before .before .before .before .before .before .before .args .h) (c .before .before .before .before .before .before .before .before .before .pre .1 .0 .0) (c .before .before .before .before .before .before .before .before .before .pre .1 .1) _ _ _ _ (c .before .before .before .before .before .wide .ensures) (c .before .before .before .before .at .ensures) (c .before .before .before .rep-in .ensures) (c .before .before .wide2 .ensures)
 
--- src/lib.rt:278:9
 returns : tie.Need-returns
-returns c = ?
+returns c =
+    seat-new (bare (c .before .before .before .before .before .before .before .before .before .args .sites .now) (c .before .before .before .before .before .before .before .before .before .args .rows .now) (c .before .before .before .before .before .before .before .before .before .args .words .now)) (c .before .before .before .before .before .before .before .before .before .args .p .now) (c .before .before .before .before .before .before .before .before .before .pre .0) (c .before .before .before .before .before .before .before .before .before .pre .1 .0 .1) (c .before .before .before .before .before .before .before .before .before .args .boss .now) (c .before .before .before .before .before .before .before .before .before .args .h) (c .before .before .before .before .before .before .before .before .before .pre .1 .0 .0) (c .before .before .before .before .before .before .before .before .before .pre .1 .1) _ _ _ _ (c .before .before .before .before .before .wide .ensures) (c .before .before .before .before .at .ensures) (c .before .before .before .rep-in .ensures) (c .before .before .wide2 .ensures) (c .if1 .taken)
 
--- src/lib.rt:280:9
 at-requires-2 : tie.Need-at-requires-2
 at-requires-2 c κs = search needs
 
--- src/lib.rt:281:22
 wide-requires-3 : tie.Need-wide-requires-3
 wide-requires-3 c κs = search needs
 
--- src/lib.rt:281:9
 at-requires-3 : tie.Need-at-requires-3
 at-requires-3 c κs = search needs
 
--- src/lib.rt:282:8
 alike-requires : tie.Need-alike-requires
 alike-requires c κs = search needs
 
--- src/lib.rt:283:9
 returns-2 : tie.Need-returns-2
-returns-2 c = ?
+returns-2 c =
+    seat-like (bare (c .before .before .before .before .before .before .before .before .before .before .before .before .before .before .args .sites .now) (c .before .before .before .before .before .before .before .before .before .before .before .before .before .before .args .rows .now) (c .before .before .before .before .before .before .before .before .before .before .before .before .before .before .args .words .now)) (c .before .before .before .before .before .before .before .before .before .before .before .before .before .before .args .p .now) (c .before .before .before .before .before .before .before .before .before .before .before .before .before .before .pre .0) (c .before .before .before .before .before .before .before .before .before .before .before .before .before .before .pre .1 .0 .1) (c .before .before .before .before .before .before .before .before .before .before .before .before .before .before .args .boss .now) (c .before .before .before .before .before .before .before .before .before .before .before .before .before .before .args .h) (c .before .before .before .before .before .before .before .before .before .before .before .before .before .before .pre .1 .0 .0) (c .before .before .before .before .before .before .before .before .before .before .before .before .before .before .pre .1 .1) _ _ _ _ (c .before .before .before .before .before .before .before .before .before .before .wide .ensures) (c .before .before .before .before .before .before .before .before .before .at .ensures) (c .before .before .before .before .before .before .before .before .rep-in .ensures) (c .before .before .before .before .before .before .before .wide2 .ensures) (c .before .before .before .before .before .if1 .left) _ _ _ _ (c .before .before .before .before .at2 .ensures) (c .before .before .before .wide3 .ensures) (c .before .before .at3 .ensures) (c .before .alike .ensures) (c .if2 .taken)
 
--- src/lib.rt:258:1
 returns-3 : tie.Need-returns-3
-returns-3 c = ?
+returns-3 c =
+    seat-unlike (bare (c .before .before .before .before .before .before .before .before .before .before .before .before .before .before .args .sites .now) (c .before .before .before .before .before .before .before .before .before .before .before .before .before .before .args .rows .now) (c .before .before .before .before .before .before .before .before .before .before .before .before .before .before .args .words .now)) (c .before .before .before .before .before .before .before .before .before .before .before .before .before .before .args .p .now) (c .before .before .before .before .before .before .before .before .before .before .before .before .before .before .pre .0) (c .before .before .before .before .before .before .before .before .before .before .before .before .before .before .pre .1 .0 .1) (c .before .before .before .before .before .before .before .before .before .before .before .before .before .before .args .boss .now) (c .before .before .before .before .before .before .before .before .before .before .before .before .before .before .args .h) (c .before .before .before .before .before .before .before .before .before .before .before .before .before .before .pre .1 .0 .0) (c .before .before .before .before .before .before .before .before .before .before .before .before .before .before .pre .1 .1) _ _ _ _ (c .before .before .before .before .before .before .before .before .before .before .wide .ensures) (c .before .before .before .before .before .before .before .before .before .at .ensures) (c .before .before .before .before .before .before .before .before .rep-in .ensures) (c .before .before .before .before .before .before .before .wide2 .ensures) (c .before .before .before .before .before .if1 .left) _ _ _ _ (c .before .before .before .before .at2 .ensures) (c .before .before .before .wide3 .ensures) (c .before .before .at3 .ensures) (c .before .alike .ensures) (c .if2 .left)
 
 pub seat-spec : {M : Type 1} → statement M
 seat-spec =

@@ -15,63 +15,63 @@ Inv-loop p boss rows words kids l seen₀ queue₀ tail x b i m t₀ f₀ seen q
 abbrev μ-loop : tie.MeasureT-loop
 μ-loop p boss rows words kids l seen₀ queue₀ tail x b i m t₀ f₀ seen queue t f = ?
 
--- src/lib.rt:461:18
+-- src/lib.rt:468:18
 wide-requires : tie.Need-wide-requires Inv-loop μ-loop
 wide-requires c κs = ?
 
--- src/lib.rt:461:13
+-- src/lib.rt:468:13
 mul-b : tie.Need-mul-b Inv-loop μ-loop
 mul-b c = ?
 
--- src/lib.rt:461:13
+-- src/lib.rt:468:13
 element-copy-out-b : tie.Need-element-copy-out-b Inv-loop μ-loop
 element-copy-out-b c = ?
 
--- src/lib.rt:463:9
+-- src/lib.rt:470:9
 returns : tie.Need-returns Inv-loop μ-loop
 returns c = ?
 
--- src/lib.rt:465:22
+-- src/lib.rt:472:22
 wide-requires-2 : tie.Need-wide-requires-2 Inv-loop μ-loop
 wide-requires-2 c κs = ?
 
--- src/lib.rt:465:9
+-- src/lib.rt:472:9
 at-requires : tie.Need-at-requires Inv-loop μ-loop
 at-requires c κs = ?
 
--- src/lib.rt:466:9
+-- src/lib.rt:473:9
 fields-requires : tie.Need-fields-requires Inv-loop μ-loop
 fields-requires c κs = ?
 
--- src/lib.rt:468:5
+-- src/lib.rt:475:5
 loop-holds : tie.Need-loop-holds Inv-loop μ-loop
 loop-holds c = ?
 
--- src/lib.rt:469:13
+-- src/lib.rt:476:13
 kid-requires : tie.Need-kid-requires Inv-loop μ-loop
 kid-requires c κs = ?
 
--- src/lib.rt:470:13
+-- src/lib.rt:477:13
 rep-in-requires : tie.Need-rep-in-requires Inv-loop μ-loop
 rep-in-requires c κs = ?
 
--- src/lib.rt:471:9
+-- src/lib.rt:478:9
 visit-requires : tie.Need-visit-requires Inv-loop μ-loop
 visit-requires c κs = ?
 
--- src/lib.rt:468:9
+-- src/lib.rt:475:9
 add-f : tie.Need-add-f Inv-loop μ-loop
 add-f c = ?
 
--- src/lib.rt:468:5
+-- src/lib.rt:475:5
 loop-less : tie.Need-loop-less Inv-loop μ-loop
 loop-less c = ?
 
--- src/lib.rt:468:5
+-- src/lib.rt:475:5
 loop-again : tie.Need-loop-again Inv-loop μ-loop
 loop-again c = ?
 
--- src/lib.rt:442:1
+-- src/lib.rt:449:1
 returns-2 : tie.Need-returns-2 Inv-loop μ-loop
 returns-2 c = ?
 
