@@ -5,3 +5,4 @@ pub mod Turning
 pub mod Seating
 pub mod Settling
 pub mod Searching
+pub mod Answering

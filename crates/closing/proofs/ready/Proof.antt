@@ -1,3 +1,14 @@
+use borrow.Author.Needs.{needs}
+use native.Mathlib.Omega.{arith}
+use mathlib.Core.Path.{_≡_, refl, sym, ap, subst}
+use Prim.Native.Nat.{ℕ, _≤_, _<_, _-_}
+use borrow.Author.Count.{below-more}
+use Rattle.classes.specs.Answers.{rep}
+use Rattle.closing.specs.Holding.{kid-in}
+use Rattle.closing.specs.Search.{Over}
+use Rattle.closing.proofs.Reading.{few-kids}
+use Rattle.closing.proofs.Joining.{no-bool}
+use Rattle.closing.proofs.Settling.{kid-root, ready-step}
 use Rattle.closing.proofs.ready.Statement.{statement}
 use Rattle.closing.proofs.ready.Tie as tie
 use Rattle.closing.proofs.ready.Reads as reads
@@ -9,54 +20,54 @@ use Rattle.closing.proofs.over.Reads as over-reads
 use Rattle.closing.proofs.wide.Reads as wide-reads
 
 abbrev Inv-loop : tie.InvT-loop
-Inv-loop p boss turned words kids i m f₀ f = ?
+Inv-loop p boss turned words kids i m f₀ f = (f ≤ m) × ((g : ℕ) → g < f → Over boss turned (rep p (kid-in kids i g)))
 
 abbrev μ-loop : tie.MeasureT-loop
-μ-loop p boss turned words kids i m f₀ f = ?
+μ-loop p boss turned words kids i m f₀ f = m - f
 
--- src/lib.rt:339:9
 fields-requires : tie.Need-fields-requires Inv-loop μ-loop
-fields-requires c κs = ?
+fields-requires c κs =
+    search needs
 
--- src/lib.rt:340:5
 loop-holds : tie.Need-loop-holds Inv-loop μ-loop
-loop-holds c = ?
+loop-holds c =
+    (omega arith, λ g h. absurd (omega arith))
 
--- src/lib.rt:341:13
 kid-requires : tie.Need-kid-requires Inv-loop μ-loop
-kid-requires c κs = ?
+kid-requires c κs =
+    omega (arith, few-kids (c .before .before .before .before .before .args .words .now) (c .before .before .before .before .before .args .i), c .before .before .fields .ensures, c .loop-test .taken)
 
--- src/lib.rt:342:22
 rep-in-requires : tie.Need-rep-in-requires Inv-loop μ-loop
-rep-in-requires c κs = ?
+rep-in-requires c κs =
+    search needs
 
--- src/lib.rt:342:13
 wide-requires : tie.Need-wide-requires Inv-loop μ-loop
-wide-requires c κs = ?
+wide-requires c κs =
+    search needs
 
--- src/lib.rt:343:13
 over-requires : tie.Need-over-requires Inv-loop μ-loop
-over-requires c κs = ?
+over-requires c κs =
+    kid-root _ _ (c .before .before .before .before .before .before .before .before .pre) _ _ _ _ _ (c .before .before .kid .ensures) (c .before .rep-in .ensures) (c .wide .ensures)
 
--- src/lib.rt:344:13
 returns : tie.Need-returns Inv-loop μ-loop
-returns c = ?
+returns c =
+    λ e. no-bool (sym e)
 
--- src/lib.rt:340:9
 add-f : tie.Need-add-f Inv-loop μ-loop
-add-f c = ?
+add-f c =
+    omega arith
 
--- src/lib.rt:340:5
 loop-less : tie.Need-loop-less Inv-loop μ-loop
-loop-less c = ?
+loop-less c =
+    omega arith
 
--- src/lib.rt:340:5
 loop-again : tie.Need-loop-again Inv-loop μ-loop
-loop-again c = ?
+loop-again c =
+    (omega arith, below-more _ _ (c .before .before .before .before .before .before .loop .inv .1) (ready-step (c .before .before .before .before .before .before .before .before .before .before .args .boss .now) (c .before .before .before .before .before .before .before .before .before .before .args .turned .now) _ _ _ _ _ _ _ _ (c .before .before .before .before .kid .ensures) (c .before .before .before .rep-in .ensures) (c .before .before .wide .ensures) (c .before .over .ensures) (c .if1 .left)))
 
--- src/lib.rt:328:1
 returns-2 : tie.Need-returns-2 Inv-loop μ-loop
-returns-2 c = ?
+returns-2 c =
+    λ _ g h. let e = c .before .before .fields .ensures in let t = c .loop-test .left in c .before .loop .inv .1 g (omega arith)
 
 pub ready-spec : {M : Type 1} → statement M
 ready-spec =

@@ -1,3 +1,8 @@
+use native.Mathlib.Omega.{arith}
+use mathlib.Core.Path.{_≡_, refl, sym, ap, subst}
+use Prim.Native.Nat.{ℕ}
+use lib.ListN.{getD, set}
+use Rattle.closing.specs.Search.{old, new}
 use borrow.Author.Needs.{needs}
 use Rattle.closing.proofs.visit.Statement.{statement}
 use Rattle.closing.proofs.visit.Tie as tie
@@ -5,37 +10,35 @@ use Rattle.closing.proofs.visit.Reads as reads
 use Rattle.closing.proofs.visit.Lts as lts
 use Rattle.closing.proofs.wide.Reads as wide-reads
 
--- src/lib.rt:439:9
 wide-requires : tie.Need-wide-requires
 wide-requires c κs = search needs
 
--- src/lib.rt:440:8
 element-copy-out-if1 : tie.Need-element-copy-out-if1
 element-copy-out-if1 c = search needs
 
--- src/lib.rt:441:9
 returns : tie.Need-returns
-returns c = ?
+returns c =
+    old (λ e. c .if1 .taken (rw (c .before .before .wide .ensures) e)) refl refl refl
 
--- src/lib.rt:443:5
 element-write-seen : tie.Need-element-write-seen
 element-write-seen c = search needs
 
--- src/lib.rt:444:5
 mul-queue : tie.Need-mul-queue
-mul-queue c = ?
+mul-queue c =
+    let h = c .before .before .before .pre .1 (subst (λ (i : ℕ). getD (c .before .before .before .args .seen .now) i 0 ≡ 0) (c .before .before .wide .ensures) (c .if1 .left)) in omega arith
 
--- src/lib.rt:444:5
 element-write-queue : tie.Need-element-write-queue
-element-write-queue c = ?
+element-write-queue c =
+    let h = c .before .before .before .pre .1 (subst (λ (i : ℕ). getD (c .before .before .before .args .seen .now) i 0 ≡ 0) (c .before .before .wide .ensures) (c .if1 .left)) in omega arith
 
--- src/lib.rt:445:5
 add-result : tie.Need-add-result
-add-result c = ?
+add-result c =
+    let h = c .before .before .before .pre .1 (subst (λ (i : ℕ). getD (c .before .before .before .args .seen .now) i 0 ≡ 0) (c .before .before .wide .ensures) (c .if1 .left)) in omega arith
 
--- src/lib.rt:435:1
 returns-2 : tie.Need-returns-2
-returns-2 c = ?
+returns-2 c =
+    let w = c .before .before .wide .ensures in
+    new (rw w at (c .if1 .left)) (ap (λ (i : ℕ). set (c .before .before .before .args .seen .now) i 1) w) refl refl
 
 pub visit-spec : {M : Type 1} → statement M
 visit-spec =

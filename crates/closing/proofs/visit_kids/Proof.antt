@@ -1,3 +1,9 @@
+use borrow.Author.Needs.{needs}
+use native.Mathlib.Omega.{arith}
+use mathlib.Core.Path.{_≡_, refl, sym, ap, subst}
+use Prim.Native.Nat.{_≤_, _-_}
+use Rattle.closing.specs.Holding.{chart, kid-in}
+use Rattle.closing.proofs.Searching.{ChildrenTo, children-none, extends-self, no-marks, few-fields, root-site, has-room, children-step, children-done}
 use Rattle.closing.proofs.visit_kids.Statement.{statement}
 use Rattle.closing.proofs.visit_kids.Tie as tie
 use Rattle.closing.proofs.visit_kids.Reads as reads
@@ -10,70 +16,73 @@ use Rattle.closing.proofs.visit.Reads as visit-reads
 use Rattle.closing.proofs.wide.Reads as wide-reads
 
 abbrev Inv-loop : tie.InvT-loop
-Inv-loop p boss rows words kids l seen₀ queue₀ tail x b i m t₀ f₀ seen queue t f = ?
+Inv-loop p boss rows words kids l seen₀ queue₀ tail x b i m t₀ f₀ seen queue t f = (f ≤ m) × ChildrenTo (chart rows words kids) p boss l seen₀ queue₀ tail x seen queue t f
 
 abbrev μ-loop : tie.MeasureT-loop
-μ-loop p boss rows words kids l seen₀ queue₀ tail x b i m t₀ f₀ seen queue t f = ?
+μ-loop p boss rows words kids l seen₀ queue₀ tail x b i m t₀ f₀ seen queue t f = m - f
 
--- src/lib.rt:468:18
 wide-requires : tie.Need-wide-requires Inv-loop μ-loop
-wide-requires c κs = ?
+wide-requires c κs =
+    search needs
 
--- src/lib.rt:468:13
 mul-b : tie.Need-mul-b Inv-loop μ-loop
-mul-b c = ?
+mul-b c =
+    omega (arith, c .wide .ensures, c .before .before .before .before .pre .1 .1 .0)
 
--- src/lib.rt:468:13
 element-copy-out-b : tie.Need-element-copy-out-b Inv-loop μ-loop
-element-copy-out-b c = ?
+element-copy-out-b c =
+    omega (arith, c .wide .ensures, c .before .before .before .before .pre .1 .1 .0)
 
--- src/lib.rt:470:9
 returns : tie.Need-returns Inv-loop μ-loop
-returns c = ?
+returns c =
+    (c .before .before .before .before .before .before .pre .1 .0, (extends-self _ _ _, no-marks (chart (c .before .before .before .before .before .before .args .rows .now) (c .before .before .before .before .before .before .args .words .now) (c .before .before .before .before .before .before .args .kids .now)) (c .before .before .before .before .before .before .args .p .now) (c .before .before .before .before .before .before .args .boss .now) (c .before .before .before .before .before .before .args .seen .now) (c .before .before .before .before .before .before .args .x) (rw (c .before .before .wide .ensures) at (c .if1 .taken))))
 
--- src/lib.rt:472:22
 wide-requires-2 : tie.Need-wide-requires-2 Inv-loop μ-loop
-wide-requires-2 c κs = ?
+wide-requires-2 c κs =
+    search needs
 
--- src/lib.rt:472:9
 at-requires : tie.Need-at-requires Inv-loop μ-loop
-at-requires c κs = ?
+at-requires c κs =
+    search needs
 
--- src/lib.rt:473:9
 fields-requires : tie.Need-fields-requires Inv-loop μ-loop
-fields-requires c κs = ?
+fields-requires c κs =
+    search needs
 
--- src/lib.rt:475:5
 loop-holds : tie.Need-loop-holds Inv-loop μ-loop
-loop-holds c = ?
+loop-holds c =
+    (omega arith, children-none _ _ _ _ _ _ _ _ (c .before .before .before .before .before .before .before .before .before .pre .1 .0))
 
--- src/lib.rt:476:13
 kid-requires : tie.Need-kid-requires Inv-loop μ-loop
-kid-requires c κs = ?
+kid-requires c κs =
+    let h = few-fields (c .before .before .before .before .before .before .before .before .before .before .before .args .rows .now) (c .before .before .before .before .before .before .before .before .before .before .before .args .words .now) (c .before .before .before .before .before .before .before .before .before .before .before .args .kids .now) (c .before .before .before .before .before .before .before .before .before .before .before .args .p .now) (c .before .before .before .before .before .before .before .before .before .before .before .args .boss .now) (c .before .before .before .before .before .before .before .before .before .before .before .pre .0) (c .before .before .before .before .before .before .before .before .before .before .before .args .x) (c .before .before .before .before .before .before .before .before .before .before .before .pre .1 .1 .0) _ _ _ (c .before .before .before .before .before .before .before .wide .ensures) (c .before .before .before .before .before .if1 .left) (c .before .before .before .before .wide2 .ensures) (c .before .before .before .at .ensures) _ (c .before .before .fields .ensures) in let t = c .loop-test .taken in omega arith
 
--- src/lib.rt:477:13
 rep-in-requires : tie.Need-rep-in-requires Inv-loop μ-loop
-rep-in-requires c κs = ?
+rep-in-requires c κs =
+    search needs
 
--- src/lib.rt:478:9
 visit-requires : tie.Need-visit-requires Inv-loop μ-loop
-visit-requires c κs = ?
+visit-requires c κs =
+    let h = root-site (c .before .before .before .before .before .before .before .before .before .before .before .before .before .before .before .args .rows .now) (c .before .before .before .before .before .before .before .before .before .before .before .before .before .before .before .args .words .now) (c .before .before .before .before .before .before .before .before .before .before .before .before .before .before .before .args .kids .now) (c .before .before .before .before .before .before .before .before .before .before .before .before .before .before .before .args .p .now) (c .before .before .before .before .before .before .before .before .before .before .before .before .before .before .before .args .boss .now) (c .before .before .before .before .before .before .before .before .before .before .before .before .before .before .before .pre .0) (c .before .before .before .before .before .before .before .before .before .before .before .before .before .before .before .args .x) (c .before .before .before .before .before .before .before .before .before .before .before .before .before .before .before .pre .1 .1 .0) _ _ _ (c .before .before .before .before .before .before .before .before .before .before .before .wide .ensures) (c .before .before .before .before .before .before .before .before .before .if1 .left) (c .before .before .before .before .before .before .before .before .wide2 .ensures) (c .before .before .before .before .before .before .before .at .ensures) _ (c .before .before .before .before .before .before .fields .ensures) _ _ _ (c .before .before .before .kid .ensures) (c .before .before .rep-in .ensures) in
+    (h, has-room _ _ _ _ _ _ _ (c .before .before .before .before .before .loop .inv .1 .visited) _ h)
 
--- src/lib.rt:475:9
 add-f : tie.Need-add-f Inv-loop μ-loop
-add-f c = ?
+add-f c =
+    omega arith
 
--- src/lib.rt:475:5
 loop-less : tie.Need-loop-less Inv-loop μ-loop
-loop-less c = ?
+loop-less c =
+    omega arith
 
--- src/lib.rt:475:5
 loop-again : tie.Need-loop-again Inv-loop μ-loop
-loop-again c = ?
+loop-again c =
+    let t = c .before .before .before .before .before .loop-test .taken in
+    (omega arith, children-step (c .before .before .before .before .before .before .before .before .before .before .before .before .before .before .before .before .args .rows .now) (c .before .before .before .before .before .before .before .before .before .before .before .before .before .before .before .before .args .words .now) (c .before .before .before .before .before .before .before .before .before .before .before .before .before .before .before .before .args .kids .now) (c .before .before .before .before .before .before .before .before .before .before .before .before .before .before .before .before .args .p .now) (c .before .before .before .before .before .before .before .before .before .before .before .before .before .before .before .before .args .boss .now) (c .before .before .before .before .before .before .before .before .before .before .before .before .before .before .before .before .pre .0) (c .before .before .before .before .before .before .before .before .before .before .before .before .before .before .before .before .args .x) (c .before .before .before .before .before .before .before .before .before .before .before .before .before .before .before .before .pre .1 .1 .0) _ _ _ (c .before .before .before .before .before .before .before .before .before .before .before .before .wide .ensures) (c .before .before .before .before .before .before .before .before .before .before .if1 .left) (c .before .before .before .before .before .before .before .before .before .wide2 .ensures) (c .before .before .before .before .before .before .before .before .at .ensures) _ (c .before .before .before .before .before .before .before .fields .ensures) _ _ _ (c .before .before .before .before .kid .ensures) (c .before .before .before .rep-in .ensures) _ _ _ _ _ _ _ _ _ _ (c .before .before .before .before .before .before .before .before .before .before .before .before .before .before .before .before .pre .1 .1 .1) t (c .before .before .before .before .before .before .loop .inv .1) (c .visit .ensures))
 
--- src/lib.rt:449:1
 returns-2 : tie.Need-returns-2 Inv-loop μ-loop
-returns-2 c = ?
+returns-2 c =
+    let e : c .before .loop .f ≡ c .before .before .fields .result = let h = c .before .loop .inv .0 in let t = c .loop-test .left in omega arith in
+    children-done (c .before .before .before .before .before .before .before .before .before .before .before .args .rows .now) (c .before .before .before .before .before .before .before .before .before .before .before .args .words .now) (c .before .before .before .before .before .before .before .before .before .before .before .args .kids .now) (c .before .before .before .before .before .before .before .before .before .before .before .args .p .now) (c .before .before .before .before .before .before .before .before .before .before .before .args .boss .now) (c .before .before .before .before .before .before .before .before .before .before .before .pre .0) (c .before .before .before .before .before .before .before .before .before .before .before .args .x) (c .before .before .before .before .before .before .before .before .before .before .before .pre .1 .1 .0) _ _ _ (c .before .before .before .before .before .before .before .wide .ensures) (c .before .before .before .before .before .if1 .left) (c .before .before .before .before .wide2 .ensures) (c .before .before .before .at .ensures) _ (c .before .before .fields .ensures) _ _ _ _ _ _ _ _ e (c .before .loop .inv .1)
 
 pub visit-kids-spec : {M : Type 1} → statement M
 visit-kids-spec =
