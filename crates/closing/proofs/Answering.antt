@@ -127,7 +127,7 @@ least-is (x ∷ xs) = go (least-is xs)
     lower y z m h (List·Memᴰ·tail q) = let w = h z q in omega arith
 
     inside : (y : ℕ) → List·Memᴰ y xs → Dec (x < y) → List·Memᴰ (min x y) (x ∷ xs)
-    inside y m (yes l) = List·Memᴰ·head (omega arith)
+    inside y m (yes l) = let e : min x y ≡ x = omega arith in List·Memᴰ·head e
     inside y m (no d) = let e : min x y ≡ y = omega arith in rw e (List·Memᴰ·tail m)
 
     alone : ((u : ℕ) → List·Memᴰ u xs → ⊥) → (z : ℕ) → List·Memᴰ z (x ∷ xs) → x ≤ z

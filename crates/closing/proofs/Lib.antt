@@ -6,3 +6,4 @@ pub mod Seating
 pub mod Settling
 pub mod Searching
 pub mod Answering
+pub mod Judging

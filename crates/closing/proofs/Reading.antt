@@ -121,7 +121,7 @@ kid-inside kids i f h = h (max-fields * i + f)
 
 -- ---- a number that is no site
 
-abbrev or-first : Option ℕ → Option ℕ → Option ℕ
+abbrev pub or-first : Option ℕ → Option ℕ → Option ℕ
 or-first (some x) o = some x
 or-first none o = o
 
@@ -178,3 +178,18 @@ stray-append (x ∷ xs) ys = go (leb max-sites x) refl (stray-append xs ys)
     go : (t : Bool) → leb max-sites x ≡ t → stray (xs ++ ys) ≡ or-first (stray xs) (stray ys) → stray (x ∷ (xs ++ ys)) ≡ or-first (stray (x ∷ xs)) (stray ys)
     go true e h = let l = leb-true max-sites x e in stray-out x (xs ++ ys) l ∙ sym (ap (λ o. or-first o (stray ys)) (stray-out x xs l))
     go false e h = let l = leb-false max-sites x e in stray-in x (xs ++ ys) l ∙ (h ∙ sym (ap (λ o. or-first o (stray ys)) (stray-in x xs l)))
+
+-- what first_stray answers
+pub told-stray : (xs : List ℕ) (a : ℕ) → a ≡ or-else (stray xs) 0 → (a ≡ 0 → ⊥) → stray xs ≡ some a
+told-stray xs a e n = go (strays xs)
+  where
+    go : Strays xs → stray xs ≡ some a
+    go (clean q h) = absurd (n (e ∙ ap (λ o. or-else o 0) q))
+    go (dirty m q h) = q ∙ ap some (sym (e ∙ ap (λ o. or-else o 0) q))
+
+pub told-clean : (xs : List ℕ) (a : ℕ) → a ≡ or-else (stray xs) 0 → a ≡ 0 → (stray xs ≡ none) × ((k : ℕ) → getD xs k 0 < max-sites)
+told-clean xs a e z = go (strays xs)
+  where
+    go : Strays xs → (stray xs ≡ none) × ((k : ℕ) → getD xs k 0 < max-sites)
+    go (clean q h) = (q, h)
+    go (dirty m q h) = let w = sym z ∙ (e ∙ ap (λ o. or-else o 0) q) in absurd (omega arith)

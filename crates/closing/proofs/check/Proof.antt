@@ -1,3 +1,6 @@
+use borrow.Author.Needs.{needs}
+use Rattle.closing.specs.Holding.{held}
+use Rattle.closing.proofs.Judging.{stray-eqs, stray-sites, stray-kids, all-inside, no-stray-at}
 use Rattle.closing.proofs.check.Statement.{statement}
 use Rattle.closing.proofs.check.Tie as tie
 use Rattle.closing.proofs.check.Reads as reads
@@ -5,37 +8,37 @@ use Rattle.closing.proofs.check.Lts as lts
 use Rattle.closing.proofs.first_stray.Reads as first-stray-reads
 use Rattle.closing.proofs.judge.Reads as judge-reads
 
--- src/lib.rt:592:9
 first-stray-requires : tie.Need-first-stray-requires
-first-stray-requires c κs = ?
+first-stray-requires c κs =
+    search needs
 
--- src/lib.rt:594:9
 returns : tie.Need-returns
-returns c = ?
+returns c =
+    stray-eqs (c .before .before .before .before .before .before .before .args .eqs .now) (held (c .before .before .before .before .before .before .before .args .sites .now) (c .before .before .before .before .before .before .before .args .rows .now) (c .before .before .before .before .before .before .before .args .words .now) (c .before .before .before .before .before .before .before .args .kids .now)) _ (c .before .first-stray .ensures) (c .if1 .taken)
 
--- src/lib.rt:596:9
 first-stray-requires-2 : tie.Need-first-stray-requires-2
-first-stray-requires-2 c κs = ?
+first-stray-requires-2 c κs =
+    search needs
 
--- src/lib.rt:598:9
 returns-2 : tie.Need-returns-2
-returns-2 c = ?
+returns-2 c =
+    stray-sites (c .before .before .before .before .before .before .before .before .before .args .eqs .now) (held (c .before .before .before .before .before .before .before .before .before .args .sites .now) (c .before .before .before .before .before .before .before .before .before .args .rows .now) (c .before .before .before .before .before .before .before .before .before .args .words .now) (c .before .before .before .before .before .before .before .before .before .args .kids .now)) _ (c .before .before .before .first-stray .ensures) (c .before .before .if1 .left) _ (c .before .first-stray2 .ensures) (c .if2 .taken)
 
--- src/lib.rt:600:9
 first-stray-requires-3 : tie.Need-first-stray-requires-3
-first-stray-requires-3 c κs = ?
+first-stray-requires-3 c κs =
+    search needs
 
--- src/lib.rt:602:9
 returns-3 : tie.Need-returns-3
-returns-3 c = ?
+returns-3 c =
+    stray-kids (c .before .before .before .before .before .before .before .before .before .before .before .args .eqs .now) (held (c .before .before .before .before .before .before .before .before .before .before .before .args .sites .now) (c .before .before .before .before .before .before .before .before .before .before .before .args .rows .now) (c .before .before .before .before .before .before .before .before .before .before .before .args .words .now) (c .before .before .before .before .before .before .before .before .before .before .before .args .kids .now)) _ (c .before .before .before .before .before .first-stray .ensures) (c .before .before .before .before .if1 .left) _ (c .before .before .before .first-stray2 .ensures) (c .before .before .if2 .left) _ (c .before .first-stray3 .ensures) (c .if3 .taken)
 
--- src/lib.rt:604:5
 judge-requires : tie.Need-judge-requires
-judge-requires c κs = ?
+judge-requires c κs =
+    all-inside (c .before .before .before .before .before .before .before .before .before .before .before .args .eqs .now) (held (c .before .before .before .before .before .before .before .before .before .before .before .args .sites .now) (c .before .before .before .before .before .before .before .before .before .before .before .args .rows .now) (c .before .before .before .before .before .before .before .before .before .before .before .args .words .now) (c .before .before .before .before .before .before .before .before .before .before .before .args .kids .now)) _ (c .before .before .before .before .before .first-stray .ensures) (c .before .before .before .before .if1 .left) _ (c .before .before .before .first-stray2 .ensures) (c .before .before .if2 .left) _ (c .before .first-stray3 .ensures) (c .if3 .left)
 
--- src/lib.rt:589:1
 returns-4 : tie.Need-returns-4
-returns-4 c = ?
+returns-4 c =
+    no-stray-at (c .before .before .before .before .before .before .before .before .before .before .before .before .args .eqs .now) (held (c .before .before .before .before .before .before .before .before .before .before .before .before .args .sites .now) (c .before .before .before .before .before .before .before .before .before .before .before .before .args .rows .now) (c .before .before .before .before .before .before .before .before .before .before .before .before .args .words .now) (c .before .before .before .before .before .before .before .before .before .before .before .before .args .kids .now)) _ (c .before .before .before .before .before .before .first-stray .ensures) (c .before .before .before .before .before .if1 .left) _ (c .before .before .before .before .first-stray2 .ensures) (c .before .before .before .if2 .left) _ (c .before .before .first-stray3 .ensures) (c .before .if3 .left) (c .judge .result) (c .judge .ensures)
 
 pub check-spec : {M : Type 1} → statement M
 check-spec =
