@@ -248,24 +248,31 @@ module _ (H : Held) (E : List (ℕ × ℕ)) (q : List ℕ) (m : ℕ) (exact : (u
     start : a ≡ lowest k (site-of H holder-at)
     end : b ≡ lowest k (kid-of H holder-at field-at)
 
+  holder-step : (h : ℕ) → h < m → (a b : ℕ) → List·Memᴰ {A = ℕ × ℕ} (a, b) (map (λ c. (lowest k (site-of H h), lowest k c)) (below (count-of H h) (kid-of H h))) → StepOf a b
+  holder-step h l a b i = go (Memᴰ·of-map (λ c. (lowest k (site-of H h), lowest k c)) (below (count-of H h) (kid-of H h)) i)
+    where
+      at : (c : ℕ) → _≡_ {A = ℕ × ℕ} (lowest k (site-of H h), lowest k c) (a, b) → (f : ℕ) × (f < count-of H h) × (c ≡ kid-of H h f) → StepOf a b
+      at c e (f, j, ef) = record {
+        holder-at = h;
+        among = l;
+        field-at = f;
+        within = j;
+        start = ap (λ (p : ℕ × ℕ). p .0) (sym e);
+        end = ap (λ (p : ℕ × ℕ). p .1) (sym e) ∙ ap (lowest k) ef;
+      }
+
+      go : (c : ℕ) × List·Memᴰ c (below (count-of H h) (kid-of H h)) × _≡_ {A = ℕ × ℕ} (lowest k (site-of H h), lowest k c) (a, b) → StepOf a b
+      go (c, j, e) = at c e (of-below (count-of H h) (kid-of H h) c j)
+
   of-steps : (a b : ℕ) → List·Memᴰ (a, b) (steps k hs) → StepOf a b
   unfolding steps
-  of-steps a b l =
-      let u = of-joined (map (λ (x : Holder). map (λ c. (lowest k (x .site), lowest k c)) (x .kids)) hs) (a, b) l in
-      let v = Memᴰ·of-map (λ (x : Holder). map (λ c. (lowest k (x .site), lowest k c)) (x .kids)) hs (u .1) in
-      let w = of-holders H m (v .0) (v .1) in
-      let l' : List·Memᴰ {A = ℕ × ℕ} (a, b) (map (λ c. (lowest k (site-of H (w .0)), lowest k c)) (below (count-of H (w .0)) (kid-of H (w .0)))) =
-          subst (λ (x : Holder). List·Memᴰ {A = ℕ × ℕ} (a, b) (map (λ c. (lowest k (x .site), lowest k c)) (x .kids))) (w .2) (rw (← v .2) at (u .2)) in
-      let y = Memᴰ·of-map (λ c. (lowest k (site-of H (w .0)), lowest k c)) (below (count-of H (w .0)) (kid-of H (w .0))) l' in
-      let z = of-below (count-of H (w .0)) (kid-of H (w .0)) (y .0) (y .1) in
-      record {
-        holder-at = w .0;
-        among = w .1;
-        field-at = z .0;
-        within = z .1;
-        start = ap (λ (p : ℕ × ℕ). p .0) (sym (y .2));
-        end = ap (λ (p : ℕ × ℕ). p .1) (sym (y .2)) ∙ ap (lowest k) (z .2);
-      }
+  of-steps a b l = go (of-joined (map (λ (x : Holder). map (λ c. (lowest k (x .site), lowest k c)) (x .kids)) hs) (a, b) l)
+    where
+      at : (x : Holder) → (h : ℕ) × (h < m) × (x ≡ holder-in H h) → List·Memᴰ {A = ℕ × ℕ} (a, b) (map (λ c. (lowest k (x .site), lowest k c)) (x .kids)) → StepOf a b
+      at x (h, j, e) i = holder-step h j a b (subst (λ (y : Holder). List·Memᴰ {A = ℕ × ℕ} (a, b) (map (λ c. (lowest k (y .site), lowest k c)) (y .kids))) e i)
+
+      go : (xs : List (ℕ × ℕ)) × List·Memᴰ xs (map (λ (x : Holder). map (λ c. (lowest k (x .site), lowest k c)) (x .kids)) hs) × List·Memᴰ {A = ℕ × ℕ} (a, b) xs → StepOf a b
+      go (xs, j, i) = let v = Memᴰ·of-map (λ (x : Holder). map (λ c. (lowest k (x .site), lowest k c)) (x .kids)) hs j in at (v .0) (of-holders H m (v .0) (v .1)) (rw (← v .2) at i)
 
   module _ (boss : List ℕ) (R : Reps q) (T : Seated (bare (H .sites) (H .rows) (H .words)) q boss m) (rest : (h : ℕ) → h < m → Rest H q h) where
     low-rep : (x : ℕ) → lowest k (rep q x) ≡ lowest k x

@@ -7,3 +7,4 @@ pub mod Settling
 pub mod Searching
 pub mod Answering
 pub mod Judging
+pub mod Agreeing

@@ -81,7 +81,7 @@ module _ (H : Held) where
       → (f : ℕ) × (f < count-of H g) × (x ≡ (kid-of H g f, kid-of H h f))
   of-zip g h e x l =
       let l' : List·Memᴰ x (zip (below (count-of H g) (kid-of H g)) (below (count-of H g) (kid-of H h))) =
-          subst⁻¹ (λ (n : ℕ). List·Memᴰ x (zip (below (count-of H g) (kid-of H g)) (below n (kid-of H h)))) (same-count g h e) l in
+      subst⁻¹ (λ (n : ℕ). List·Memᴰ x (zip (below (count-of H g) (kid-of H g)) (below n (kid-of H h)))) (same-count g h e) l in
       of-below (count-of H g) (λ i. (kid-of H g i, kid-of H h i)) x (rw zip-below at l')
 
   -- ---- mates

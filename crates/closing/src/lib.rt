@@ -499,7 +499,18 @@ fn returning(
     let mut head: usize = 0;
     while head < tail {
         let x = queue[head];
-        tail = visit_kids(p, boss, rows, words, kids, l, &mut seen, &mut queue, tail, x);
+        tail = visit_kids(
+            p,
+            boss,
+            rows,
+            words,
+            kids,
+            l,
+            &mut seen,
+            &mut queue,
+            tail,
+            x,
+        );
         head += 1;
     }
     seen[wide(l)] != 0

@@ -1,13 +1,10 @@
+-- `closing::alike` meets its contract. Assumes nothing.
 use mathlib.Core.Path.{_≡_, sym, _∙_}
 use lib.Dec.{eqb}
 use Rattle.closing.proofs.Reading.{differ-1, differ-2, last-3}
 use borrow.Author.Needs.{needs}
 use Rattle.closing.proofs.alike.Statement.{statement}
 use Rattle.closing.proofs.alike.Tie as tie
-use Rattle.closing.proofs.alike.Reads as reads
-use Rattle.closing.proofs.alike.Lts as lts
-use Rattle.closing.proofs.wide.Reads as wide-reads
-use Rattle.kept.proofs.word.Reads as word-reads
 
 wide-requires : tie.Need-wide-requires
 wide-requires c κs = search needs

@@ -1,11 +1,10 @@
+-- `closing::at` meets its contract. Assumes nothing.
 use mathlib.Core.Path.{_≡_, sym}
 use native.Mathlib.Omega.{arith}
 use lib.ListN.{List·getD-eq-default}
 use borrow.Author.Needs.{needs}
 use Rattle.closing.proofs.at.Statement.{statement}
 use Rattle.closing.proofs.at.Tie as tie
-use Rattle.closing.proofs.at.Reads as reads
-use Rattle.closing.proofs.at.Lts as lts
 
 mul-result : tie.Need-mul-result
 mul-result c = search needs

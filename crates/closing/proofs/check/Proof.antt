@@ -1,12 +1,9 @@
+-- `closing::check` meets its contract. Assumes nothing.
 use borrow.Author.Needs.{needs}
 use Rattle.closing.specs.Holding.{held}
 use Rattle.closing.proofs.Judging.{stray-eqs, stray-sites, stray-kids, all-inside, no-stray-at}
 use Rattle.closing.proofs.check.Statement.{statement}
 use Rattle.closing.proofs.check.Tie as tie
-use Rattle.closing.proofs.check.Reads as reads
-use Rattle.closing.proofs.check.Lts as lts
-use Rattle.closing.proofs.first_stray.Reads as first-stray-reads
-use Rattle.closing.proofs.judge.Reads as judge-reads
 
 first-stray-requires : tie.Need-first-stray-requires
 first-stray-requires c κs =

@@ -1,12 +1,10 @@
+-- `closing::close` meets its contract. Assumes nothing.
 use mathlib.Core.Path.{_≡_}
 use Rattle.classes.specs.Equal.{class-count}
 use Rattle.closing.specs.Holding.{held}
 use Rattle.closing.proofs.Turning.{Between, between-none, between-step, closed}
 use Rattle.closing.proofs.close.Statement.{statement}
 use Rattle.closing.proofs.close.Tie as tie
-use Rattle.closing.proofs.close.Reads as reads
-use Rattle.closing.proofs.close.Lts as lts
-use Rattle.closing.proofs.sweep.Reads as sweep-reads
 
 abbrev Inv-loop : tie.InvT-loop
 Inv-loop p₀ r₀ n₀ sites rows words kids m p r n = Between (held sites rows words kids) p₀ p r n m

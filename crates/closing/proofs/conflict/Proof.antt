@@ -1,3 +1,4 @@
+-- `closing::conflict` meets its contract. Assumes nothing.
 use borrow.Author.Needs.{needs}
 use native.Mathlib.Omega.{arith}
 use mathlib.Core.Path.{_≡_}
@@ -7,11 +8,6 @@ use Rattle.closing.specs.Meeting.{Seated}
 use Rattle.closing.proofs.Seating.{seated-none, clash-at, clash-none}
 use Rattle.closing.proofs.conflict.Statement.{statement}
 use Rattle.closing.proofs.conflict.Tie as tie
-use Rattle.closing.proofs.conflict.Reads as reads
-use Rattle.closing.proofs.conflict.Lts as lts
-use Rattle.closing.proofs.at.Reads as at-reads
-use Rattle.closing.proofs.seat.Reads as seat-reads
-use Rattle.closing.proofs.wide.Reads as wide-reads
 
 abbrev Inv-loop : tie.InvT-loop
 Inv-loop p sites rows words boss₀ m h₀ boss h = (h ≤ m) × Seated (bare sites rows words) p boss h

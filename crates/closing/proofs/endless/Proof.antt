@@ -1,3 +1,4 @@
+-- `closing::endless` meets its contract. Assumes nothing.
 use borrow.Author.Needs.{needs}
 use native.Mathlib.Omega.{arith}
 use mathlib.Core.Path.{_≡_, refl, sym, ap, subst}
@@ -8,10 +9,6 @@ use Rattle.closing.specs.Search.{Path}
 use Rattle.closing.proofs.Searching.{lowest-at, lowest-on, lowest-none}
 use Rattle.closing.proofs.endless.Statement.{statement}
 use Rattle.closing.proofs.endless.Tie as tie
-use Rattle.closing.proofs.endless.Reads as reads
-use Rattle.closing.proofs.endless.Lts as lts
-use Rattle.classes.proofs.rep_in.Reads as rep-in-reads
-use Rattle.closing.proofs.returning.Reads as returning-reads
 
 abbrev Inv-loop : tie.InvT-loop
 Inv-loop p boss rows words kids z₀ z = (z ≤ 1024) × ((k : ℕ) → k < z → Path (chart rows words kids) p boss (rep p k) (rep p k) → ⊥)

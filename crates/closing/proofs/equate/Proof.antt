@@ -1,10 +1,8 @@
+-- `closing::equate` meets its contract. Assumes nothing.
 use Rattle.closing.proofs.Joining.{equate-done, equate-not}
 use borrow.Author.Needs.{needs}
 use Rattle.closing.proofs.equate.Statement.{statement}
 use Rattle.closing.proofs.equate.Tie as tie
-use Rattle.closing.proofs.equate.Reads as reads
-use Rattle.closing.proofs.equate.Lts as lts
-use Rattle.classes.proofs.merge_in.Reads as merge-in-reads
 
 merge-in-requires : tie.Need-merge-in-requires
 merge-in-requires c κs = search needs

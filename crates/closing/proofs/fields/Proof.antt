@@ -1,13 +1,9 @@
+-- `closing::fields` meets its contract. Assumes nothing.
 use mathlib.Core.Path.{_≡_, sym, _∙_}
 use Rattle.closing.proofs.Reading.{fields-int, fields-third, fields-second, fields-none, fields-one}
 use borrow.Author.Needs.{needs}
 use Rattle.closing.proofs.fields.Statement.{statement}
 use Rattle.closing.proofs.fields.Tie as tie
-use Rattle.closing.proofs.fields.Reads as reads
-use Rattle.closing.proofs.fields.Lts as lts
-use Rattle.closing.proofs.few.Reads as few-reads
-use Rattle.closing.proofs.wide.Reads as wide-reads
-use Rattle.kept.proofs.word.Reads as word-reads
 
 wide-requires : tie.Need-wide-requires
 wide-requires c κs = search needs

@@ -1,3 +1,4 @@
+-- `closing::first_stray` meets its contract. Assumes nothing.
 use mathlib.Core.Path.{_≡_, refl}
 use Prim.Native.Nat.{_≤_, _-_}
 use native.Mathlib.Omega.{arith}
@@ -6,8 +7,6 @@ use Rattle.closing.specs.Holding.{stray}
 use Rattle.closing.proofs.Reading.{stray-step, stray-found, stray-end}
 use Rattle.closing.proofs.first_stray.Statement.{statement}
 use Rattle.closing.proofs.first_stray.Tie as tie
-use Rattle.closing.proofs.first_stray.Reads as reads
-use Rattle.closing.proofs.first_stray.Lts as lts
 
 abbrev Inv-loop : tie.InvT-loop
 Inv-loop xs k₀ k-end k = (k ≤ length xs) × (stray xs ≡ stray (drop k xs))

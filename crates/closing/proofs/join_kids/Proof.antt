@@ -1,3 +1,4 @@
+-- `closing::join_kids` meets its contract. Assumes nothing.
 use mathlib.Core.Path.{_≡_}
 use mathlib.Core.Logic.{inl, inr, ⊎-elim}
 use Prim.Native.Nat.{_≤_, _-_}
@@ -7,10 +8,6 @@ use Rattle.closing.proofs.Reading.{kid-inside}
 use Rattle.closing.proofs.Joining.{kids-none, kids-step}
 use Rattle.closing.proofs.join_kids.Statement.{statement}
 use Rattle.closing.proofs.join_kids.Tie as tie
-use Rattle.closing.proofs.join_kids.Reads as reads
-use Rattle.closing.proofs.join_kids.Lts as lts
-use Rattle.closing.proofs.equate.Reads as equate-reads
-use Rattle.closing.proofs.kid.Reads as kid-reads
 
 abbrev Inv-loop : tie.InvT-loop
 Inv-loop p₀ r₀ n₀ kids i j m moved₀ f₀ p r n moved f = (f ≤ m) × JoinsKids kids p₀ p r n i j f moved

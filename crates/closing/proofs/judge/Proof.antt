@@ -1,3 +1,4 @@
+-- `closing::judge` meets its contract. Assumes nothing.
 use borrow.Author.Needs.{needs}
 use native.Mathlib.Omega.{arith}
 use mathlib.Core.Path.{_≡_, refl}
@@ -5,14 +6,6 @@ use Rattle.closing.specs.Holding.{held}
 use Rattle.closing.proofs.Judging.{start-well, reps-of, judge-clash, judge-walks}
 use Rattle.closing.proofs.judge.Statement.{statement}
 use Rattle.closing.proofs.judge.Tie as tie
-use Rattle.closing.proofs.judge.Reads as reads
-use Rattle.closing.proofs.judge.Lts as lts
-use Rattle.closing.proofs.close.Reads as close-reads
-use Rattle.closing.proofs.conflict.Reads as conflict-reads
-use Rattle.closing.proofs.most.Reads as most-reads
-use Rattle.closing.proofs.walks.Reads as walks-reads
-use Rattle.closing.proofs.wide.Reads as wide-reads
-use Rattle.closing.proofs.written.Reads as written-reads
 
 most-requires : tie.Need-most-requires
 most-requires c κs =

@@ -1,11 +1,8 @@
+-- `closing::kid` meets its contract. Assumes nothing.
 use Rattle.closing.proofs.Reading.{kid-at}
 use borrow.Author.Needs.{needs}
 use Rattle.closing.proofs.kid.Statement.{statement}
 use Rattle.closing.proofs.kid.Tie as tie
-use Rattle.closing.proofs.kid.Reads as reads
-use Rattle.closing.proofs.kid.Lts as lts
-use Rattle.closing.proofs.at.Reads as at-reads
-use Rattle.closing.proofs.wide.Reads as wide-reads
 
 wide-requires : tie.Need-wide-requires
 wide-requires c κs = search needs

@@ -1,14 +1,10 @@
+-- `closing::mates` meets its contract. Assumes nothing.
 use mathlib.Core.Path.{_≡_, refl, sym, ap, _∙_}
 use mathlib.Core.Bool.{Bool, true, false, _&&_}
 use Rattle.closing.proofs.Turning.{mates-yes, mates-no}
 use borrow.Author.Needs.{needs}
 use Rattle.closing.proofs.mates.Statement.{statement}
 use Rattle.closing.proofs.mates.Tie as tie
-use Rattle.closing.proofs.mates.Reads as reads
-use Rattle.closing.proofs.mates.Lts as lts
-use Rattle.classes.proofs.rep_in.Reads as rep-in-reads
-use Rattle.closing.proofs.alike.Reads as alike-reads
-use Rattle.closing.proofs.at.Reads as at-reads
 
 at-requires : tie.Need-at-requires
 at-requires c κs = search needs

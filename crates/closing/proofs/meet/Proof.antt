@@ -1,3 +1,4 @@
+-- `closing::meet` meets its contract. Assumes nothing.
 use borrow.Author.Needs.{needs}
 use native.Mathlib.Omega.{arith}
 use mathlib.Core.Path.{_≡_, refl, sym, _∙_}
@@ -11,13 +12,6 @@ use Rattle.closing.proofs.Reading.{few-kids}
 use Rattle.closing.proofs.Turning.{test-is, met, not-met}
 use Rattle.closing.proofs.meet.Statement.{statement}
 use Rattle.closing.proofs.meet.Tie as tie
-use Rattle.closing.proofs.meet.Reads as reads
-use Rattle.closing.proofs.meet.Lts as lts
-use Rattle.classes.proofs.rep_in.Reads as rep-in-reads
-use Rattle.closing.proofs.at.Reads as at-reads
-use Rattle.closing.proofs.fields.Reads as fields-reads
-use Rattle.closing.proofs.join_kids.Reads as join-kids-reads
-use Rattle.closing.proofs.mates.Reads as mates-reads
 
 abbrev Inv-loop : tie.InvT-loop
 Inv-loop p₀ r₀ n₀ sites rows words kids h j s b g₀ p r n g = (g ≤ h) × ((p ≡ p₀) × (Well p r n × ((f : ℕ) → f < g → mate (held sites rows words kids) p f h ≡ false)))

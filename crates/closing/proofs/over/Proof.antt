@@ -1,9 +1,8 @@
+-- `closing::over` meets its contract. Assumes nothing.
 use Rattle.closing.proofs.Settling.{over-told}
 use borrow.Author.Needs.{needs}
 use Rattle.closing.proofs.over.Statement.{statement}
 use Rattle.closing.proofs.over.Tie as tie
-use Rattle.closing.proofs.over.Reads as reads
-use Rattle.closing.proofs.over.Lts as lts
 
 mul-if1 : tie.Need-mul-if1
 mul-if1 c = search needs

@@ -1,3 +1,4 @@
+-- `closing::ready` meets its contract. Assumes nothing.
 use borrow.Author.Needs.{needs}
 use native.Mathlib.Omega.{arith}
 use mathlib.Core.Path.{_≡_, refl, sym, ap, subst}
@@ -11,13 +12,6 @@ use Rattle.closing.proofs.Joining.{no-bool}
 use Rattle.closing.proofs.Settling.{kid-root, ready-step}
 use Rattle.closing.proofs.ready.Statement.{statement}
 use Rattle.closing.proofs.ready.Tie as tie
-use Rattle.closing.proofs.ready.Reads as reads
-use Rattle.closing.proofs.ready.Lts as lts
-use Rattle.classes.proofs.rep_in.Reads as rep-in-reads
-use Rattle.closing.proofs.fields.Reads as fields-reads
-use Rattle.closing.proofs.kid.Reads as kid-reads
-use Rattle.closing.proofs.over.Reads as over-reads
-use Rattle.closing.proofs.wide.Reads as wide-reads
 
 abbrev Inv-loop : tie.InvT-loop
 Inv-loop p boss turned words kids i m f₀ f = (f ≤ m) × ((g : ℕ) → g < f → Over boss turned (rep p (kid-in kids i g)))

@@ -1,3 +1,4 @@
+-- `closing::returning` meets its contract. Assumes nothing.
 use borrow.Author.Needs.{needs}
 use native.Mathlib.Omega.{arith}
 use mathlib.Core.Path.{_≡_, refl, sym, ap, subst}
@@ -7,10 +8,6 @@ use Rattle.closing.specs.Holding.{chart, kid-in}
 use Rattle.closing.proofs.Searching.{SearchTo, visited-none, tail-le, search-start, search-step, search-told}
 use Rattle.closing.proofs.returning.Statement.{statement}
 use Rattle.closing.proofs.returning.Tie as tie
-use Rattle.closing.proofs.returning.Reads as reads
-use Rattle.closing.proofs.returning.Lts as lts
-use Rattle.closing.proofs.visit_kids.Reads as visit-kids-reads
-use Rattle.closing.proofs.wide.Reads as wide-reads
 
 abbrev Inv-loop : tie.InvT-loop
 Inv-loop p boss rows words kids l seen₀ queue₀ tail₀ head₀ seen queue tail head = SearchTo (chart rows words kids) p boss l seen queue tail head

@@ -1,15 +1,10 @@
+-- `closing::seat` meets its contract. Assumes nothing.
 use native.Mathlib.Omega.{arith}
 use Rattle.closing.specs.Holding.{bare}
 use Rattle.closing.proofs.Seating.{in-range, seat-new, seat-like, seat-unlike}
 use borrow.Author.Needs.{needs}
 use Rattle.closing.proofs.seat.Statement.{statement}
 use Rattle.closing.proofs.seat.Tie as tie
-use Rattle.closing.proofs.seat.Reads as reads
-use Rattle.closing.proofs.seat.Lts as lts
-use Rattle.classes.proofs.rep_in.Reads as rep-in-reads
-use Rattle.closing.proofs.alike.Reads as alike-reads
-use Rattle.closing.proofs.at.Reads as at-reads
-use Rattle.closing.proofs.wide.Reads as wide-reads
 
 wide-requires : tie.Need-wide-requires
 wide-requires c κs = search needs

@@ -1,3 +1,4 @@
+-- `closing::settled` meets its contract. Assumes nothing.
 use borrow.Author.Needs.{needs}
 use native.Mathlib.Omega.{arith}
 use mathlib.Core.Path.{_≡_, refl, sym, ap, subst}
@@ -10,9 +11,6 @@ use Rattle.closing.proofs.Joining.{no-bool}
 use Rattle.closing.proofs.Settling.{safe-none, settled-yes}
 use Rattle.closing.proofs.settled.Statement.{statement}
 use Rattle.closing.proofs.settled.Tie as tie
-use Rattle.closing.proofs.settled.Reads as reads
-use Rattle.closing.proofs.settled.Lts as lts
-use Rattle.closing.proofs.turns.Reads as turns-reads
 
 abbrev Inv-loop : tie.InvT-loop
 Inv-loop p boss sites rows words kids m turned₀ left₀ turned left = Safe (chart rows words kids) p boss turned × (left ≡ 0 → (g : ℕ) → g < m → getD turned (rep p (getD sites g 0)) 0 ≡ 0 → ⊥)

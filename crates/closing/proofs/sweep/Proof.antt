@@ -1,3 +1,4 @@
+-- `closing::sweep` meets its contract. Assumes nothing.
 use native.Mathlib.Omega.{arith}
 use mathlib.Core.Path.{_≡_}
 use mathlib.Core.Logic.{inl, inr, ⊎-elim}
@@ -7,9 +8,6 @@ use Rattle.closing.specs.Growing.{SweptTo}
 use Rattle.closing.proofs.Turning.{swept-none, swept-step}
 use Rattle.closing.proofs.sweep.Statement.{statement}
 use Rattle.closing.proofs.sweep.Tie as tie
-use Rattle.closing.proofs.sweep.Reads as reads
-use Rattle.closing.proofs.sweep.Lts as lts
-use Rattle.closing.proofs.meet.Reads as meet-reads
 
 abbrev Inv-loop : tie.InvT-loop
 Inv-loop p₀ r₀ n₀ sites rows words kids m moved₀ h₀ p r n moved h = (h ≤ m) × SweptTo (held sites rows words kids) p₀ p r n moved m h

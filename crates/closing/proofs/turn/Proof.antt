@@ -1,14 +1,9 @@
+-- `closing::turn` meets its contract. Assumes nothing.
 use native.Mathlib.Omega.{arith}
 use Rattle.closing.proofs.Settling.{rep-inside, turn-was, turn-not, turn-now}
 use borrow.Author.Needs.{needs}
 use Rattle.closing.proofs.turn.Statement.{statement}
 use Rattle.closing.proofs.turn.Tie as tie
-use Rattle.closing.proofs.turn.Reads as reads
-use Rattle.closing.proofs.turn.Lts as lts
-use Rattle.classes.proofs.rep_in.Reads as rep-in-reads
-use Rattle.closing.proofs.at.Reads as at-reads
-use Rattle.closing.proofs.ready.Reads as ready-reads
-use Rattle.closing.proofs.wide.Reads as wide-reads
 
 rep-in-requires : tie.Need-rep-in-requires
 rep-in-requires c κs = search needs

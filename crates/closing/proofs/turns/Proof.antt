@@ -1,3 +1,4 @@
+-- `closing::turns` meets its contract. Assumes nothing.
 use borrow.Author.Needs.{needs}
 use native.Mathlib.Omega.{arith}
 use mathlib.Core.Path.{_≡_, refl, sym, ap, subst}
@@ -8,10 +9,6 @@ use Rattle.closing.specs.Holding.{chart, kid-in}
 use Rattle.closing.proofs.Settling.{TurnsTo, turns-none, turns-step, turns-done}
 use Rattle.closing.proofs.turns.Statement.{statement}
 use Rattle.closing.proofs.turns.Tie as tie
-use Rattle.closing.proofs.turns.Reads as reads
-use Rattle.closing.proofs.turns.Lts as lts
-use Rattle.closing.proofs.at.Reads as at-reads
-use Rattle.closing.proofs.turn.Reads as turn-reads
 
 abbrev Inv-loop : tie.InvT-loop
 Inv-loop p boss turned₀ sites rows words kids m left₀ h₀ turned left h = TurnsTo (chart rows words kids) p boss sites turned left m h

@@ -1,3 +1,4 @@
+-- `closing::visit` meets its contract. Assumes nothing.
 use native.Mathlib.Omega.{arith}
 use mathlib.Core.Path.{_≡_, refl, sym, ap, subst}
 use Prim.Native.Nat.{ℕ}
@@ -6,9 +7,6 @@ use Rattle.closing.specs.Search.{old, new}
 use borrow.Author.Needs.{needs}
 use Rattle.closing.proofs.visit.Statement.{statement}
 use Rattle.closing.proofs.visit.Tie as tie
-use Rattle.closing.proofs.visit.Reads as reads
-use Rattle.closing.proofs.visit.Lts as lts
-use Rattle.closing.proofs.wide.Reads as wide-reads
 
 wide-requires : tie.Need-wide-requires
 wide-requires c κs = search needs

@@ -1,3 +1,4 @@
+-- `closing::visit_kids` meets its contract. Assumes nothing.
 use borrow.Author.Needs.{needs}
 use native.Mathlib.Omega.{arith}
 use mathlib.Core.Path.{_≡_, refl, sym, ap, subst}
@@ -6,14 +7,6 @@ use Rattle.closing.specs.Holding.{chart, kid-in}
 use Rattle.closing.proofs.Searching.{ChildrenTo, children-none, extends-self, no-marks, few-fields, root-site, has-room, children-step, children-done}
 use Rattle.closing.proofs.visit_kids.Statement.{statement}
 use Rattle.closing.proofs.visit_kids.Tie as tie
-use Rattle.closing.proofs.visit_kids.Reads as reads
-use Rattle.closing.proofs.visit_kids.Lts as lts
-use Rattle.classes.proofs.rep_in.Reads as rep-in-reads
-use Rattle.closing.proofs.at.Reads as at-reads
-use Rattle.closing.proofs.fields.Reads as fields-reads
-use Rattle.closing.proofs.kid.Reads as kid-reads
-use Rattle.closing.proofs.visit.Reads as visit-reads
-use Rattle.closing.proofs.wide.Reads as wide-reads
 
 abbrev Inv-loop : tie.InvT-loop
 Inv-loop p boss rows words kids l seen₀ queue₀ tail x b i m t₀ f₀ seen queue t f = (f ≤ m) × ChildrenTo (chart rows words kids) p boss l seen₀ queue₀ tail x seen queue t f

@@ -1,12 +1,9 @@
+-- `closing::walks` meets its contract. Assumes nothing.
 use native.Mathlib.Omega.{arith}
 use Rattle.closing.specs.Search.{none-of, none-at, from}
 use borrow.Author.Needs.{needs}
 use Rattle.closing.proofs.walks.Statement.{statement}
 use Rattle.closing.proofs.walks.Tie as tie
-use Rattle.closing.proofs.walks.Reads as reads
-use Rattle.closing.proofs.walks.Lts as lts
-use Rattle.closing.proofs.endless.Reads as endless-reads
-use Rattle.closing.proofs.settled.Reads as settled-reads
 
 settled-requires : tie.Need-settled-requires
 settled-requires c κs = search needs

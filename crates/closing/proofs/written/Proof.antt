@@ -1,3 +1,4 @@
+-- `closing::written` meets its contract. Assumes nothing.
 use borrow.Author.Needs.{needs}
 use mathlib.Core.Path.{_≡_, refl}
 use Prim.Native.Nat.{_≤_, _-_, _/_}
@@ -9,9 +10,6 @@ use Rattle.closing.specs.Holding.{eq-at, merge-all}
 use Rattle.closing.proofs.Joining.{all-none, all-step, all-done}
 use Rattle.closing.proofs.written.Statement.{statement}
 use Rattle.closing.proofs.written.Tie as tie
-use Rattle.closing.proofs.written.Reads as reads
-use Rattle.closing.proofs.written.Lts as lts
-use Rattle.classes.proofs.merge_in.Reads as merge-in-reads
 
 abbrev Inv-loop : tie.InvT-loop
 Inv-loop parents₀ ranks₀ count₀ eqs m k₀ parents ranks count k = (k ≤ m) × (classes parents ranks count ≡ merge-all (classes parents₀ ranks₀ count₀) (below k (eq-at eqs)))
