@@ -1,15 +1,16 @@
 -- The whole: the classes that the code makes, and what it answers of them.
 use mathlib.Core.Path.{_≡_, refl, sym, ap, _∙_, subst, subst⁻¹}
 use mathlib.Core.Option.{Option, none, some}
-use mathlib.Core.List.{List, _++_}
+use mathlib.Core.Logic.{_↔_}
+use mathlib.Core.List.{List, [], _++_}
 use Prim.Native.Nat.{ℕ, _/_, _≤_, _<_, min}
 use native.Mathlib.Omega.{arith}
 use lib.ListN.{length, getD}
 use Rattle.paper.specs.declared.Refusal.the-variants.{Unknown, Unreachable}
-use Rattle.paper.specs.Words.{or-else}
+use Rattle.paper.specs.Words.{or-else, below}
 use Rattle.paper.specs.Numbers.{max-sites, Outcome, done, refused, _>>=_}
 use Rattle.paper.specs.Classes.{Classes, classes, no-classes}
-use Rattle.paper.specs.Loading.{Holder}
+use Rattle.paper.specs.Loading.{Holder, Together}
 use Rattle.classes.specs.Well.{Well}
 use Rattle.classes.proofs.Uniting.{rep-rep, rep-inside}
 use Rattle.closing.specs.declared.Clash.{Clash}
@@ -17,7 +18,7 @@ use Rattle.closing.specs.declared.Clash.the-variants.{At, Nothing}
 use Rattle.closing.specs.declared.Verdict.{Verdict}
 use Rattle.closing.specs.declared.Verdict.the-variants.{Passes, Refused}
 use Rattle.closing.specs.Holding.{Held, held, bare, how-many, holders-to, holders-in, eqs-in, class-check, stray, checked, verdict-of, merge-all}
-use Rattle.closing.specs.Growing.{Inside, Closed}
+use Rattle.closing.specs.Growing.{One, Inside, Closed}
 use Rattle.closing.specs.Meeting.{Reps, ClashIs, Seated}
 use Rattle.closing.specs.Search.{Ready, WalksIs}
 use Rattle.closing.proofs.Reading.{or-first, stray-append, told-stray, told-clean}
@@ -30,6 +31,20 @@ starts-as eqs hs c I e = subst⁻¹ (λ (d : Classes). Starts eqs hs d (length e
 
 pub start-well : (eqs p r : List ℕ) (n : ℕ) → Inside eqs → classes p r n ≡ merge-all no-classes (eqs-in eqs) → Well p r n
 start-well eqs p r n I e = starts-as eqs (holders-to (held eqs eqs eqs eqs) 0) (classes p r n) I e .well
+
+-- what `written` makes of no classes: exactly the least equivalence that holds the written equalities
+pub written-exactly : (eqs : List ℕ) → Inside eqs → (u v : ℕ) → One (merge-all no-classes (eqs-in eqs) .parents) u v ↔ Together (eqs-in eqs) [] u v
+unfolding holders-to below
+written-exactly eqs I u v = exactly H eqs c (c .parents) (c .ranks) (c .count) 0 S (record { well = S .well; grows = λ a b o. o; sound = λ E R. R; rest = λ h l. absurd (omega arith) }) u v
+  where
+    H : Held
+    H = held [] [] [] []
+
+    c : Classes
+    c = merge-all no-classes (eqs-in eqs)
+
+    S : Starts eqs (holders-to H 0) c (length eqs / 2)
+    S = written-starts eqs (holders-to H 0) I
 
 pub reps-of : (H : Held) (p q r : List ℕ) (n m : ℕ) → Closed H p q r n m → Reps q
 reps-of H p q r n m C = record { inside = rep-inside q r n (C .well); again = rep-rep q r n (C .well) }
