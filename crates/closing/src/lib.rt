@@ -31,6 +31,8 @@ pub enum Verdict {
 // The parent of a site that was never joined; also no holder.
 const NEVER: u16 = SITES as u16;
 
+const MOST: u64 = FIELDS as u64;
+
 fn wide(x: u16) -> usize
     ensures { λ r. ⌜ r ≡ x ⌝ }
 {
@@ -51,7 +53,7 @@ fn at(xs: &[u16], k: usize) -> u16
 fn few(n: u64) -> usize
     ensures { λ r. ⌜ r ≡ min n max-fields ⌝ }
 {
-    if n < 8 { n as usize } else { FIELDS }
+    if n < MOST { n as usize } else { FIELDS }
 }
 
 // How many children row i has.

@@ -1,4 +1,5 @@
 -- `closing::endless` meets its contract. Assumes nothing.
+use Rattle.paper.specs.Numbers.{max-sites}
 use borrow.Author.Needs.{needs}
 use native.Mathlib.Omega.{arith}
 use mathlib.Core.Path.{_≡_, refl, sym, ap, subst}
@@ -11,10 +12,10 @@ use Rattle.closing.proofs.endless.Statement.{statement}
 use Rattle.closing.proofs.endless.Tie as tie
 
 abbrev Inv-loop : tie.InvT-loop
-Inv-loop p boss rows words kids z₀ z = (z ≤ 1024) × ((k : ℕ) → k < z → Path (chart rows words kids) p boss (rep p k) (rep p k) → ⊥)
+Inv-loop p boss rows words kids z₀ z = (z ≤ max-sites) × ((k : ℕ) → k < z → Path (chart rows words kids) p boss (rep p k) (rep p k) → ⊥)
 
 abbrev μ-loop : tie.MeasureT-loop
-μ-loop p boss rows words kids z₀ z = 1024 - z
+μ-loop p boss rows words kids z₀ z = max-sites - z
 
 loop-holds : tie.Need-loop-holds Inv-loop μ-loop
 loop-holds c =
@@ -46,7 +47,7 @@ loop-again c =
 
 returns-2 : tie.Need-returns-2 Inv-loop μ-loop
 returns-2 c =
-    let e : c .before .loop .z ≡ 1024 = let h = c .before .loop .inv .0 in let t = c .loop-test .left in omega arith in
+    let e : c .before .loop .z ≡ max-sites = let h = c .before .loop .inv .0 in let t = c .loop-test .left in omega arith in
     lowest-none (chart (c .before .before .before .before .before .args .rows .now) (c .before .before .before .before .before .args .words .now) (c .before .before .before .before .before .args .kids .now)) (c .before .before .before .before .before .args .p .now) (c .before .before .before .before .before .args .boss .now) _ e (c .before .loop .inv .1)
 
 pub endless-spec : {M : Type 1} → statement M

@@ -1,4 +1,5 @@
 -- `closing::returning` meets its contract. Assumes nothing.
+use Rattle.paper.specs.Numbers.{max-sites}
 use borrow.Author.Needs.{needs}
 use native.Mathlib.Omega.{arith}
 use mathlib.Core.Path.{_≡_, refl, sym, ap, subst}
@@ -13,7 +14,7 @@ abbrev Inv-loop : tie.InvT-loop
 Inv-loop p boss rows words kids l seen₀ queue₀ tail₀ head₀ seen queue tail head = SearchTo (chart rows words kids) p boss l seen queue tail head
 
 abbrev μ-loop : tie.MeasureT-loop
-μ-loop p boss rows words kids l seen₀ queue₀ tail₀ head₀ seen queue tail head = 1024 - head
+μ-loop p boss rows words kids l seen₀ queue₀ tail₀ head₀ seen queue tail head = max-sites - head
 
 visit-kids-requires : tie.Need-visit-kids-requires Inv-loop μ-loop
 visit-kids-requires c κs =
