@@ -28,7 +28,7 @@ use Rattle.classes.proofs.Counting.{cnt-ext}
 use Rattle.classes.proofs.Calls.{merge-same, merge-done}
 use Rattle.classes.proofs.Uniting.{unites, rep-lone, rep-outside}
 use Rattle.classes.proofs.Merging.{empty-well}
-use Rattle.closing.specs.Holding.{kid-in, eq-at, eqs-in, kept-by, merged, merge-all}
+use Rattle.closing.specs.Holding.{kid-in, eq-at, eqs-in, kept-by, merged, merge-each}
 use Rattle.closing.specs.Growing.{One, Right, Inside, Grown, Equates, JoinsKids}
 
 pub no-bool : {A : Type 0} → true ≡ false → A
@@ -149,29 +149,29 @@ foldl-snoc : {A B : Type 0} (g : A → B → A) (a : A) (xs : List B) (x : B) �
 foldl-snoc g a [] x = refl
 foldl-snoc g a (y ∷ xs) x = foldl-snoc g (g a y) xs x
 
-pub all-none : (c : Classes) (f : ℕ → ℕ × ℕ) → c ≡ merge-all c (below 0 f)
-unfolding merge-all below
+pub all-none : (c : Classes) (f : ℕ → ℕ × ℕ) → c ≡ merge-each c (below 0 f)
+unfolding merge-each below
 all-none c f = refl
 
-all-more : (c : Classes) (f : ℕ → ℕ × ℕ) (k : ℕ) → merge-all c (below (suc k) f) ≡ merged (merge-all c (below k f)) (f k)
-unfolding merge-all below
+all-more : (c : Classes) (f : ℕ → ℕ × ℕ) (k : ℕ) → merge-each c (below (suc k) f) ≡ merged (merge-each c (below k f)) (f k)
+unfolding merge-each below
 all-more c f k = foldl-snoc merged c (below k f) (f k)
 
 kept-joined : (c : Classes) (b : Bool) (o : Outcome Classes) → joined-by c b o .0 ≡ kept-by c o
 kept-joined c b (done d) = refl
 kept-joined c b (refused e) = refl
 
-pub all-step : (c : Classes) (eqs : List ℕ) (k : ℕ) (d e : Classes) (j : Joined) → d ≡ merge-all c (below k (eq-at eqs))
-    → _≡_ {A = Classes × Joined} (e, j) (joined d (eq-at eqs k .0) (eq-at eqs k .1)) → e ≡ merge-all c (below (k + 1) (eq-at eqs))
+pub all-step : (c : Classes) (eqs : List ℕ) (k : ℕ) (d e : Classes) (j : Joined) → d ≡ merge-each c (below k (eq-at eqs))
+    → _≡_ {A = Classes × Joined} (e, j) (joined d (eq-at eqs k .0) (eq-at eqs k .1)) → e ≡ merge-each c (below (k + 1) (eq-at eqs))
 unfolding merged
 all-step c eqs k d e j h q =
     ap (λ (u : Classes × Joined). u .0) q
     ∙ (kept-joined d (two-classes d (eq-at eqs k .0) (eq-at eqs k .1)) (merge d (eq-at eqs k .0) (eq-at eqs k .1))
     ∙ (ap (λ (u : Classes). merged u (eq-at eqs k)) h ∙ (sym (all-more c (eq-at eqs) k) ∙ rw add-one refl)))
 
-pub all-done : (c d : Classes) (eqs : List ℕ) (k m : ℕ) → k ≡ m → m ≡ length eqs / 2 → d ≡ merge-all c (below k (eq-at eqs)) → d ≡ merge-all c (eqs-in eqs)
+pub all-done : (c d : Classes) (eqs : List ℕ) (k m : ℕ) → k ≡ m → m ≡ length eqs / 2 → d ≡ merge-each c (below k (eq-at eqs)) → d ≡ merge-each c (eqs-in eqs)
 unfolding eqs-in
-all-done c d eqs k m e f h = h ∙ ap (λ n. merge-all c (below n (eq-at eqs))) (e ∙ f)
+all-done c d eqs k m e f h = h ∙ ap (λ n. merge-each c (below n (eq-at eqs))) (e ∙ f)
 
 -- the classes that they make: no more than the least equivalence, and each joined
 pub record Starts (eqs : List ℕ) (hs : List Holder) (c : Classes) (k : ℕ) : Type 0 where
@@ -214,13 +214,13 @@ module _ (eqs : List ℕ) (hs : List Holder) (I : Inside eqs) where
       at i (yes e) h = rw e (U .joins)
       at i (no n) h = U .grown .grows _ _ (S .written i (omega arith))
 
-  starts : (k : ℕ) → k ≤ length eqs / 2 → Starts eqs hs (merge-all no-classes (below k (eq-at eqs))) k
+  starts : (k : ℕ) → k ≤ length eqs / 2 → Starts eqs hs (merge-each no-classes (below k (eq-at eqs))) k
   unfolding merged
   starts zero l = rw (← all-none no-classes (eq-at eqs)) starts-none
   starts (suc k) l = rw all-more (go (starts k (omega arith)))
     where
       c : Classes
-      c = merge-all no-classes (below k (eq-at eqs))
+      c = merge-each no-classes (below k (eq-at eqs))
 
       made : Starts eqs hs c k → {w : Classes × Joined} → Answer c (eq-at eqs k .0) (eq-at eqs k .1) w → Starts eqs hs (w .0) (suc k)
       made S (was-one f E) = starts-more c c k false (omega arith) S E
@@ -231,6 +231,6 @@ module _ (eqs : List ℕ) (hs : List Holder) (I : Inside eqs) where
           subst (λ (d : Classes). Starts eqs hs d (suc k)) (kept-joined c (two-classes c (eq-at eqs k .0) (eq-at eqs k .1)) (merge c (eq-at eqs k .0) (eq-at eqs k .1)))
           (made S (answer c (eq-at eqs k .0) (eq-at eqs k .1) (S .well) (I (2 * k)) (I (2 * k + 1))))
 
-  pub written-starts : Starts eqs hs (merge-all no-classes (eqs-in eqs)) (length eqs / 2)
+  pub written-starts : Starts eqs hs (merge-each no-classes (eqs-in eqs)) (length eqs / 2)
   unfolding eqs-in
   written-starts = starts (length eqs / 2) (omega arith)

@@ -1,23 +1,25 @@
 -- The whole: the classes that the code makes, and what it answers of them.
 use mathlib.Core.Path.{_≡_, refl, sym, ap, _∙_, subst, subst⁻¹}
 use mathlib.Core.Option.{Option, none, some}
+use mathlib.Core.Bool.{Bool, true, false}
 use mathlib.Core.Logic.{_↔_}
 use mathlib.Core.List.{List, [], _++_}
 use Prim.Native.Nat.{ℕ, _/_, _≤_, _<_, min}
 use native.Mathlib.Omega.{arith}
 use lib.ListN.{length, getD}
 use Rattle.paper.specs.declared.Refusal.the-variants.{Unknown, Unreachable}
-use Rattle.paper.specs.Words.{or-else, below}
+use Rattle.paper.specs.Words.{or-else, below, pairs}
 use Rattle.paper.specs.Numbers.{max-sites, Outcome, done, refused, _>>=_}
 use Rattle.paper.specs.Classes.{Classes, classes, no-classes}
-use Rattle.paper.specs.Loading.{Holder, Together}
+use Rattle.paper.specs.Loading.{Holder, Labels, Together, lowest, join-all, pass, same-classes, close, closure-of}
+use Rattle.paper.specs.Closure.{closure-of-is}
 use Rattle.classes.specs.Well.{Well}
 use Rattle.classes.proofs.Uniting.{rep-rep, rep-inside}
 use Rattle.closing.specs.declared.Clash.{Clash}
 use Rattle.closing.specs.declared.Clash.the-variants.{At, Nothing}
 use Rattle.closing.specs.declared.Verdict.{Verdict}
 use Rattle.closing.specs.declared.Verdict.the-variants.{Passes, Refused}
-use Rattle.closing.specs.Holding.{Held, held, bare, how-many, holders-to, holders-in, eqs-in, class-check, stray, checked, verdict-of, merge-all}
+use Rattle.closing.specs.Holding.{Held, held, bare, how-many, holders-to, holders-in, eqs-in, class-check, stray, checked, verdict-of, merge-each}
 use Rattle.closing.specs.Growing.{One, Inside, Closed}
 use Rattle.closing.specs.Meeting.{Reps, ClashIs, Seated}
 use Rattle.closing.specs.Search.{Ready, WalksIs}
@@ -26,14 +28,14 @@ use Rattle.closing.proofs.Joining.{Starts, written-starts}
 use Rattle.closing.proofs.Turning.{exactly}
 use Rattle.closing.proofs.Answering.{answer-clash, answer-walks}
 
-starts-as : (eqs : List ℕ) (hs : List Holder) (c : Classes) → Inside eqs → c ≡ merge-all no-classes (eqs-in eqs) → Starts eqs hs c (length eqs / 2)
+starts-as : (eqs : List ℕ) (hs : List Holder) (c : Classes) → Inside eqs → c ≡ merge-each no-classes (eqs-in eqs) → Starts eqs hs c (length eqs / 2)
 starts-as eqs hs c I e = subst⁻¹ (λ (d : Classes). Starts eqs hs d (length eqs / 2)) e (written-starts eqs hs I)
 
-pub start-well : (eqs p r : List ℕ) (n : ℕ) → Inside eqs → classes p r n ≡ merge-all no-classes (eqs-in eqs) → Well p r n
+pub start-well : (eqs p r : List ℕ) (n : ℕ) → Inside eqs → classes p r n ≡ merge-each no-classes (eqs-in eqs) → Well p r n
 start-well eqs p r n I e = starts-as eqs (holders-to (held eqs eqs eqs eqs) 0) (classes p r n) I e .well
 
 -- what `written` makes of no classes: exactly the least equivalence that holds the written equalities
-pub written-exactly : (eqs : List ℕ) → Inside eqs → (u v : ℕ) → One (merge-all no-classes (eqs-in eqs) .parents) u v ↔ Together (eqs-in eqs) [] u v
+pub written-exactly : (eqs : List ℕ) → Inside eqs → (u v : ℕ) → One (merge-each no-classes (eqs-in eqs) .parents) u v ↔ Together (eqs-in eqs) [] u v
 unfolding holders-to below
 written-exactly eqs I u v = exactly H eqs c (c .parents) (c .ranks) (c .count) 0 S (record { well = S .well; grows = λ a b o. o; sound = λ E R. R; rest = λ h l. absurd (omega arith) }) u v
   where
@@ -41,15 +43,34 @@ written-exactly eqs I u v = exactly H eqs c (c .parents) (c .ranks) (c .count) 0
     H = held [] [] [] []
 
     c : Classes
-    c = merge-all no-classes (eqs-in eqs)
+    c = merge-each no-classes (eqs-in eqs)
 
     S : Starts eqs (holders-to H 0) c (length eqs / 2)
     S = written-starts eqs (holders-to H 0) I
 
+-- and so the labels that paper's rounds start from
+no-holders : (E : List (ℕ × ℕ)) → closure-of 0 E [] ≡ join-all [] E
+unfolding closure-of close pass pairs
+no-holders E = go (same-classes k k)
+  where
+    k : Labels
+    k = join-all [] E
+
+    go : (t : Bool) → elim t as (λ _. Labels) [ true ↦ k | false ↦ k ] ≡ k
+    go true = refl
+    go false = refl
+
+pub written-labels : (eqs : List ℕ) → Inside eqs → (u v : ℕ)
+    → One (merge-each no-classes (eqs-in eqs) .parents) u v ↔ (lowest (join-all [] (eqs-in eqs)) u ≡ lowest (join-all [] (eqs-in eqs)) v)
+written-labels eqs I u v =
+    let w = written-exactly eqs I u v in
+    let c : (lowest (join-all [] (eqs-in eqs)) u ≡ lowest (join-all [] (eqs-in eqs)) v) ↔ Together (eqs-in eqs) [] u v = rw no-holders at (closure-of-is 0 (eqs-in eqs) [] (λ h m. elim m [ ]) u v) in
+    (λ o. c .1 (w .0 o), λ e. w .1 (c .0 e))
+
 pub reps-of : (H : Held) (p q r : List ℕ) (n m : ℕ) → Closed H p q r n m → Reps q
 reps-of H p q r n m C = record { inside = rep-inside q r n (C .well); again = rep-rep q r n (C .well) }
 
-module _ (H : Held) (eqs p r : List ℕ) (n : ℕ) (I : Inside eqs × (Inside (H .sites) × Inside (H .kids))) (e : classes p r n ≡ merge-all no-classes (eqs-in eqs))
+module _ (H : Held) (eqs p r : List ℕ) (n : ℕ) (I : Inside eqs × (Inside (H .sites) × Inside (H .kids))) (e : classes p r n ≡ merge-each no-classes (eqs-in eqs))
     (m w : ℕ) (em : m ≡ how-many H) (ew : w ≡ m) (q s : List ℕ) (k : ℕ) (C : Closed H p q s k w) where
   C' : Closed H p q s k (how-many H)
   C' = subst (λ (x : ℕ). Closed H p q s k x) (ew ∙ em) C

@@ -109,5 +109,5 @@ kept-by c (refused e) = c
 unfoldable pub merged : Classes → ℕ × ℕ → Classes
 merged c e = kept-by c (merge c (e .0) (e .1))
 
-unfoldable pub merge-all : Classes → List (ℕ × ℕ) → Classes
-merge-all c es = foldl merged c es
+unfoldable pub merge-each : Classes → List (ℕ × ℕ) → Classes
+merge-each c es = foldl merged c es

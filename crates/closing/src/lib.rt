@@ -13,7 +13,7 @@ ghost use Rattle.paper.specs.Sites.{same-constraint};
 ghost use Rattle.paper.specs.Classes.{classes};
 ghost use Rattle.classes.specs.Answers.{rep};
 ghost use Rattle.classes.specs.Well.{Well};
-ghost use Rattle.closing.specs.Holding.{held, bare, chart, shape-in, kid-count, kid-in, site-of, row-of, how-many, holders-in, eqs-in, class-check, stray, checked, verdict-of, merge-all};
+ghost use Rattle.closing.specs.Holding.{held, bare, chart, shape-in, kid-count, kid-in, site-of, row-of, how-many, holders-in, eqs-in, class-check, stray, checked, verdict-of, merge-each};
 ghost use Rattle.closing.specs.Growing.{Inside, Equates, JoinsKids, mate, Meets, SweptTo, Closed};
 ghost use Rattle.closing.specs.Meeting.{Reps, Unlike, ClashIs, BossTo, Seated};
 ghost use Rattle.closing.specs.Search.{Path, Ready, Safe, Over, Keeps, Visited, Visit, Extends, Marks, Lowest, WalksIs};
@@ -108,7 +108,7 @@ fn alike(words: &[u64], i: u16, j: u16) -> bool
 
 // Joins the written equalities, two numbers each, in order.
 pub fn written(parents: &mut [u16; SITES], ranks: &mut [u8; SITES], count: &mut u16, eqs: &[u16])
-    ensures { λ _. ⌜ classes (now (parents .exit)) (now (ranks .exit)) (now (count .exit)) ≡ merge-all (classes (now (parents .entry)) (now (ranks .entry)) (now (count .entry))) (eqs-in (now (eqs .entry))) ⌝ }
+    ensures { λ _. ⌜ classes (now (parents .exit)) (now (ranks .exit)) (now (count .exit)) ≡ merge-each (classes (now (parents .entry)) (now (ranks .entry)) (now (count .entry))) (eqs-in (now (eqs .entry))) ⌝ }
 {
     let m = eqs.len() / 2;
     for k in 0..m {

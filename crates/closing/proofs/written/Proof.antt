@@ -6,13 +6,13 @@ use native.Mathlib.Omega.{arith}
 use lib.ListN.{length}
 use Rattle.paper.specs.Words.{below}
 use Rattle.paper.specs.Classes.{classes}
-use Rattle.closing.specs.Holding.{eq-at, merge-all}
+use Rattle.closing.specs.Holding.{eq-at, merge-each}
 use Rattle.closing.proofs.Joining.{all-none, all-step, all-done}
 use Rattle.closing.proofs.written.Statement.{statement}
 use Rattle.closing.proofs.written.Tie as tie
 
 abbrev Inv-loop : tie.InvT-loop
-Inv-loop parents₀ ranks₀ count₀ eqs m k₀ parents ranks count k = (k ≤ m) × (classes parents ranks count ≡ merge-all (classes parents₀ ranks₀ count₀) (below k (eq-at eqs)))
+Inv-loop parents₀ ranks₀ count₀ eqs m k₀ parents ranks count k = (k ≤ m) × (classes parents ranks count ≡ merge-each (classes parents₀ ranks₀ count₀) (below k (eq-at eqs)))
 
 abbrev μ-loop : tie.MeasureT-loop
 μ-loop parents₀ ranks₀ count₀ eqs m k₀ parents ranks count k = m - k
