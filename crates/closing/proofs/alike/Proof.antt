@@ -7,22 +7,22 @@ use Rattle.closing.proofs.alike.Statement.{statement}
 use Rattle.closing.proofs.alike.Tie as tie
 
 wide-requires : tie.Need-wide-requires
-wide-requires c κs = search needs
+wide-requires c κs = tt
 
 mul-a : tie.Need-mul-a
 mul-a c = search needs
 
 wide-requires-2 : tie.Need-wide-requires-2
-wide-requires-2 c κs = search needs
+wide-requires-2 c κs = tt
 
 mul-b : tie.Need-mul-b
 mul-b c = search needs
 
 word-requires : tie.Need-word-requires
-word-requires c κs = search needs
+word-requires c κs = tt
 
 word-requires-2 : tie.Need-word-requires-2
-word-requires-2 c κs = search needs
+word-requires-2 c κs = tt
 
 returns : tie.Need-returns
 returns c =
@@ -32,13 +32,13 @@ add-word : tie.Need-add-word
 add-word c = search needs
 
 word-requires-3 : tie.Need-word-requires-3
-word-requires-3 c κs = search needs
+word-requires-3 c κs = tt
 
 add-word-2 : tie.Need-add-word-2
 add-word-2 c = search needs
 
 word-requires-4 : tie.Need-word-requires-4
-word-requires-4 c κs = search needs
+word-requires-4 c κs = tt
 
 returns-2 : tie.Need-returns-2
 returns-2 c =
@@ -48,13 +48,13 @@ add-word-3 : tie.Need-add-word-3
 add-word-3 c = search needs
 
 word-requires-5 : tie.Need-word-requires-5
-word-requires-5 c κs = search needs
+word-requires-5 c κs = tt
 
 add-word-4 : tie.Need-add-word-4
 add-word-4 c = search needs
 
 word-requires-6 : tie.Need-word-requires-6
-word-requires-6 c κs = search needs
+word-requires-6 c κs = tt
 
 returns-3 : tie.Need-returns-3
 returns-3 c =

@@ -1,29 +1,25 @@
 -- `closing::check` meets its contract. Assumes nothing.
-use borrow.Author.Needs.{needs}
 use Rattle.closing.specs.Holding.{held}
 use Rattle.closing.proofs.Judging.{stray-eqs, stray-sites, stray-kids, all-inside, no-stray-at}
 use Rattle.closing.proofs.check.Statement.{statement}
 use Rattle.closing.proofs.check.Tie as tie
 
 first-stray-requires : tie.Need-first-stray-requires
-first-stray-requires c κs =
-    search needs
+first-stray-requires c κs = tt
 
 returns : tie.Need-returns
 returns c =
     stray-eqs (c .before .before .before .before .before .before .before .args .eqs .now) (held (c .before .before .before .before .before .before .before .args .sites .now) (c .before .before .before .before .before .before .before .args .rows .now) (c .before .before .before .before .before .before .before .args .words .now) (c .before .before .before .before .before .before .before .args .kids .now)) _ (c .before .first-stray .ensures) (c .if1 .taken)
 
 first-stray-requires-2 : tie.Need-first-stray-requires-2
-first-stray-requires-2 c κs =
-    search needs
+first-stray-requires-2 c κs = tt
 
 returns-2 : tie.Need-returns-2
 returns-2 c =
     stray-sites (c .before .before .before .before .before .before .before .before .before .args .eqs .now) (held (c .before .before .before .before .before .before .before .before .before .args .sites .now) (c .before .before .before .before .before .before .before .before .before .args .rows .now) (c .before .before .before .before .before .before .before .before .before .args .words .now) (c .before .before .before .before .before .before .before .before .before .args .kids .now)) _ (c .before .before .before .first-stray .ensures) (c .before .before .if1 .left) _ (c .before .first-stray2 .ensures) (c .if2 .taken)
 
 first-stray-requires-3 : tie.Need-first-stray-requires-3
-first-stray-requires-3 c κs =
-    search needs
+first-stray-requires-3 c κs = tt
 
 returns-3 : tie.Need-returns-3
 returns-3 c =

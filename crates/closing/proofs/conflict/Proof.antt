@@ -1,5 +1,4 @@
 -- `closing::conflict` meets its contract. Assumes nothing.
-use borrow.Author.Needs.{needs}
 use native.Mathlib.Omega.{arith}
 use mathlib.Core.Path.{_≡_}
 use Prim.Native.Nat.{_≤_, _-_}
@@ -24,20 +23,16 @@ seat-requires c κs =
     (c .before .before .before .before .before .before .pre .0, ((omega (arith, c .before .before .before .before .before .before .pre .1 .0 .0, c .before .loop-test .taken), c .before .before .before .before .before .before .pre .1 .0 .1), c .before .before .loop .inv .1))
 
 wide-requires : tie.Need-wide-requires Inv-loop μ-loop
-wide-requires c κs =
-    search needs
+wide-requires c κs = tt
 
 at-requires : tie.Need-at-requires Inv-loop μ-loop
-at-requires c κs =
-    search needs
+at-requires c κs = tt
 
 wide-requires-2 : tie.Need-wide-requires-2 Inv-loop μ-loop
-wide-requires-2 c κs =
-    search needs
+wide-requires-2 c κs = tt
 
 at-requires-2 : tie.Need-at-requires-2 Inv-loop μ-loop
-at-requires-2 c κs =
-    search needs
+at-requires-2 c κs = tt
 
 returns : tie.Need-returns Inv-loop μ-loop
 returns c =

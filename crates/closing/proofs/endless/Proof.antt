@@ -1,6 +1,5 @@
 -- `closing::endless` meets its contract. Assumes nothing.
 use Rattle.paper.specs.Numbers.{max-sites}
-use borrow.Author.Needs.{needs}
 use native.Mathlib.Omega.{arith}
 use mathlib.Core.Path.{_≡_, refl, sym, ap, subst}
 use Prim.Native.Nat.{ℕ, _≤_, _<_, _-_}
@@ -22,8 +21,7 @@ loop-holds c =
     (omega arith, λ k h. absurd (omega arith))
 
 rep-in-requires : tie.Need-rep-in-requires Inv-loop μ-loop
-rep-in-requires c κs =
-    search needs
+rep-in-requires c κs = tt
 
 returning-requires : tie.Need-returning-requires Inv-loop μ-loop
 returning-requires c κs =

@@ -5,7 +5,7 @@ use Rattle.closing.proofs.equate.Statement.{statement}
 use Rattle.closing.proofs.equate.Tie as tie
 
 merge-in-requires : tie.Need-merge-in-requires
-merge-in-requires c κs = search needs
+merge-in-requires c κs = tt
 
 enum-known-j : tie.Need-enum-known-j
 enum-known-j c = search needs

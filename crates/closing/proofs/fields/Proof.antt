@@ -6,39 +6,39 @@ use Rattle.closing.proofs.fields.Statement.{statement}
 use Rattle.closing.proofs.fields.Tie as tie
 
 wide-requires : tie.Need-wide-requires
-wide-requires c κs = search needs
+wide-requires c κs = tt
 
 mul-k : tie.Need-mul-k
 mul-k c = search needs
 
 word-requires : tie.Need-word-requires
-word-requires c κs = search needs
+word-requires c κs = tt
 
 add-word : tie.Need-add-word
 add-word c = search needs
 
 word-requires-2 : tie.Need-word-requires-2
-word-requires-2 c κs = search needs
+word-requires-2 c κs = tt
 
 add-word-2 : tie.Need-add-word-2
 add-word-2 c = search needs
 
 word-requires-3 : tie.Need-word-requires-3
-word-requires-3 c κs = search needs
+word-requires-3 c κs = tt
 
 returns : tie.Need-returns
 returns c =
     fields-int _ _ _ (c .before .before .before .before .wide .ensures) _ _ _ (c .before .before .before .word .ensures) (c .before .before .word2 .ensures) (c .before .word3 .ensures) (c .if1 .taken)
 
 few-requires : tie.Need-few-requires
-few-requires c κs = search needs
+few-requires c κs = tt
 
 returns-2 : tie.Need-returns-2
 returns-2 c =
     fields-third _ _ _ (c .before .before .before .before .before .before .wide .ensures) _ _ _ (c .before .before .before .before .before .word .ensures) (c .before .before .before .before .word2 .ensures) (c .before .before .before .word3 .ensures) (c .before .before .if1 .left) (c .before .if2 .taken) _ (c .few .ensures)
 
 few-requires-2 : tie.Need-few-requires-2
-few-requires-2 c κs = search needs
+few-requires-2 c κs = tt
 
 returns-3 : tie.Need-returns-3
 returns-3 c =

@@ -8,16 +8,13 @@ use Rattle.closing.proofs.judge.Statement.{statement}
 use Rattle.closing.proofs.judge.Tie as tie
 
 most-requires : tie.Need-most-requires
-most-requires c κs =
-    search needs
+most-requires c κs = tt
 
 written-requires : tie.Need-written-requires
-written-requires c κs =
-    search needs
+written-requires c κs = tt
 
 wide-requires : tie.Need-wide-requires
-wide-requires c κs =
-    search needs
+wide-requires c κs = tt
 
 close-requires : tie.Need-close-requires
 close-requires c κs =
@@ -36,8 +33,7 @@ enum-told c =
     search needs
 
 wide-requires-2 : tie.Need-wide-requires-2
-wide-requires-2 c κs =
-    search needs
+wide-requires-2 c κs = tt
 
 walks-requires : tie.Need-walks-requires
 walks-requires c κs =

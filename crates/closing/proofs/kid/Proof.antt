@@ -5,7 +5,7 @@ use Rattle.closing.proofs.kid.Statement.{statement}
 use Rattle.closing.proofs.kid.Tie as tie
 
 wide-requires : tie.Need-wide-requires
-wide-requires c κs = search needs
+wide-requires c κs = tt
 
 mul-at : tie.Need-mul-at
 mul-at c = search needs
@@ -14,7 +14,7 @@ add-at : tie.Need-add-at
 add-at c = search needs
 
 at-requires : tie.Need-at-requires
-at-requires c κs = search needs
+at-requires c κs = tt
 
 returns : tie.Need-returns
 returns c =

@@ -2,21 +2,20 @@
 use mathlib.Core.Path.{_≡_, refl, sym, ap, _∙_}
 use mathlib.Core.Bool.{Bool, true, false, _&&_}
 use Rattle.closing.proofs.Turning.{mates-yes, mates-no}
-use borrow.Author.Needs.{needs}
 use Rattle.closing.proofs.mates.Statement.{statement}
 use Rattle.closing.proofs.mates.Tie as tie
 
 at-requires : tie.Need-at-requires
-at-requires c κs = search needs
+at-requires c κs = tt
 
 alike-requires : tie.Need-alike-requires
-alike-requires c κs = search needs
+alike-requires c κs = tt
 
 at-requires-2 : tie.Need-at-requires-2
-at-requires-2 c κs = search needs
+at-requires-2 c κs = tt
 
 rep-in-requires : tie.Need-rep-in-requires
-rep-in-requires c κs = search needs
+rep-in-requires c κs = tt
 
 returns : tie.Need-returns
 returns c =

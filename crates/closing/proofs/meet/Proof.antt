@@ -1,5 +1,4 @@
 -- `closing::meet` meets its contract. Assumes nothing.
-use borrow.Author.Needs.{needs}
 use native.Mathlib.Omega.{arith}
 use mathlib.Core.Path.{_≡_, refl, sym, _∙_}
 use mathlib.Core.Bool.{false}
@@ -20,32 +19,26 @@ abbrev μ-loop : tie.MeasureT-loop
 μ-loop p₀ r₀ n₀ sites rows words kids h j s b g₀ p r n g = h - g
 
 at-requires : tie.Need-at-requires Inv-loop μ-loop
-at-requires c κs =
-    search needs
+at-requires c κs = tt
 
 at-requires-2 : tie.Need-at-requires-2 Inv-loop μ-loop
-at-requires-2 c κs =
-    search needs
+at-requires-2 c κs = tt
 
 rep-in-requires : tie.Need-rep-in-requires Inv-loop μ-loop
-rep-in-requires c κs =
-    search needs
+rep-in-requires c κs = tt
 
 loop-holds : tie.Need-loop-holds Inv-loop μ-loop
 loop-holds c =
     (omega arith, (refl, (c .before .before .before .before .before .before .before .before .pre .0, λ f l. absurd (omega arith))))
 
 mates-requires : tie.Need-mates-requires Inv-loop μ-loop
-mates-requires c κs =
-    search needs
+mates-requires c κs = tt
 
 at-requires-3 : tie.Need-at-requires-3 Inv-loop μ-loop
-at-requires-3 c κs =
-    search needs
+at-requires-3 c κs = tt
 
 fields-requires : tie.Need-fields-requires Inv-loop μ-loop
-fields-requires c κs =
-    search needs
+fields-requires c κs = tt
 
 join-kids-requires : tie.Need-join-kids-requires Inv-loop μ-loop
 join-kids-requires c κs =

@@ -1,5 +1,4 @@
 -- `closing::ready` meets its contract. Assumes nothing.
-use borrow.Author.Needs.{needs}
 use native.Mathlib.Omega.{arith}
 use mathlib.Core.Path.{_≡_, refl, sym, ap, subst}
 use Prim.Native.Nat.{ℕ, _≤_, _<_, _-_}
@@ -20,8 +19,7 @@ abbrev μ-loop : tie.MeasureT-loop
 μ-loop p boss turned words kids i m f₀ f = m - f
 
 fields-requires : tie.Need-fields-requires Inv-loop μ-loop
-fields-requires c κs =
-    search needs
+fields-requires c κs = tt
 
 loop-holds : tie.Need-loop-holds Inv-loop μ-loop
 loop-holds c =
@@ -32,12 +30,10 @@ kid-requires c κs =
     omega (arith, few-kids (c .before .before .before .before .before .args .words .now) (c .before .before .before .before .before .args .i), c .before .before .fields .ensures, c .loop-test .taken)
 
 rep-in-requires : tie.Need-rep-in-requires Inv-loop μ-loop
-rep-in-requires c κs =
-    search needs
+rep-in-requires c κs = tt
 
 wide-requires : tie.Need-wide-requires Inv-loop μ-loop
-wide-requires c κs =
-    search needs
+wide-requires c κs = tt
 
 over-requires : tie.Need-over-requires Inv-loop μ-loop
 over-requires c κs =

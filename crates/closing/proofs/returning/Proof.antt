@@ -1,6 +1,5 @@
 -- `closing::returning` meets its contract. Assumes nothing.
 use Rattle.paper.specs.Numbers.{max-sites}
-use borrow.Author.Needs.{needs}
 use native.Mathlib.Omega.{arith}
 use mathlib.Core.Path.{_≡_, refl, sym, ap, subst}
 use mathlib.Core.Logic.{inl, inr}
@@ -51,8 +50,7 @@ loop-again c =
     search-step _ _ _ _ _ _ _ _ _ _ _ (c .before .before .before .before .loop .inv) (c .before .before .before .loop-test .taken) (c .visit-kids2 .ensures .0) (c .visit-kids2 .ensures .1 .0) (c .visit-kids2 .ensures .1 .1)
 
 wide-requires : tie.Need-wide-requires Inv-loop μ-loop
-wide-requires c κs =
-    search needs
+wide-requires c κs = tt
 
 array-read-result : tie.Need-array-read-result Inv-loop μ-loop
 array-read-result c =

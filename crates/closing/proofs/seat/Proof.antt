@@ -7,16 +7,16 @@ use Rattle.closing.proofs.seat.Statement.{statement}
 use Rattle.closing.proofs.seat.Tie as tie
 
 wide-requires : tie.Need-wide-requires
-wide-requires c κs = search needs
+wide-requires c κs = tt
 
 at-requires : tie.Need-at-requires
-at-requires c κs = search needs
+at-requires c κs = tt
 
 rep-in-requires : tie.Need-rep-in-requires
-rep-in-requires c κs = search needs
+rep-in-requires c κs = tt
 
 wide-requires-2 : tie.Need-wide-requires-2
-wide-requires-2 c κs = search needs
+wide-requires-2 c κs = tt
 
 mul-b : tie.Need-mul-b
 mul-b c = search needs
@@ -37,16 +37,16 @@ returns c =
     seat-new (bare (c .before .before .before .before .before .before .before .before .before .args .sites .now) (c .before .before .before .before .before .before .before .before .before .args .rows .now) (c .before .before .before .before .before .before .before .before .before .args .words .now)) (c .before .before .before .before .before .before .before .before .before .args .p .now) (c .before .before .before .before .before .before .before .before .before .pre .0) (c .before .before .before .before .before .before .before .before .before .pre .1 .0 .1) (c .before .before .before .before .before .before .before .before .before .args .boss .now) (c .before .before .before .before .before .before .before .before .before .args .h) (c .before .before .before .before .before .before .before .before .before .pre .1 .0 .0) (c .before .before .before .before .before .before .before .before .before .pre .1 .1) _ _ _ _ (c .before .before .before .before .before .wide .ensures) (c .before .before .before .before .at .ensures) (c .before .before .before .rep-in .ensures) (c .before .before .wide2 .ensures) (c .if1 .taken)
 
 at-requires-2 : tie.Need-at-requires-2
-at-requires-2 c κs = search needs
+at-requires-2 c κs = tt
 
 wide-requires-3 : tie.Need-wide-requires-3
-wide-requires-3 c κs = search needs
+wide-requires-3 c κs = tt
 
 at-requires-3 : tie.Need-at-requires-3
-at-requires-3 c κs = search needs
+at-requires-3 c κs = tt
 
 alike-requires : tie.Need-alike-requires
-alike-requires c κs = search needs
+alike-requires c κs = tt
 
 returns-2 : tie.Need-returns-2
 returns-2 c =

@@ -6,10 +6,10 @@ use Rattle.closing.proofs.turn.Statement.{statement}
 use Rattle.closing.proofs.turn.Tie as tie
 
 rep-in-requires : tie.Need-rep-in-requires
-rep-in-requires c κs = search needs
+rep-in-requires c κs = tt
 
 wide-requires : tie.Need-wide-requires
-wide-requires c κs = search needs
+wide-requires c κs = tt
 
 element-copy-out-if1 : tie.Need-element-copy-out-if1
 element-copy-out-if1 c =
@@ -27,10 +27,10 @@ element-copy-out-wide c =
     rep-inside _ _ (c .before .before .before .before .before .before .before .pre .0) _ _ _ (c .before .before .before .before .before .before .before .pre .1 .0) (c .before .before .before .rep-in .ensures) (c .before .before .wide .ensures)
 
 wide-requires-2 : tie.Need-wide-requires-2
-wide-requires-2 c κs = search needs
+wide-requires-2 c κs = tt
 
 at-requires : tie.Need-at-requires
-at-requires c κs = search needs
+at-requires c κs = tt
 
 ready-requires : tie.Need-ready-requires
 ready-requires c κs = search needs

@@ -1,5 +1,4 @@
 -- `closing::turns` meets its contract. Assumes nothing.
-use borrow.Author.Needs.{needs}
 use native.Mathlib.Omega.{arith}
 use mathlib.Core.Path.{_≡_, refl, sym, ap, subst}
 use mathlib.Core.Logic.{inl, inr}
@@ -25,8 +24,7 @@ sub-h c =
     let t = c .loop-test .taken in omega arith
 
 at-requires : tie.Need-at-requires Inv-loop μ-loop
-at-requires c κs =
-    search needs
+at-requires c κs = tt
 
 turn-requires : tie.Need-turn-requires Inv-loop μ-loop
 turn-requires c κs =

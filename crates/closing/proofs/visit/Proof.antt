@@ -9,7 +9,7 @@ use Rattle.closing.proofs.visit.Statement.{statement}
 use Rattle.closing.proofs.visit.Tie as tie
 
 wide-requires : tie.Need-wide-requires
-wide-requires c κs = search needs
+wide-requires c κs = tt
 
 element-copy-out-if1 : tie.Need-element-copy-out-if1
 element-copy-out-if1 c = search needs

@@ -1,5 +1,4 @@
 -- `closing::visit_kids` meets its contract. Assumes nothing.
-use borrow.Author.Needs.{needs}
 use native.Mathlib.Omega.{arith}
 use mathlib.Core.Path.{_≡_, refl, sym, ap, subst}
 use Prim.Native.Nat.{_≤_, _-_}
@@ -15,8 +14,7 @@ abbrev μ-loop : tie.MeasureT-loop
 μ-loop p boss rows words kids l seen₀ queue₀ tail x b i m t₀ f₀ seen queue t f = m - f
 
 wide-requires : tie.Need-wide-requires Inv-loop μ-loop
-wide-requires c κs =
-    search needs
+wide-requires c κs = tt
 
 mul-b : tie.Need-mul-b Inv-loop μ-loop
 mul-b c =
@@ -31,16 +29,13 @@ returns c =
     (c .before .before .before .before .before .before .pre .1 .0, (extends-self _ _ _, no-marks (chart (c .before .before .before .before .before .before .args .rows .now) (c .before .before .before .before .before .before .args .words .now) (c .before .before .before .before .before .before .args .kids .now)) (c .before .before .before .before .before .before .args .p .now) (c .before .before .before .before .before .before .args .boss .now) (c .before .before .before .before .before .before .args .seen .now) (c .before .before .before .before .before .before .args .x) (rw (c .before .before .wide .ensures) at (c .if1 .taken))))
 
 wide-requires-2 : tie.Need-wide-requires-2 Inv-loop μ-loop
-wide-requires-2 c κs =
-    search needs
+wide-requires-2 c κs = tt
 
 at-requires : tie.Need-at-requires Inv-loop μ-loop
-at-requires c κs =
-    search needs
+at-requires c κs = tt
 
 fields-requires : tie.Need-fields-requires Inv-loop μ-loop
-fields-requires c κs =
-    search needs
+fields-requires c κs = tt
 
 loop-holds : tie.Need-loop-holds Inv-loop μ-loop
 loop-holds c =
@@ -51,8 +46,7 @@ kid-requires c κs =
     let h = few-fields (c .before .before .before .before .before .before .before .before .before .before .before .args .rows .now) (c .before .before .before .before .before .before .before .before .before .before .before .args .words .now) (c .before .before .before .before .before .before .before .before .before .before .before .args .kids .now) (c .before .before .before .before .before .before .before .before .before .before .before .args .p .now) (c .before .before .before .before .before .before .before .before .before .before .before .args .boss .now) (c .before .before .before .before .before .before .before .before .before .before .before .pre .0) (c .before .before .before .before .before .before .before .before .before .before .before .args .x) (c .before .before .before .before .before .before .before .before .before .before .before .pre .1 .1 .0) _ _ _ (c .before .before .before .before .before .before .before .wide .ensures) (c .before .before .before .before .before .if1 .left) (c .before .before .before .before .wide2 .ensures) (c .before .before .before .at .ensures) _ (c .before .before .fields .ensures) in let t = c .loop-test .taken in omega arith
 
 rep-in-requires : tie.Need-rep-in-requires Inv-loop μ-loop
-rep-in-requires c κs =
-    search needs
+rep-in-requires c κs = tt
 
 visit-requires : tie.Need-visit-requires Inv-loop μ-loop
 visit-requires c κs =

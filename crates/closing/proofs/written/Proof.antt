@@ -1,5 +1,4 @@
 -- `closing::written` meets its contract. Assumes nothing.
-use borrow.Author.Needs.{needs}
 use mathlib.Core.Path.{_≡_, refl}
 use Prim.Native.Nat.{_≤_, _-_, _/_}
 use native.Mathlib.Omega.{arith}
@@ -50,8 +49,7 @@ shared-slice-read-y c =
     omega arith
 
 merge-in-requires : tie.Need-merge-in-requires Inv-loop μ-loop
-merge-in-requires c κs =
-    search needs
+merge-in-requires c κs = tt
 
 add-k : tie.Need-add-k Inv-loop μ-loop
 add-k c =
