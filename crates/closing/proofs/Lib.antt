@@ -1,0 +1,10 @@
+-- Laws of the class check.
+pub mod Reading
+pub mod Joining
+pub mod Turning
+pub mod Seating
+pub mod Settling
+pub mod Searching
+pub mod Answering
+pub mod Judging
+pub mod Agreeing
