@@ -76,7 +76,7 @@ fn longest(rng: &mut Rng) -> String {
 }
 
 fn any(rng: &mut Rng, sites: usize, removals: usize) -> Call {
-    let mut site = || if rng.chance(2) { 1024 + rng.below(70000) } else { rng.below(sites) };
+    let mut site = || if rng.chance(2) { 1024 + rng.below(64512) } else { rng.below(sites) };
     let (x, y) = (site(), site());
     match rng.below(100) {
         n if n < removals => Call::Remove(x),
@@ -121,7 +121,7 @@ pub fn long(rng: &mut Rng, count: usize) -> String {
         Call::Merge(63, 63),
         Call::Merge(1024, 1024),
         Call::Merge(5, 1024),
-        Call::Find(65536),
+        Call::Find(65535),
         Call::FindMut(1024),
         Call::Same(1023, 1024),
         Call::Remove(1024),

@@ -26,7 +26,8 @@ impl Call {
         let number = |at: usize| -> Option<usize> {
             let word: &str = words.get(at)?;
             let digits = !word.is_empty() && word.bytes().all(|b| b.is_ascii_digit());
-            digits.then(|| word.parse().unwrap_or(usize::MAX))
+            // a site number is two bytes
+            if digits { word.parse::<u16>().ok().map(usize::from) } else { None }
         };
         let (call, length) = match *words.first()? {
             "merge" => (Call::Merge(number(1)?, number(2)?), 3),
