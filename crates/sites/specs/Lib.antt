@@ -1,0 +1,4 @@
+pub mod Kinds
+pub mod Alike
+pub mod Back
+pub mod Shape

@@ -1,0 +1,1 @@
+// A set's sites in lent memory.
