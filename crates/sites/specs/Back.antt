@@ -106,6 +106,7 @@ bool-back (a ∷ s) f p e = go (ltb a 2) refl e
     one : (t : Bool) → eqb a 1 ≡ t → a < 2 → a ≡ flag t
     one true v h = eqb-true a 1 v
     one false v h = let n = eqb-false a 1 v in omega arith
+
     go : (t : Bool) → ltb a 2 ≡ t → then-read (λ _. give (eqb a 1)) (only-if t s) ≡ some p → a ∷ s ≡ flag (p .0) ∷ p .1
     go true v w =
         let q : p ≡ (eqb a 1, s) = cc in
@@ -135,6 +136,7 @@ sites-back (suc n) s f p e = go (two-bytes s) refl e (λ r g. sites-back n r g)
         let b : p .1 ≡ q .1 = ap (λ x. x .1) v in
         let k = g q refl in
         (rw (a, b) (h ∙ ap (λ l. two x ++ l) (k .0) ∙ sym (append-assoc (two x) (joined (map two (q .0))) (q .1))), rw a (ap suc (k .1)))
+
     go : (o : Option (ℕ × List ℕ)) → two-bytes s ≡ o → then-read (λ x r. then-read (λ l. give (x ∷ l)) (sites-read n r)) o ≡ some p → ((r : List ℕ) → Bytes r → (q : List ℕ × List ℕ) → sites-read n r ≡ some q → (r ≡ joined (map two (q .0)) ++ q .1) × (length (q .0) ≡ n)) → (s ≡ joined (map two (p .0)) ++ p .1) × (length (p .0) ≡ suc n)
     go none v w g = let z : _≡_ {A = ℕ} 0 1 = cc in absurd (omega arith)
     go (some q) v w g =
@@ -173,6 +175,7 @@ undo-and {A} {B} {r} {q} {w} Q u v = record { is = λ s f x e. go s f x (r s) re
         let b : x .1 ≡ y .1 = ap (λ x. x .1) d in
         let n : rest ≡ w (y .0) ++ y .1 = v .is rest f y c in
         (p ++ w (y .0), rw b (m ∙ ap (λ l. p ++ l) n ∙ sym (append-assoc p (w (y .0)) (y .1))), rw a (k (y .0)))
+
     go : (s : List ℕ) → Bytes s → (x : B × List ℕ) (o : Option ((A → B) × List ℕ)) → r s ≡ o → then-read (λ h rest. then-read (λ a. give (h a)) (q rest)) o ≡ some x → (p : List ℕ) × (s ≡ p ++ x .1) × Q (x .0) p
     go s f x none c e = let z : _≡_ {A = ℕ} 0 1 = cc in absurd (omega arith)
     go s f x (some y) c e =
@@ -191,22 +194,49 @@ Backs k (r ∷ rs) = Undo r (Of k) × Backs (suc k) rs
 
 backs : Backs 0 site-readers
 unfolding site-readers body body-by two four eight
-backs =
-    (undo-and (Of 0) (undo-and _ (undo-give constBool _ (λ t v. refl)) undo-two) undo-bool,
-    (undo-and (Of 1) (undo-and _ (undo-and _ (undo-give constInt _ (λ t h l. refl)) undo-two) undo-eight) undo-eight,
-    (undo-and (Of 2) (undo-give constPrim _ (λ v. refl)) undo-two,
-    (undo-and (Of 3) (undo-give argument _ (λ i. refl)) undo-byte,
-    (undo-and (Of 4) (undo-and _ (undo-give extractor _ (λ t s. refl)) undo-two) undo-two,
-    (undo-and (Of 5) (undo-and _ (undo-and _ (undo-give constructor _ (λ t n l. refl)) undo-two) undo-four) undo-list,
-    (undo-and (Of 6) (undo-give iterator _ (λ s. refl)) undo-two,
-    (undo-and (Of 7) (undo-and _ (undo-and _ (undo-give makeVariant _ (λ t v l. refl)) undo-two) undo-two) undo-list,
-    (undo-and (Of 8) (undo-and _ (undo-and _ (undo-give matchVariant _ (λ s v f. refl)) undo-two) undo-two) undo-byte,
-    (undo-and (Of 9) (undo-and _ (undo-give makeStruct _ (λ t l. refl)) undo-two) undo-list,
-    (undo-and (Of 10) (undo-and _ (undo-give extractStruct _ (λ s f. refl)) undo-two) undo-byte,
-    (undo-and (Of 11) (undo-give makeSome _ (λ s. refl)) undo-two,
-    (undo-and (Of 12) (undo-give matchSome _ (λ s. refl)) undo-two,
-    (undo-and (Of 13) (undo-and _ (undo-give matchTuple _ (λ s f. refl)) undo-two) undo-byte,
-    tt))))))))))))))
+backs = (
+  undo-and (Of 0) (undo-and _ (undo-give constBool _ (λ t v. refl)) undo-two) undo-bool,
+  (
+    undo-and (Of 1) (undo-and _ (undo-and _ (undo-give constInt _ (λ t h l. refl)) undo-two) undo-eight) undo-eight,
+    (
+      undo-and (Of 2) (undo-give constPrim _ (λ v. refl)) undo-two,
+      (
+        undo-and (Of 3) (undo-give argument _ (λ i. refl)) undo-byte,
+        (
+          undo-and (Of 4) (undo-and _ (undo-give extractor _ (λ t s. refl)) undo-two) undo-two,
+          (
+            undo-and (Of 5) (undo-and _ (undo-and _ (undo-give constructor _ (λ t n l. refl)) undo-two) undo-four) undo-list,
+            (
+              undo-and (Of 6) (undo-give iterator _ (λ s. refl)) undo-two,
+              (
+                undo-and (Of 7) (undo-and _ (undo-and _ (undo-give makeVariant _ (λ t v l. refl)) undo-two) undo-two) undo-list,
+                (
+                  undo-and (Of 8) (undo-and _ (undo-and _ (undo-give matchVariant _ (λ s v f. refl)) undo-two) undo-two) undo-byte,
+                  (
+                    undo-and (Of 9) (undo-and _ (undo-give makeStruct _ (λ t l. refl)) undo-two) undo-list,
+                    (
+                      undo-and (Of 10) (undo-and _ (undo-give extractStruct _ (λ s f. refl)) undo-two) undo-byte,
+                      (
+                        undo-and (Of 11) (undo-give makeSome _ (λ s. refl)) undo-two,
+                        (
+                          undo-and (Of 12) (undo-give matchSome _ (λ s. refl)) undo-two,
+                          (
+                            undo-and (Of 13) (undo-and _ (undo-give matchTuple _ (λ s f. refl)) undo-two) undo-byte,
+                            tt,
+                          ),
+                        ),
+                      ),
+                    ),
+                  ),
+                ),
+              ),
+            ),
+          ),
+        ),
+      ),
+    ),
+  ),
+)
 
 refused-back : (k : ℕ) → Undo refuse (Of k)
 refused-back k = record { is = λ s f x e. let z : _≡_ {A = ℕ} 0 1 = cc in absurd (omega arith) }
@@ -224,6 +254,7 @@ back (k ∷ b) f s e = go (getD site-readers k refuse b) refl e
   where
     z : 0 + k ≡ k
     z = omega arith
+
     go : (o : Option (Site × List ℕ)) → getD site-readers k refuse b ≡ o → whole o ≡ some s → body s ≡ k ∷ b
     go none q w = let z : _≡_ {A = ℕ} 0 1 = cc in absurd (omega arith)
     go (some (x, [])) q w =

@@ -1,3 +1,4 @@
+pub mod Slots
 pub mod Kinds
 pub mod Alike
 pub mod Back

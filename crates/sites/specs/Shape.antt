@@ -58,6 +58,7 @@ and-takes {A} {B} r q j k f g s = go (r s) (f s)
     next : (h : A → B) (rest : List ℕ) → j ≤ length s → rest ≡ drop j s → (o : Option (A × List ℕ)) → Fixed-at k rest o → Fixed-at (j + k) s (then-read (λ a. give (h a)) o)
     next h rest l e none w = let m = ap length e ∙ length-drop j s in omega arith
     next h rest l e (some p) w = let m = ap length e ∙ length-drop j s in (omega arith, (w .1 ∙ ap (drop k) e) ∙ drop-drop k j s)
+
     go : (o : Option ((A → B) × List ℕ)) → Fixed-at j s o → Fixed-at (j + k) s (then-read (λ h rest. then-read (λ a. give (h a)) (q rest)) o)
     go none w = omega arith
     go (some p) w = next (p .0) (p .1) (w .0) (w .1) (q (p .1)) (g (p .1))
@@ -76,6 +77,7 @@ sites-takes (suc n) s = go (two-bytes s) (number-takes 0 2 s) (λ t. sites-takes
         let m = ap length e ∙ length-drop 2 s in
         let k : 2 + n * 2 ≡ suc n * 2 = omega arith in
         (omega arith, ((w .1 ∙ ap (drop (n * 2)) e) ∙ drop-drop (n * 2) 2 s) ∙ ap (λ i. drop i s) k)
+
     go : (o : Option (ℕ × List ℕ)) → Fixed-at 2 s o → ((t : List ℕ) → Fixed-at (n * 2) t (sites-read n t)) → Fixed-at (suc n * 2) s (then-read (λ x r. then-read (λ l. give (x ∷ l)) (sites-read n r)) o)
     go none w f = omega arith
     go (some p) w f = next (p .0) (p .1) (w .0) (w .1) (sites-read n (p .1)) (f (p .1))
@@ -104,6 +106,7 @@ both-as o a b c d f g h = go (eqb c d) refl
     last : (t : Bool) → false ≡ t && false
     last true = refl
     last false = refl
+
     go : (t : Bool) → eqb c d ≡ t → t ≡ leb o a && eqb a b
     go true e = let q = f (eqb-true c d e) in rw (le-leb o a (h q), eq-eqb a b q)
     go false e = rw (ne-eqb a b (λ q. eqb-false c d e (g q))) (last (leb o a))
@@ -173,21 +176,46 @@ unfolding site-readers
 rows =
     let two = fixed-number 2 in
     let four = fixed-number 4 in
-    let eight = fixed-number 8 in
-    (none-is 19 0 refl (fixed-and (fixed-and (fixed-and (fixed-give constInt) two) eight) eight),
-    (none-is 3 0 refl (fixed-and (fixed-give constPrim) two),
-    (none-is 2 0 refl (fixed-and (fixed-give argument) fixed-byte),
-    (one-is 3 0 refl (fixed-and (fixed-and (fixed-give extractor) two) two),
-    (list-is (fixed-and (fixed-and (fixed-give constructor) two) four),
-    (one-is 1 0 refl (fixed-and (fixed-give iterator) two),
-    (list-is (fixed-and (fixed-and (fixed-give makeVariant) two) two),
-    (one-is 1 3 refl (fixed-and (fixed-and (fixed-and (fixed-give matchVariant) two) two) fixed-byte),
-    (list-is (fixed-and (fixed-give makeStruct) two),
-    (one-is 1 1 refl (fixed-and (fixed-and (fixed-give extractStruct) two) fixed-byte),
-    (one-is 1 0 refl (fixed-and (fixed-give makeSome) two),
-    (one-is 1 0 refl (fixed-and (fixed-give matchSome) two),
-    (one-is 1 1 refl (fixed-and (fixed-and (fixed-give matchTuple) two) fixed-byte),
-    tt)))))))))))))
+    let eight = fixed-number 8 in (
+      none-is 19 0 refl (fixed-and (fixed-and (fixed-and (fixed-give constInt) two) eight) eight),
+      (
+        none-is 3 0 refl (fixed-and (fixed-give constPrim) two),
+        (
+          none-is 2 0 refl (fixed-and (fixed-give argument) fixed-byte),
+          (
+            one-is 3 0 refl (fixed-and (fixed-and (fixed-give extractor) two) two),
+            (
+              list-is (fixed-and (fixed-and (fixed-give constructor) two) four),
+              (
+                one-is 1 0 refl (fixed-and (fixed-give iterator) two),
+                (
+                  list-is (fixed-and (fixed-and (fixed-give makeVariant) two) two),
+                  (
+                    one-is 1 3 refl (fixed-and (fixed-and (fixed-and (fixed-give matchVariant) two) two) fixed-byte),
+                    (
+                      list-is (fixed-and (fixed-give makeStruct) two),
+                      (
+                        one-is 1 1 refl (fixed-and (fixed-and (fixed-give extractStruct) two) fixed-byte),
+                        (
+                          one-is 1 0 refl (fixed-and (fixed-give makeSome) two),
+                          (
+                            one-is 1 0 refl (fixed-and (fixed-give matchSome) two),
+                            (
+                              one-is 1 1 refl (fixed-and (fixed-and (fixed-give matchTuple) two) fixed-byte),
+                              tt,
+                            ),
+                          ),
+                        ),
+                      ),
+                    ),
+                  ),
+                ),
+              ),
+            ),
+          ),
+        ),
+      ),
+    )
 
 tested : (k : ℕ) (s : List ℕ) → suc k < 14 → is-body (suc k ∷ s) ≡ leb (off-of (suc k ∷ s)) (length (suc k ∷ s)) && eqb (length (suc k ∷ s)) (off-of (suc k ∷ s) + 2 * many-of (suc k ∷ s) + tail-of (suc k ∷ s))
 unfolding is-body site-read site-readers test off-of many-of tail-of
