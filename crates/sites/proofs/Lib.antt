@@ -5,3 +5,4 @@ pub mod Put
 pub mod Kids
 pub mod Unfolds
 pub mod Adds
+pub mod Families

@@ -109,7 +109,7 @@ module _ (m b : List ℕ) (i at n : ℕ) (p : at ≡ i * slot) (h : at + slot �
   holds-all r q k w = rw (here (omega arith), q) w
 
 -- ---- searching
-same-site-false : (a b : Site) → (a ≡ b → ⊥) → same-site a b ≡ false
+pub same-site-false : (a b : Site) → (a ≡ b → ⊥) → same-site a b ≡ false
 same-site-false a b f = go (same-site a b) refl
   where
     go : (t : Bool) → same-site a b ≡ t → t ≡ false

@@ -1,4 +1,5 @@
 pub mod Slots
+pub mod Family
 pub mod Kinds
 pub mod Alike
 pub mod Back

@@ -10,7 +10,8 @@ ghost use Rattle.paper.specs.Sites.{sources, term-of, parent, number-of, child,
 ghost use Rattle.sites.specs.Kinds.{off-of, many-of, words, kind};
 ghost use Rattle.sites.specs.Shape.{is-body};
 ghost use Rattle.sites.specs.Slots.{slot, no-site, site-of, slot-body, site-in, sites-in, found-as, missing, admits-body, verdict-as, added-in, numbered-as, after-add, put, link-of, children-in, children-as, after-all, unfolded-as, after-unfold, Writes, Findable, unfolded-in, store, Spells};
-ghost use Rattle.paper.specs.Numbers.{refused};
+ghost use Rattle.paper.specs.Numbers.{max-fields, refused};
+ghost use Rattle.sites.specs.Family.{turn-as, fresh, Tallied, placed, Placing};
 use paper::Constraint;
 use paper::FIELDS;
 use paper::Found;
@@ -513,6 +514,144 @@ pub fn child_number(m: &[u8], count: u16, s: u16, c: Constraint, i: u8) -> Found
     let b = k.bytes;
     let n = k.len;
     find(m, count, &b[..n])
+}
+
+// One child's number, and the next number that is free; or there is none.
+pub struct Turn {
+    pub number: u16,
+    pub next: u16,
+    pub full: bool,
+}
+
+fn number_child(m: &[u8], count: u16, next: u16, s: u16, c: Constraint, i: u8) -> Turn
+    ensures { λ r. ⌜ r ≡ turn-as next (number-of (sites-in (now (m .entry)) count) (child s c i)) ⌝ }
+{
+    let found = child_number(m, count, s, c, i);
+    if let Found::At(n) = found {
+        return Turn {
+            number: n,
+            next,
+            full: false,
+        };
+    }
+    if SITES <= next as usize {
+        return Turn {
+            number: 0,
+            next,
+            full: true,
+        };
+    }
+    Turn {
+        number: next,
+        next: next + 1,
+        full: false,
+    }
+}
+
+// The numbers of all children, and the count of sites with them; or there are too many.
+pub struct Tally {
+    pub numbers: [u16; FIELDS],
+    pub next: u16,
+    pub full: bool,
+}
+
+// Writes nothing: what is missing here is not found among the children themselves, since they differ by field.
+fn number_children(m: &[u8], count: u16, s: u16, c: Constraint, k: u8) -> Tally
+    requires { ⌜ (k ≡ child-count c) × (k ≤ max-fields) × (s < count) ⌝ }
+    ensures { λ r. ⌜ Tallied (sites-in (now (m .entry)) count) s c r ⌝ }
+{
+    let mut numbers = [0u16; FIELDS];
+    let mut next = count;
+    let mut i: u8 = 0;
+    while i < k {
+        let t = number_child(m, count, next, s, c, i);
+        if t.full {
+            return Tally {
+                numbers,
+                next,
+                full: true,
+            };
+        }
+        numbers[i as usize] = t.number;
+        next = t.next;
+        i += 1;
+    }
+    Tally {
+        numbers,
+        next,
+        full: false,
+    }
+}
+
+// Writes child i into slot v, if it is a new one.
+fn place_child(m: &mut [u8], count: u16, v: u16, s: u16, c: Constraint, i: u8)
+    requires { ⌜ (count ≤ v → v * slot + slot ≤ length (now m)) ⌝ }
+    ensures { λ _. ⌜ now (m .exit) ≡ placed (now (m .entry)) count v (child s c i) ⌝ }
+{
+    if v < count {
+        return;
+    }
+    let k = child_body(s, c, i);
+    let b = k.bytes;
+    let n = k.len;
+    store(m, v, &b[..n]);
+}
+
+fn place_children(m: &mut [u8], count: u16, s: u16, c: Constraint, k: u8, numbers: [u16; FIELDS])
+    requires { ⌜ Placing (now m) count s c k numbers ⌝ }
+    ensures { λ _. ⌜ now (m .exit) ≡ store (now (m .entry)) count (fresh (sites-in (now (m .entry)) count) s c k) ⌝ }
+{
+    let mut i: u8 = 0;
+    while i < k {
+        place_child(m, count, numbers[i as usize], s, c, i);
+        i += 1;
+    }
+}
+
+fn no_children(r: Refusal) -> Children
+    ensures { λ x. ⌜ x ≡ children-as 0 Constraint.Some (refused r) ⌝ }
+{
+    Children {
+        outcome: Given::Refused(r),
+        numbers: [0u16; FIELDS],
+    }
+}
+
+// Adds the children of the site s under the constraint c, all or none. `at` is the item that asks.
+pub fn add_children(m: &mut [u8], count: u16, s: u16, c: Constraint, at: u32) -> Children
+    ensures { λ r. ⌜ (r ≡ children-as s c (children-in (now (m .entry)) count at s c))
+        × (now (m .exit) ≡ after-all (now (m .entry)) count (children-in (now (m .entry)) count at s c)) ⌝ }
+{
+    if count <= s {
+        return no_children(Refusal::Unknown { site: s });
+    }
+    let k = child_count(c);
+    if FIELDS < wide(k) {
+        return no_children(Refusal::TooManyFields {
+            asked: k as u32,
+            at,
+        });
+    }
+    let t = number_children(m, count, s, c, k);
+    let next = t.next;
+    if t.full {
+        return no_children(Refusal::TooManySites {
+            asked: next as u32 + 1,
+            at,
+        });
+    }
+    if m.len() < next as usize * SLOT {
+        return no_children(Refusal::TooManySites {
+            asked: next as u32,
+            at,
+        });
+    }
+    let numbers = t.numbers;
+    place_children(m, count, s, c, k, numbers);
+    Children {
+        outcome: Given::To(next),
+        numbers,
+    }
 }
 
 // Writes s from `at` on, if the room reaches that far.
