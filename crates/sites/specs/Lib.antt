@@ -1,0 +1,6 @@
+pub mod Slots
+pub mod Family
+pub mod Kinds
+pub mod Alike
+pub mod Back
+pub mod Shape
