@@ -1,4 +1,4 @@
--- The cases of readings.md, each sheet with its answer.
+-- The cases of the rulings in docs/DECISIONS.md, each sheet with its answer.
 use mathlib.Core.Path.{_≡_, refl}
 use mathlib.Core.List.{List, [], _∷_, _++_}
 use Rattle.paper.specs.Sheets.{findings, all-sheets}
