@@ -1,0 +1,4 @@
+pub mod PackLaws
+pub mod CountLaws
+pub mod StoreLaws
+pub mod TurnLaws
