@@ -18,7 +18,7 @@ use Rattle.paper.specs.Sites.{Site, Sites, child-count, child, children, number
 use Rattle.sites.specs.Slots.{children-as}
 use Rattle.sites.specs.declared.Children.{Children}
 use Rattle.sites.specs.declared.Given.the-variants as given
-use Rattle.growth.specs.Tail.{word-of, table, grown, after-grown, refused-as, holes, Numbers, Sees, news, Ready, Placed}
+use Rattle.growth.specs.Tail.{word-of, table, grown, after-grown, refused-as, holds, holes, Numbers, Sees, news, Ready, Placed}
 use Rattle.growth.specs.ScanLaws.{length-below, table-length}
 use Rattle.growth.specs.GrowLaws.{news-holes, all-fit, all-full, all-unknown, all-none}
 use Rattle.growth.specs.declared.Seen.{Seen}
@@ -59,7 +59,7 @@ refuse-is r = ap (λ l. record { outcome = given.Refused r; numbers = l }) (sym 
 
 module _ (m : List ℕ) (n : ℕ) (tail : List ℕ) (k at s : ℕ) (c : Constraint) where
   abbrev pub Answer : Children → List ℕ → Type 0
-  Answer x tail′ = (x ≡ children-as s c (grown m n tail k at s c)) × (tail′ ≡ after-grown n tail k (grown m n tail k at s c))
+  Answer x tail′ = (x ≡ children-as s c (grown m n tail k at s c)) × (tail′ ≡ after-grown n tail k (grown m n tail k at s c)) × holds m n tail′ (grown m n tail k at s c)
 
   abbrev t : Sites
   t = table m n tail k
@@ -68,7 +68,7 @@ module _ (m : List ℕ) (n : ℕ) (tail : List ℕ) (k at s : ℕ) (c : Constrai
   size = table-length m n tail k
 
   answer-refused : (x : Children) (r : Refusal) → x ≡ refused-as r → grown m n tail k at s c ≡ refused r → Answer x tail
-  answer-refused x r e g = (e ∙ ap (children-as s c) (sym g), ap (after-grown n tail k) (sym g))
+  answer-refused x r e g = (e ∙ ap (children-as s c) (sym g), ap (after-grown n tail k) (sym g), rw g tt)
 
   pub answer-short : (x : Children) (a : ℕ) → x ≡ refused-as (TooManySites a at) → a ≡ n + k → length tail < max-sites → Answer x tail
   unfolding grown
@@ -100,8 +100,9 @@ module _ (m : List ℕ) (n : ℕ) (tail : List ℕ) (k at s : ℕ) (c : Constrai
         answer-none a q e =
             let g : grown m n tail k at s c ≡ done t = on ∙ all-none t s c at e in
             let z : a ≡ length t = q ∙ sym size in
+            let back : length t - n ≡ k = omega (arith, size) in
             let y : drop (n + k) t ≡ [] = ap (drop (n + k)) (sym (append-nil t)) ∙ dropped [] in
-            ((rw z (ap (λ o. record { outcome = given.To (length t); numbers = o }) (no-numbers e))) ∙ ap (children-as s c) (sym g), ap (λ r. sets tail k (map word-of r)) (sym y) ∙ ap (after-grown n tail k) (sym g))
+            ((rw z (ap (λ o. record { outcome = given.To (length t); numbers = o }) (no-numbers e))) ∙ ap (children-as s c) (sym g), ap (λ r. sets tail k (map word-of r)) (sym y) ∙ ap (after-grown n tail k) (sym g), rw g (rw back))
 
         pub answer-unknown : (x : Children) → x ≡ refused-as (Unknown s) → (child-count c ≡ 0 → ⊥) → n + k ≤ s → Answer x tail
         answer-unknown x e z q = answer-refused x (Unknown s) e (on ∙ all-unknown t s c at (omega (arith, size)) (positive (child-count c) z))
@@ -122,11 +123,13 @@ module _ (m : List ℕ) (n : ℕ) (tail : List ℕ) (k at s : ℕ) (c : Constrai
           pub answer-ready : S .missing ≤ max-sites - (n + k) → Ready t n k s c (S .numbers) tail
           answer-ready g = record { few = f; seen = W .numbers; size = size; small = h; room = omega (arith, missing); long = l }
 
-          pub answer-done : (of tail′ : List ℕ) (a : ℕ) → Placed t s c (child-count c) of → tail′ ≡ sets tail k (map word-of (news t s c (child-count c))) → a ≡ n + k + S .missing → S .missing ≤ max-sites - (n + k) → Answer (record { outcome = given.To a; numbers = of }) tail′
-          answer-done of tail′ a P e q g =
+          pub answer-done : (of tail′ : List ℕ) (a : ℕ) → Placed t s c (child-count c) of → tail′ ≡ sets tail k (map word-of (news t s c (child-count c))) → table m n tail′ (k + length (news t s c (child-count c))) ≡ t ++ news t s c (child-count c) → a ≡ n + k + S .missing → S .missing ≤ max-sites - (n + k) → Answer (record { outcome = given.To a; numbers = of }) tail′
+          answer-done of tail′ a P e b′ q g =
               let w : grown m n tail k at s c ≡ done (t ++ news t s c (child-count c)) = on ∙ all-fit t s c at (omega (arith, size)) (omega (arith, size, missing)) in
               let z : a ≡ length (t ++ news t s c (child-count c)) = let y = length-append t (news t s c (child-count c)) in omega (arith, size, missing) in
+              let back : length (t ++ news t s c (child-count c)) - n ≡ k + length (news t s c (child-count c)) = let y = length-append t (news t s c (child-count c)) in omega (arith, size) in
               let v = placed-numbers t s c of f P in (
                 ap (λ i. record { outcome = given.To i; numbers = of }) z ∙ ap (λ o. record { outcome = given.To (length (t ++ news t s c (child-count c))); numbers = o }) v ∙ ap (children-as s c) (sym w),
                 e ∙ ap (λ r. sets tail k (map word-of r)) (sym (dropped (news t s c (child-count c)))) ∙ ap (after-grown n tail k) (sym w),
+                rw w (rw back b′),
               )

@@ -21,9 +21,9 @@ use Rattle.paper.specs.Laws.{number-front, number-on, plus, first-here, first-n
 use Rattle.sites.specs.Slots.{children-as}
 use Rattle.sites.specs.declared.Children.{Children}
 use Rattle.sites.specs.declared.Given.the-variants as given
-use Rattle.growth.specs.Tail.{word-of, Spelt, table, grown, after-grown, holes, Numbers, Sees, news, Ready, Placed}
-use Rattle.growth.specs.WordLaws.{child-apart}
-use Rattle.growth.specs.ScanLaws.{length-below, table-length, number-other, number-new, number-inside, is-none, is-some}
+use Rattle.growth.specs.Tail.{word-of, site-of-word, Spelt, table, grown, after-grown, holes, Numbers, Sees, news, Ready, Placed}
+use Rattle.growth.specs.WordLaws.{child-apart, child-positive}
+use Rattle.growth.specs.ScanLaws.{length-below, table-length, table-more, number-other, number-new, number-inside, is-none, is-some}
 
 -- ---- adding one by one
 
@@ -385,3 +385,37 @@ module _ (t : Sites) (n k s : ℕ) (c : Constraint) (of tail : List ℕ) (R : Re
 
     pub next-old : (tail″ now′ : List ℕ) (j′ : ℕ) → (getD of q 0 ≡ 65535 → ⊥) → tail″ ≡ tail′ → now′ ≡ set now q (getD of q 0) → j′ ≡ j → Placing t k s c tail tail″ now′ j′ (q + 1)
     next-old tail″ now′ j′ e a b d = rw (a, b, d) (place-old e)
+
+-- the tail holds the table as it grows
+abbrev pub Whole : List ℕ → ℕ → List ℕ → ℕ → ℕ → Constraint → List ℕ → ℕ → ℕ → Type 0
+Whole m n tail k s c tail′ j q = table m n tail′ j ≡ table m n tail k ++ news (table m n tail k) s c q
+
+module _ (m : List ℕ) (n : ℕ) (tail : List ℕ) (k s : ℕ) (c : Constraint) where
+  abbrev now-there : Sites
+  now-there = table m n tail k
+
+  pub whole-start : (j : ℕ) → j ≡ k → Whole m n tail k s c tail j 0
+  unfolding news
+  whole-start j e = rw e (sym (append-nil now-there))
+
+  module _ (of tail′ : List ℕ) (j q : ℕ) (R : Ready now-there n k s c of tail) (H : Whole m n tail k s c tail′ j q) (l : q < child-count c) where
+    size-there : length now-there < 65536
+    size-there = let a = R .size in let b = R .small in omega arith
+
+    pub whole-new : (w : ℕ) (tail″ : List ℕ) (j′ : ℕ) → getD of q 0 ≡ 65535 → Spelt (child s c q) w → tail″ ≡ set tail′ j w → j′ ≡ j + 1 → j < length tail′ → Whole m n tail k s c tail″ j′ (q + 1)
+    whole-new w tail″ j′ e x a b h =
+        let y = child-positive s c q in
+        let i = x .is in
+        let absent = is-none now-there (child s c q) (getD of q 0) size-there (R .seen .each q l) e in
+        let u : table m n (set tail′ j w) (suc j) ≡ (now-there ++ news now-there s c q) ++ (child s c q ∷ []) = table-more m n tail′ j w h ∙ ap (λ r. r ++ (site-of-word w ∷ [])) H ∙ ap (λ r. (now-there ++ news now-there s c q) ++ (r ∷ [])) (x .back (omega arith)) in
+        let v : now-there ++ news now-there s c (suc q) ≡ (now-there ++ news now-there s c q) ++ (child s c q ∷ []) = ap (λ r. now-there ++ r) (news-none now-there s c q absent) ∙ sym (append-assoc now-there (news now-there s c q) (child s c q ∷ [])) in
+        rw (a, b, add-one j, add-one q) (u ∙ sym v)
+
+    pub whole-old : (tail″ : List ℕ) (j′ : ℕ) → (getD of q 0 ≡ 65535 → ⊥) → tail″ ≡ tail′ → j′ ≡ j → Whole m n tail k s c tail″ j′ (q + 1)
+    whole-old tail″ j′ e a b =
+        let present = is-some now-there (child s c q) (getD of q 0) size-there (R .seen .each q l) e in
+        let v : now-there ++ news now-there s c (suc q) ≡ now-there ++ news now-there s c q = ap (λ r. now-there ++ r) (news-some now-there s c q (getD of q 0) present) in
+        rw (a, b, add-one q) (H ∙ sym v)
+
+  pub whole-end : (tail′ now : List ℕ) (j q : ℕ) → Placing now-there k s c tail tail′ now j q → Whole m n tail k s c tail′ j q → child-count c ≤ q → table m n tail′ (k + length (news now-there s c (child-count c))) ≡ now-there ++ news now-there s c (child-count c)
+  whole-end tail′ now j q P H h = let l = P .low in let e : child-count c ≡ q = omega arith in let i = P .next in rw (e, ← i) H

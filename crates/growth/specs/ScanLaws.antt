@@ -63,6 +63,13 @@ module _ (m : List ℕ) (n : ℕ) (tail : List ℕ) where
   pub table-length : (k : ℕ) → length (table m n tail k) ≡ n + k
   table-length k = ap length (table-is k) ∙ length-below (n + k) (site-there m n tail)
 
+pub table-more : (m : List ℕ) (n : ℕ) (tail : List ℕ) (j w : ℕ) → j < length tail → table m n (set tail j w) (suc j) ≡ table m n tail j ++ (site-of-word w ∷ [])
+unfolding table below
+table-more m n tail j w h =
+    let a : below j (λ i. site-of-word (getD (set tail j w) i 0)) ≡ below j (λ i. site-of-word (getD tail i 0)) = below-same j (λ i. site-of-word (getD (set tail j w) i 0)) (λ i. site-of-word (getD tail i 0)) (λ i l. ap site-of-word (getD-set-other tail j i w 0 (λ z. omega arith))) in
+    let b : getD (set tail j w) j 0 ≡ w = getD-set-same tail j w 0 h in
+    rw (a, b) (sym (append-assoc (sites-in m n) (below j (λ i. site-of-word (getD tail i 0))) (site-of-word w ∷ [])))
+
 -- ---- the number of a site in a table with one more
 
 pub number-other : (t : Sites) (x y : Site) → (x ≡ y → ⊥) → number-of (t ++ (x ∷ [])) y ≡ number-of t y

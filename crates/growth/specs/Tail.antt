@@ -69,6 +69,11 @@ abbrev pub after-grown : ℕ → List ℕ → ℕ → Outcome Sites → List ℕ
 after-grown n tail k (done t) = sets tail k (map word-of (drop (n + k) t))
 after-grown n tail k (refused r) = tail
 
+-- the tail then holds the new table
+abbrev pub holds : List ℕ → ℕ → List ℕ → Outcome Sites → Type 0
+holds m n tail (done t) = table m n tail (length t - n) ≡ t
+holds m n tail (refused r) = Unit {0}
+
 -- a refusal as the answer
 abbrev pub refused-as : Refusal → Children
 refused-as r = record { outcome = given.Refused r; numbers = below max-fields (λ i. 0) }

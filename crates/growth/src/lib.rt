@@ -1,7 +1,7 @@
 // A set's table on its way through one rule: the sites in lent memory, and after them the children that the rule adds, each as one word of a tail.
 // The lent memory is only read, so that a refused rule leaves it as it was.
 ghost use mathlib.Core.Path.{_≡_};
-ghost use mathlib.Core.List.{map};
+ghost use mathlib.Core.List.{_++_, map};
 ghost use Prim.Native.Nat.{_+_, _-_, _≤_, _<_};
 ghost use lib.ListN.{length};
 ghost use lib.Seq.{sets};
@@ -9,7 +9,7 @@ ghost use Rattle.paper.specs.Words.{any};
 ghost use Rattle.paper.specs.Numbers.{max-sites, max-fields};
 ghost use Rattle.paper.specs.Sites.{child, children, child-count, same-site, matchVariant, extractStruct, matchSome};
 ghost use Rattle.sites.specs.Slots.{site-in, children-as};
-ghost use Rattle.growth.specs.Tail.{word-of, refused-as, site-of-word, Spelt, site-there, table, grown, after-grown, Field, Notes, Sees, news, Ready, Placed};
+ghost use Rattle.growth.specs.Tail.{word-of, refused-as, site-of-word, Spelt, site-there, table, grown, after-grown, holds, Field, Notes, Sees, news, Ready, Placed};
 use paper::Constraint;
 use paper::FIELDS;
 use paper::Refusal;
@@ -216,7 +216,8 @@ fn place(
 ) -> [u16; FIELDS]
     requires { ⌜ Ready (table (now m) n (now tail) k) n k s c of (now tail) ⌝ }
     ensures { λ r. ⌜ (Placed (table (now (m .entry)) n (now (tail .entry)) k) s c (child-count c) r)
-        × (now (tail .exit) ≡ sets (now (tail .entry)) k (map word-of (news (table (now (m .entry)) n (now (tail .entry)) k) s c (child-count c)))) ⌝ }
+        × (now (tail .exit) ≡ sets (now (tail .entry)) k (map word-of (news (table (now (m .entry)) n (now (tail .entry)) k) s c (child-count c))))
+        × (table (now (m .entry)) n (now (tail .exit)) (k + length (news (table (now (m .entry)) n (now (tail .entry)) k) s c (child-count c))) ≡ table (now (m .entry)) n (now (tail .entry)) k ++ news (table (now (m .entry)) n (now (tail .entry)) k) s c (child-count c)) ⌝ }
 {
     let count = arity(c);
     let mut numbers = [0u16; FIELDS];
@@ -256,7 +257,8 @@ pub fn add_children(
     c: Constraint,
 ) -> Children
     ensures { λ r. ⌜ (r ≡ children-as s c (grown (now (m .entry)) n (now (tail .entry)) k at s c))
-        × (now (tail .exit) ≡ after-grown n (now (tail .entry)) k (grown (now (m .entry)) n (now (tail .entry)) k at s c)) ⌝ }
+        × (now (tail .exit) ≡ after-grown n (now (tail .entry)) k (grown (now (m .entry)) n (now (tail .entry)) k at s c))
+        × (holds (now (m .entry)) n (now (tail .exit)) (grown (now (m .entry)) n (now (tail .entry)) k at s c)) ⌝ }
 {
     let total = size(n) + size(k);
     if tail.len() < SITES {
