@@ -10,8 +10,8 @@ use lib.Dec.{eqb, ltb, leb}
 use borrow.Author.Tests.{lt-ltb, le-ltb, ne-eqb, eqb-true, eqb-false, ltb-true, ltb-false}
 use Rattle.paper.specs.declared.Constraint.{Constraint}
 use Rattle.paper.specs.declared.Constraint.the-variants.{Variant, Struct, ConstBool, ConstInt, ConstPrim, Some}
-use Rattle.paper.specs.Words.{if_then_else_, below, any}
-use Rattle.paper.specs.Sites.{Site, constBool, constInt, constPrim, argument, extractor, constructor, iterator, makeVariant, matchVariant, makeStruct, extractStruct, makeSome, matchSome, matchTuple, child-count, child, children, same-site}
+use Rattle.paper.specs.Words.{if_then_else_, or-else, below, any}
+use Rattle.paper.specs.Sites.{Site, constBool, constInt, constPrim, argument, extractor, constructor, iterator, makeVariant, matchVariant, makeStruct, extractStruct, makeSome, matchSome, matchTuple, parent, child-count, child, children, same-site}
 use Rattle.paper.specs.Laws.{same-site-true, same-site-refl}
 use Rattle.sites.specs.Slots.{site-of, slot-body, site-in, link-of, no-site}
 use Rattle.sites.specs.declared.Link.{Link}
@@ -124,6 +124,68 @@ word-told w h = go (eqb (w % 256) 8) refl (eqb (w % 256) 10) refl (eqb (w % 256)
     go false e false f false g =
         let z = tail-none w (eqb-false _ _ e) (eqb-false _ _ f) (eqb-false _ _ g) .is in
         absurd (omega arith)
+
+-- ---- sources
+
+module _ (w : ℕ) where
+  pub source-variant : w % 256 ≡ 8 → w / 256 / 256 / 65536 ≡ or-else (parent (site-of-word w)) 0
+  unfolding site-of-word parent
+  source-variant a = rw a
+
+  pub source-struct : w % 256 ≡ 10 → w / 256 / 256 ≡ or-else (parent (site-of-word w)) 0
+  unfolding site-of-word parent
+  source-struct a = rw a
+
+  pub source-some : w % 256 ≡ 12 → w / 256 ≡ or-else (parent (site-of-word w)) 0
+  unfolding site-of-word parent
+  source-some a = rw a
+
+  pub source-none : (w % 256 ≡ 8 → ⊥) → (w % 256 ≡ 10 → ⊥) → (w % 256 ≡ 12 → ⊥) → 0 ≡ or-else (parent (site-of-word w)) 0
+  unfolding site-of-word parent
+  source-none a b d = rw (ne-eqb (w % 256) 8 a, ne-eqb (w % 256) 10 b, ne-eqb (w % 256) 12 d)
+
+has-source : (x : Site) → 0 < word-of x → parent x ≡ some (or-else (parent x) 0)
+unfolding word-of parent
+has-source (constBool t v) p = absurd (omega arith)
+has-source (constInt t h l) p = absurd (omega arith)
+has-source (constPrim v) p = absurd (omega arith)
+has-source (argument i) p = absurd (omega arith)
+has-source (extractor t s) p = absurd (omega arith)
+has-source (constructor t n l) p = absurd (omega arith)
+has-source (iterator s) p = absurd (omega arith)
+has-source (makeVariant t v l) p = absurd (omega arith)
+has-source (matchVariant s v f) p = refl
+has-source (makeStruct t l) p = absurd (omega arith)
+has-source (extractStruct s f) p = refl
+has-source (makeSome s) p = absurd (omega arith)
+has-source (matchSome s) p = refl
+has-source (matchTuple s f) p = absurd (omega arith)
+
+no-source : (x : Site) → word-of x ≡ 0 → parent x ≡ none
+unfolding word-of parent
+no-source (constBool t v) p = refl
+no-source (constInt t h l) p = refl
+no-source (constPrim v) p = refl
+no-source (argument i) p = refl
+no-source (extractor t s) p = refl
+no-source (constructor t n l) p = refl
+no-source (iterator s) p = refl
+no-source (makeVariant t v l) p = refl
+no-source (matchVariant s v f) p = absurd (omega arith)
+no-source (makeStruct t l) p = refl
+no-source (extractStruct s f) p = absurd (omega arith)
+no-source (makeSome s) p = refl
+no-source (matchSome s) p = absurd (omega arith)
+no-source (matchTuple s f) p = refl
+
+-- a site has a parent exactly where its word is not 0, and the word tells it
+pub word-parent : (x : Site) (w : ℕ) → Spelt x w → 0 < w → parent x ≡ some (or-else (parent (site-of-word w)) 0)
+word-parent x w h p = let e = h .is in rw (h .back p) (has-source x (omega arith))
+
+pub word-orphan : (x : Site) → Spelt x 0 → parent x ≡ none
+word-orphan x h = no-source x (sym (h .is))
+
+-- ---- places
 
 module _ (m : List ℕ) (n : ℕ) (tail : List ℕ) (x : ℕ) where
   pub there-low : (w : ℕ) → x < n → Spelt (site-in m x) w → Spelt (site-there m n tail x) w

@@ -5,9 +5,9 @@ ghost use mathlib.Core.List.{_++_, map};
 ghost use Prim.Native.Nat.{_+_, _-_, _≤_, _<_};
 ghost use lib.ListN.{length};
 ghost use lib.Seq.{sets};
-ghost use Rattle.paper.specs.Words.{any};
+ghost use Rattle.paper.specs.Words.{any, or-else};
 ghost use Rattle.paper.specs.Numbers.{max-sites, max-fields};
-ghost use Rattle.paper.specs.Sites.{child, children, child-count, same-site, matchVariant, extractStruct, matchSome};
+ghost use Rattle.paper.specs.Sites.{parent, child, children, child-count, same-site, matchVariant, extractStruct, matchSome};
 ghost use Rattle.sites.specs.Slots.{site-in, children-as};
 ghost use Rattle.growth.specs.Tail.{word-of, refused-as, site-of-word, Spelt, site-there, table, grown, after-grown, holds, Field, Notes, Sees, news, Ready, Placed};
 use paper::Constraint;
@@ -122,6 +122,23 @@ fn tail_word(w: u64) -> u64
     }
     if k == 12 {
         return w;
+    }
+    0
+}
+
+// The source of the site that a word is read as; 0 where it has none.
+pub fn source_of(w: u64) -> u64
+    ensures { λ r. ⌜ r ≡ or-else (parent (site-of-word w)) 0 ⌝ }
+{
+    let k = w % 256;
+    if k == 8 {
+        return w / 256 / 256 / 65536;
+    }
+    if k == 10 {
+        return w / 256 / 256;
+    }
+    if k == 12 {
+        return w / 256;
     }
     0
 }
