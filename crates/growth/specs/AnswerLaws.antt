@@ -20,7 +20,7 @@ use Rattle.sites.specs.declared.Children.{Children}
 use Rattle.sites.specs.declared.Given.the-variants as given
 use Rattle.growth.specs.Tail.{word-of, table, grown, after-grown, refused-as, holds, holes, Numbers, Sees, news, Ready, Placed}
 use Rattle.growth.specs.ScanLaws.{length-below, table-length}
-use Rattle.growth.specs.GrowLaws.{news-holes, all-fit, all-full, all-unknown, all-none}
+use Rattle.growth.specs.GrowLaws.{all-length, news-holes, all-fit, all-full, all-unknown, all-none}
 use Rattle.growth.specs.declared.Seen.{Seen}
 
 getD-below : (n : ℕ) (f : ℕ → ℕ) (i : ℕ) → i < n → getD (below n f) i 0 ≡ f i
@@ -85,9 +85,13 @@ module _ (m : List ℕ) (n : ℕ) (tail : List ℕ) (k at s : ℕ) (c : Constrai
       answer-fields x q e f g = answer-refused x (TooManyFields q at) e (rw (le-leb max-sites (length tail) l, lt-ltb (n + k) 65536 h, ← f, lt-leb q max-fields g))
 
       module _ (f : child-count c ≤ max-fields) where
-        on : grown m n tail k at s c ≡ add-all t at (children s c)
+        -- where the tail is long enough it is what paper's adding says
+        pub grown-adds : grown m n tail k at s c ≡ add-all t at (children s c)
         unfolding grown
-        on = rw (le-leb max-sites (length tail) l, lt-ltb (n + k) 65536 h, le-leb (child-count c) max-fields f)
+        grown-adds = rw (le-leb max-sites (length tail) l, lt-ltb (n + k) 65536 h, le-leb (child-count c) max-fields f)
+
+        pub grown-length : (u : Sites) → grown m n tail k at s c ≡ done u → (n + k ≤ length u) × (length u < 65536)
+        grown-length u e = let z = all-length t s c at u (sym grown-adds ∙ e) in let a = z .0 in let b = z .1 in (omega (arith, size), omega (arith, size))
 
         no-numbers : child-count c ≡ 0 → replicate 8 0 ≡ below max-fields (λ i. if ltb i (child-count c) then child-number t s c i else 0)
         unfolding below
@@ -98,14 +102,14 @@ module _ (m : List ℕ) (n : ℕ) (tail : List ℕ) (k at s : ℕ) (c : Constrai
 
         pub answer-none : (a : ℕ) → a ≡ n + k → child-count c ≡ 0 → Answer (record { outcome = given.To a; numbers = replicate 8 0 }) tail
         answer-none a q e =
-            let g : grown m n tail k at s c ≡ done t = on ∙ all-none t s c at e in
+            let g : grown m n tail k at s c ≡ done t = grown-adds ∙ all-none t s c at e in
             let z : a ≡ length t = q ∙ sym size in
             let back : length t - n ≡ k = omega (arith, size) in
             let y : drop (n + k) t ≡ [] = ap (drop (n + k)) (sym (append-nil t)) ∙ dropped [] in
             ((rw z (ap (λ o. record { outcome = given.To (length t); numbers = o }) (no-numbers e))) ∙ ap (children-as s c) (sym g), ap (λ r. sets tail k (map word-of r)) (sym y) ∙ ap (after-grown n tail k) (sym g), rw g (rw back))
 
         pub answer-unknown : (x : Children) → x ≡ refused-as (Unknown s) → (child-count c ≡ 0 → ⊥) → n + k ≤ s → Answer x tail
-        answer-unknown x e z q = answer-refused x (Unknown s) e (on ∙ all-unknown t s c at (omega (arith, size)) (positive (child-count c) z))
+        answer-unknown x e z q = answer-refused x (Unknown s) e (grown-adds ∙ all-unknown t s c at (omega (arith, size)) (positive (child-count c) z))
           where
             positive : (q : ℕ) → (q ≡ 0 → ⊥) → 0 < q
             positive zero z = absurd (z refl)
@@ -118,14 +122,14 @@ module _ (m : List ℕ) (n : ℕ) (tail : List ℕ) (k at s : ℕ) (c : Constrai
           pub answer-full : (x : Children) (a : ℕ) → x ≡ refused-as (TooManySites a at) → a ≡ n + k + (max-sites - (n + k)) + 1 → max-sites - (n + k) < S .missing → Answer x tail
           answer-full x a e q g =
               let z : a ≡ length t + (max-sites - length t) + 1 = q ∙ sym (ap (λ i. i + (max-sites - i) + 1) size) in
-              answer-refused x (TooManySites a at) e (on ∙ all-full t s c at (omega (arith, size)) (omega (arith, size, missing)) ∙ ap (λ i. refused (TooManySites i at)) (sym z))
+              answer-refused x (TooManySites a at) e (grown-adds ∙ all-full t s c at (omega (arith, size)) (omega (arith, size, missing)) ∙ ap (λ i. refused (TooManySites i at)) (sym z))
 
           pub answer-ready : S .missing ≤ max-sites - (n + k) → Ready t n k s c (S .numbers) tail
           answer-ready g = record { few = f; seen = W .numbers; size = size; small = h; room = omega (arith, missing); long = l }
 
           pub answer-done : (of tail′ : List ℕ) (a : ℕ) → Placed t s c (child-count c) of → tail′ ≡ sets tail k (map word-of (news t s c (child-count c))) → table m n tail′ (k + length (news t s c (child-count c))) ≡ t ++ news t s c (child-count c) → a ≡ n + k + S .missing → S .missing ≤ max-sites - (n + k) → Answer (record { outcome = given.To a; numbers = of }) tail′
           answer-done of tail′ a P e b′ q g =
-              let w : grown m n tail k at s c ≡ done (t ++ news t s c (child-count c)) = on ∙ all-fit t s c at (omega (arith, size)) (omega (arith, size, missing)) in
+              let w : grown m n tail k at s c ≡ done (t ++ news t s c (child-count c)) = grown-adds ∙ all-fit t s c at (omega (arith, size)) (omega (arith, size, missing)) in
               let z : a ≡ length (t ++ news t s c (child-count c)) = let y = length-append t (news t s c (child-count c)) in omega (arith, size, missing) in
               let back : length (t ++ news t s c (child-count c)) - n ≡ k + length (news t s c (child-count c)) = let y = length-append t (news t s c (child-count c)) in omega (arith, size) in
               let v = placed-numbers t s c of f P in (

@@ -18,6 +18,7 @@ use Rattle.paper.specs.Words.{if_then_else_, or-else, first, below}
 use Rattle.paper.specs.Numbers.{max-sites, max-sources, max-fields, Outcome, done, refused, _>>=_, demand}
 use Rattle.paper.specs.Sites.{Site, Sites, sources, term-of, child-count, child, children, number-of, child-number, known, missing-source, term-fits, Added, or-next, add, add-all}
 use Rattle.paper.specs.Laws.{number-front, number-on, plus, first-here, first-next}
+use Rattle.paper.specs.Outcomes.{not-refused, done-once}
 use Rattle.sites.specs.Slots.{children-as}
 use Rattle.sites.specs.declared.Children.{Children}
 use Rattle.sites.specs.declared.Given.the-variants as given
@@ -227,6 +228,30 @@ module _ (t : Sites) (s : ℕ) (c : Constraint) where
   pub all-none : (at : ℕ) → child-count c ≡ 0 → add-all t at (children s c) ≡ done t
   unfolding children below add-all
   all-none at e = rw e
+
+  -- a table that grows passes the limit only if it did before
+  pub all-length : (at : ℕ) (u : Sites) → add-all t at (children s c) ≡ done u → (length t ≤ length u) × (length u ≤ length t + (max-sites - length t))
+  all-length at u e = go (ltb s (length t)) refl (eqb (child-count c) 0) refl
+    where
+      same : t ≡ u → (length t ≤ length u) × (length u ≤ length t + (max-sites - length t))
+      same q = let z = ap length q in (omega arith, omega arith)
+
+      grows : s < length t → (b : Bool) → leb (length (news t s c (child-count c))) (max-sites - length t) ≡ b → (length t ≤ length u) × (length u ≤ length t + (max-sites - length t))
+      grows k true q =
+          let h = leb-true (length (news t s c (child-count c))) (max-sites - length t) q in
+          let z = ap length (done-once (sym (all-fit at k h) ∙ e)) in
+          let y = length-append t (news t s c (child-count c)) in
+          (omega arith, omega arith)
+      grows k false q = absurd (not-refused (sym (all-full at k (leb-false (length (news t s c (child-count c))) (max-sites - length t) q)) ∙ e))
+
+      some-child : (q : ℕ) → (q ≡ 0 → ⊥) → 0 < q
+      some-child zero z = absurd (z refl)
+      some-child (suc q) z = omega arith
+
+      go : (a : Bool) → ltb s (length t) ≡ a → (b : Bool) → eqb (child-count c) 0 ≡ b → (length t ≤ length u) × (length u ≤ length t + (max-sites - length t))
+      go true x b y = grows (ltb-true s (length t) x) (leb (length (news t s c (child-count c))) (max-sites - length t)) refl
+      go false x true y = same (done-once (sym (all-none at (eqb-true (child-count c) 0 y)) ∙ e))
+      go false x false y = absurd (not-refused (sym (all-unknown at (ltb-false s (length t) x) (some-child (child-count c) (eqb-false (child-count c) 0 y))) ∙ e))
 
 -- ---- writing them
 
