@@ -1,0 +1,5 @@
+pub mod Tail
+pub mod WordLaws
+pub mod ScanLaws
+pub mod GrowLaws
+pub mod AnswerLaws
