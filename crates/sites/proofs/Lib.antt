@@ -6,3 +6,4 @@ pub mod Kids
 pub mod Unfolds
 pub mod Adds
 pub mod Families
+pub mod After
