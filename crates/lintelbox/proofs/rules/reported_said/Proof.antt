@@ -1,0 +1,47 @@
+-- `lintelbox::rules::reported_said` meets its contract. Assumes nothing.
+use mathlib.Core.Path.{sym, ap, refl, _∙_}
+use borrow.Author.Needs.{needs}
+use Rattle.lintelbox.specs.Border.{reported-said}
+use Rattle.lintelbox.proofs.Crossing.{done-as}
+use Rattle.lintelbox.proofs.rules.reported_said.Statement.{statement}
+use Rattle.lintelbox.proofs.rules.reported_said.Tie as tie
+
+enum-known-r : tie.Need-enum-known-r
+enum-known-r c = search needs
+
+wide32-requires : tie.Need-wide32-requires
+wide32-requires c κs = search needs
+
+done-requires : tie.Need-done-requires
+done-requires c κs = search needs
+
+enum-told : tie.Need-enum-told
+enum-told c = search needs
+
+enum-told-2 : tie.Need-enum-told-2
+enum-told-2 c = search needs
+
+returns : tie.Need-returns
+unfolding reported-said
+returns c = done-as _ _ _ _ _ (c .done .ensures) (c .before .wide32 .ensures) refl ∙ sym (ap reported-said (c .before .before .before .r .given .1))
+
+returns-2 : tie.Need-returns-2
+unfolding reported-said
+returns-2 c = sym (ap reported-said (c .enum-told .given .1))
+
+returns-3 : tie.Need-returns-3
+unfolding reported-said
+returns-3 c = sym (ap reported-said (c .enum-told2 .given .1))
+
+pub reported-said-spec : {M : Type 1} → statement M
+reported-said-spec =
+    tie.close
+    (tie.spec
+    enum-known-r
+    wide32-requires
+    done-requires
+    enum-told
+    enum-told-2
+    returns
+    returns-2
+    returns-3)

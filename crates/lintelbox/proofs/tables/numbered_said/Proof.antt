@@ -1,0 +1,59 @@
+-- `lintelbox::tables::numbered_said` meets its contract. Assumes nothing.
+use mathlib.Core.Path.{sym, ap, refl, _∙_}
+use borrow.Author.Needs.{needs}
+use Rattle.lintelbox.specs.Border.{numbered-said}
+use Rattle.lintelbox.proofs.Crossing.{done-as}
+use Rattle.lintelbox.proofs.tables.numbered_said.Statement.{statement}
+use Rattle.lintelbox.proofs.tables.numbered_said.Tie as tie
+
+enum-known-n : tie.Need-enum-known-n
+enum-known-n c = search needs
+
+wide-requires : tie.Need-wide-requires
+wide-requires c κs = search needs
+
+done-requires : tie.Need-done-requires
+done-requires c κs = search needs
+
+enum-known-n-2 : tie.Need-enum-known-n-2
+enum-known-n-2 c = search needs
+
+wide-requires-2 : tie.Need-wide-requires-2
+wide-requires-2 c κs = search needs
+
+done-requires-2 : tie.Need-done-requires-2
+done-requires-2 c κs = search needs
+
+enum-known-n-3 : tie.Need-enum-known-n-3
+enum-known-n-3 c = search needs
+
+refused-requires : tie.Need-refused-requires
+refused-requires c κs = search needs
+
+returns : tie.Need-returns
+unfolding numbered-said
+returns c = done-as _ _ _ _ _ (c .done .ensures) (c .before .wide .ensures) refl ∙ sym (ap numbered-said (c .before .before .before .n .given .1))
+
+returns-2 : tie.Need-returns-2
+unfolding numbered-said
+returns-2 c = done-as _ _ _ _ _ (c .done2 .ensures) (c .before .wide2 .ensures) refl ∙ sym (ap numbered-said (c .before .before .before .n2 .given .1))
+
+returns-3 : tie.Need-returns-3
+unfolding numbered-said
+returns-3 c = c .refused .ensures ∙ sym (ap numbered-said (c .before .before .n3 .given .1))
+
+pub numbered-said-spec : {M : Type 1} → statement M
+numbered-said-spec =
+    tie.close
+    (tie.spec
+    enum-known-n
+    wide-requires
+    done-requires
+    enum-known-n-2
+    wide-requires-2
+    done-requires-2
+    enum-known-n-3
+    refused-requires
+    returns
+    returns-2
+    returns-3)

@@ -1,0 +1,64 @@
+-- `lintelbox::terms::put_terms` meets its contract. Assumes nothing.
+use mathlib.Core.Path.{_≡_}
+use Prim.Native.Nat.{_-_, _≤_}
+use native.Mathlib.Omega.{arith}
+use lib.Seq.{paste}
+use denote.Ref.{now}
+use borrow.Author.Needs.{needs}
+use Rattle.recursion.specs.Table.{terms}
+use Rattle.lintelbox.proofs.Crossing.{copied-none, copied-turn, copied-length, copied-all}
+use Rattle.lintelbox.proofs.terms.put_terms.Statement.{statement}
+use Rattle.lintelbox.proofs.terms.put_terms.Tie as tie
+
+abbrev Inv-loop : tie.InvT-loop
+Inv-loop found₀ all i₀ found i = (i ≤ terms) × (found ≡ paste found₀ 0 all i)
+
+abbrev μ-loop : tie.MeasureT-loop
+μ-loop found₀ all i₀ found i = terms - i
+
+loop-holds : tie.Need-loop-holds Inv-loop μ-loop
+loop-holds c = (omega arith, copied-none (now (c .args .found)) (now (c .args .all)))
+
+mul-found : tie.Need-mul-found Inv-loop μ-loop
+mul-found c = search needs
+
+shared-slice-read-found : tie.Need-shared-slice-read-found Inv-loop μ-loop
+shared-slice-read-found c = omega (arith, c .before .before .before .pre .1)
+
+mul-found-2 : tie.Need-mul-found-2 Inv-loop μ-loop
+mul-found-2 c = search needs
+
+slice-write-found : tie.Need-slice-write-found Inv-loop μ-loop
+slice-write-found c = omega (arith, copied-length _ _ _ _ _ (c .before .before .before .pre .0) (c .before .before .before .pre .1) (c .before .before .loop .inv .0) (c .before .before .loop .inv .1), c .before .before .before .pre .0)
+
+add-i : tie.Need-add-i Inv-loop μ-loop
+add-i c = search needs
+
+loop-less : tie.Need-loop-less Inv-loop μ-loop
+loop-less c = search needs
+
+loop-again : tie.Need-loop-again Inv-loop μ-loop
+loop-again c = (omega arith, copied-turn _ _ _ _ _ (c .before .before .before .pre .0) (c .before .before .before .pre .1) (c .before .loop-test .taken) (c .before .before .loop .inv .1))
+
+same-length : tie.Need-same-length Inv-loop μ-loop
+same-length c = copied-length _ _ _ _ _ (c .before .before .pre .0) (c .before .before .pre .1) (c .before .loop .inv .0) (c .before .loop .inv .1)
+
+returns : tie.Need-returns Inv-loop μ-loop
+returns c = copied-all _ _ _ _ _ (c .before .before .pre .1) (c .before .loop .inv .0) (c .loop-test .left) (c .before .loop .inv .1)
+
+pub put-terms-spec : {M : Type 1} → statement M
+put-terms-spec =
+    tie.close
+    (tie.spec
+    Inv-loop
+    μ-loop
+    loop-holds
+    mul-found
+    shared-slice-read-found
+    mul-found-2
+    slice-write-found
+    add-i
+    loop-less
+    loop-again
+    same-length
+    returns)

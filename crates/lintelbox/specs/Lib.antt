@@ -1,0 +1,3 @@
+-- The definitions that this crate's contracts cite.
+pub mod Border
+pub mod Telling

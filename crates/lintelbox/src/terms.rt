@@ -1,0 +1,103 @@
+// Terms in cycles. The table is a square of 256 rows of 4 words, a row of marks for each term; `recs` is one such row.
+ghost use mathlib.Core.Path.{_≡_};
+ghost use mathlib.Core.List.{[], _∷_, _++_};
+ghost use Prim.Native.Nat.{_≤_};
+ghost use lib.ListN.{length, drop};
+ghost use Rattle.recursion.specs.Table.{terms, no-edges, no-marks, with-edge, with-term, unflagged, listed};
+ghost use Rattle.lintelbox.specs.Border.{answer-words, said, said-by, left-by, has-room, both, answered, after, added-said};
+use crate::ANSWER;
+use crate::SHORT;
+use crate::Said;
+use crate::done;
+use crate::refused;
+use crate::say;
+use crate::wide;
+use paper::TERMS;
+use recursion::Added;
+use recursion::WORDS;
+
+fn added_said(a: Added) -> Said
+    ensures { λ s. ⌜ s ≡ added-said a ⌝ }
+{
+    match a {
+        Added::Done => done(0, 0),
+        Added::Refused(r) => refused(r),
+    }
+}
+
+// No edges, and no term with rec.
+#[no_mangle]
+pub extern "C" fn lintel_terms_clear(table: &mut [[u64; WORDS]; TERMS], recs: &mut [u64; WORDS])
+    ensures { λ _. ⌜ (now (table .exit) ≡ no-edges) × (now (recs .exit) ≡ no-marks) ⌝ }
+{
+    *table = recursion::empty();
+    *recs = [0u64; WORDS];
+}
+
+// Adds the edge that runs from one term to another.
+#[no_mangle]
+pub extern "C" fn lintel_add_edge(
+    table: &mut [[u64; WORDS]; TERMS],
+    from: u16,
+    to: u16,
+    answer: &mut [u64],
+) -> u32
+    ensures { λ r. ⌜ (now (answer .exit), r) ≡ answered (has-room (now (answer .entry)) answer-words) (now (answer .entry)) (said-by (λ _. []) (with-edge (now (table .entry)) from to)) ⌝ }
+    ensures { λ _. ⌜ now (table .exit) ≡ after (has-room (now (answer .entry)) answer-words) (now (table .entry)) (left-by (now (table .entry)) (λ t. t) (with-edge (now (table .entry)) from to)) ⌝ }
+{
+    if answer.len() < ANSWER {
+        return SHORT;
+    }
+    let a = recursion::add(table, from, to);
+    say(answer, added_said(a))
+}
+
+// Marks a term that has rec.
+#[no_mangle]
+pub extern "C" fn lintel_mark_rec(recs: &mut [u64; WORDS], term: u16, answer: &mut [u64]) -> u32
+    ensures { λ r. ⌜ (now (answer .exit), r) ≡ answered (has-room (now (answer .entry)) answer-words) (now (answer .entry)) (said-by (λ _. []) (with-term (now (recs .entry)) term)) ⌝ }
+    ensures { λ _. ⌜ now (recs .exit) ≡ after (has-room (now (answer .entry)) answer-words) (now (recs .entry)) (left-by (now (recs .entry)) (λ t. t) (with-term (now (recs .entry)) term)) ⌝ }
+{
+    if answer.len() < ANSWER {
+        return SHORT;
+    }
+    let a = recursion::flag(recs, term);
+    say(answer, added_said(a))
+}
+
+// Copies the terms to the start of `found`.
+fn put_terms(found: &mut [u16], all: &[u16])
+    requires { ⌜ (terms ≤ length (now found)) × (length (now all) ≡ terms) ⌝ }
+    ensures { λ _. ⌜ now (found .exit) ≡ now (all .entry) ++ drop terms (now (found .entry)) ⌝ }
+{
+    let mut i: usize = 0;
+    while i < TERMS {
+        found[i] = all[i];
+        i += 1;
+    }
+}
+
+// The cyclic terms without rec: how many. They stand first in `found`, ascending, and zeros after them up to 256.
+#[no_mangle]
+pub extern "C" fn lintel_cyclic_terms(
+    table: &[[u64; WORDS]; TERMS],
+    recs: &[u64; WORDS],
+    found: &mut [u16],
+    answer: &mut [u64],
+) -> u32
+    ensures { λ r. ⌜ (now (answer .exit), r) ≡ answered (both (has-room (now (found .entry)) terms) (has-room (now (answer .entry)) answer-words)) (now (answer .entry)) (said 0 (length (unflagged (now (table .entry)) (now (recs .entry))) ∷ [])) ⌝ }
+    ensures { λ _. ⌜ now (found .exit) ≡ after (both (has-room (now (found .entry)) terms) (has-room (now (answer .entry)) answer-words)) (now (found .entry)) (listed (unflagged (now (table .entry)) (now (recs .entry))) .terms ++ drop terms (now (found .entry))) ⌝ }
+{
+    if found.len() < TERMS {
+        return SHORT;
+    }
+    if answer.len() < ANSWER {
+        return SHORT;
+    }
+    let t = *table;
+    let marks = *recs;
+    let l = recursion::findings(t, marks);
+    let all = l.terms;
+    put_terms(found, &all);
+    say(answer, done(wide(l.count), 0))
+}

@@ -1,0 +1,152 @@
+/* Lintelmoth for the box: the functions of liblintelbox.a (`rt staticlib lintelbox` writes target/staticlib/liblintelbox.a, for x86-64).
+ *
+ * Document 01 (docs/01-scope.md) says what each call means; crates/lintelbox has the contracts that are proved of them.
+ *
+ * - No heap, no state: all memory is lent by the caller for the time of the call. Two lent parts must not overlap.
+ * - Every function may be called on any contents. What 01 promises holds of memory that these calls made, from empty on.
+ * - The result is 01's number: 0 done, or why the call is refused. `answer` is lent for the words that go with it, at least LINTEL_ANSWER of them:
+ *   the answer where the number is 0, else what 01 tells with that number. What a call does not name here is 0; words after the first
+ *   LINTEL_ANSWER are left alone.
+ * - A refused call leaves all lent memory but `answer` as it was. LINTEL_SHORT leaves `answer` too.
+ * - A slice is a pointer and a count of elements (not bytes). A pointer must not be null, with a count of 0 either. A part whose size is written
+ *   in brackets is that many elements, and has no count.
+ */
+#ifndef LINTELMOTH_H
+#define LINTELMOTH_H
+
+#include <stddef.h>
+#include <stdint.h>
+
+#ifdef __cplusplus
+extern "C" {
+#define LINTEL_PART(n)
+#else
+#define LINTEL_PART(n) static n
+#endif
+
+/* 01's limits. */
+enum {
+    LINTEL_SITES = 1024,      /* sites of a set */
+    LINTEL_SOURCES = 8,       /* sources of a site */
+    LINTEL_FIELDS = 8,        /* fields of a constraint */
+    LINTEL_RULES = 64,        /* rules of a set */
+    LINTEL_ITEMS = 32,        /* items of a rule */
+    LINTEL_CONSTRAINED = 32,  /* constrained sites of a kept rule */
+    LINTEL_EQUAL = 32,        /* equal sites of a kept rule */
+    LINTEL_SETS = 64,         /* sets of a sheet */
+    LINTEL_TERMS = 256,       /* term numbers: 0 to 255 */
+    LINTEL_UNFOLDING = 4096   /* bytes of an unfolding */
+};
+
+/* Sizes of lent memory. */
+enum {
+    LINTEL_ANSWER = 2,              /* words of an answer */
+    LINTEL_SLOT = 32,               /* bytes of a site; a full set takes LINTEL_SITES of these: 32,768 bytes */
+    LINTEL_STRIDE = 196,            /* words of a kept rule; a full set takes LINTEL_RULES of these: 12,544 words, 100,352 bytes */
+    LINTEL_REPORT_ROOM = 67456,     /* bytes that hold any report */
+    LINTEL_ROW = 4,                 /* words of a row of marks */
+    LINTEL_TABLE = 1024             /* words of the term table, LINTEL_TERMS rows: 8,192 bytes */
+};
+
+/* The numbers. */
+enum {
+    LINTEL_DONE = 0,
+    LINTEL_LAYOUT = 1,        /* a frame or a body is not as laid out; told: the line */
+    LINTEL_UNKNOWN = 2,       /* unknown site, or a source not lower; told: that number */
+    LINTEL_ITSELF = 3,        /* a site joined with itself; told: the site */
+    LINTEL_UNREACHABLE = 4,   /* told: two sites */
+    LINTEL_HANGING = 5,       /* told: the lowest such site */
+    LINTEL_ENDLESS = 6,       /* self-containing; told: the lowest such site */
+    LINTEL_LIMIT = 7,         /* a limit is passed, or the lent room for what is written; told: nothing */
+    LINTEL_PLACE_USED = 8,    /* told: the place */
+    LINTEL_REPEATED = 9,      /* a site repeated in its set, a term in the sheet; told: the line */
+    LINTEL_SHORT = 255        /* none of 01's: a lent slice is shorter than the call asks. Nothing was read or changed */
+};
+
+/* The word for a site that was never joined. */
+enum { LINTEL_NONE = 65535 };
+
+/* Comparing two kept rules. */
+enum { LINTEL_NO = 0, LINTEL_YES = 1, LINTEL_SUBSET = 2 };
+
+/* ---- classes of sites: three parts, made empty by lintel_classes_clear. A site number of LINTEL_SITES or more is 2, told: that number. */
+
+/* Leaves no site joined: every parent LINTEL_SITES, every rank 0, the count 0. */
+void lintel_classes_clear(uint16_t parents[LINTEL_PART(LINTEL_SITES)], uint8_t ranks[LINTEL_PART(LINTEL_SITES)], uint16_t *count);
+
+/* answer: the representative of the site's class, or LINTEL_NONE; the parent links followed. Changes nothing else. */
+uint32_t lintel_find(const uint16_t parents[LINTEL_PART(LINTEL_SITES)], uint16_t site, uint64_t *answer, size_t answer_length);
+
+/* answer: the representative, or LINTEL_NONE. In `parents` each site passed on the way goes under its parent's parent. */
+uint32_t lintel_find_mut(uint16_t parents[LINTEL_PART(LINTEL_SITES)], uint16_t site, uint64_t *answer, size_t answer_length);
+
+/* Joins the classes of two sites. answer: 1 where they were two, else 0. 3 where they are one site. */
+uint32_t lintel_merge(uint16_t parents[LINTEL_PART(LINTEL_SITES)], uint8_t ranks[LINTEL_PART(LINTEL_SITES)], uint16_t *count,
+                      uint16_t site, uint16_t other, uint64_t *answer, size_t answer_length);
+
+/* answer: 1 where both sites are in one class, else 0. Changes nothing else. */
+uint32_t lintel_in_same_set(const uint16_t parents[LINTEL_PART(LINTEL_SITES)], uint16_t site, uint16_t other,
+                            uint64_t *answer, size_t answer_length);
+
+/* Takes the site's class apart. answer: how many members it had; they stand first in `members`, ascending, and the rest of it is left alone.
+ * `members` has at least LINTEL_SITES elements. A site that was never joined has none: 0. */
+uint32_t lintel_remove_set_of(uint16_t parents[LINTEL_PART(LINTEL_SITES)], uint16_t *count, uint16_t site,
+                              uint16_t *members, size_t members_length, uint64_t *answer, size_t answer_length);
+
+/* How many sites are joined. */
+uint32_t lintel_len(const uint16_t *count);
+
+/* 1 where no site is joined, else 0. */
+uint32_t lintel_is_empty(const uint16_t *count);
+
+/* ---- sites of a set: `sites` is slots of LINTEL_SLOT bytes, a length byte and then the site's body as in a frame 02, kind byte first. The caller
+ * keeps `count`, how many slots are used, from 0 on. */
+
+/* Adds the site with this body. answer: its number; 1 where it is new, and then `count` is to grow by one, else 0. Where it is new its slot, number
+ * `count`, is written. 1 told `line`, 2, 7 as 01 says; 7 too where `sites` has no slot left. */
+uint32_t lintel_add_site(uint8_t *sites, size_t sites_length, uint16_t count, const uint8_t *body, size_t body_length, uint32_t line,
+                         uint64_t *answer, size_t answer_length);
+
+/* Writes the unfolding of a site to the start of `room`. answer: how many bytes. 2; 7 where it has over LINTEL_UNFOLDING bytes or `room` less. */
+uint32_t lintel_unfold(const uint8_t *sites, size_t sites_length, uint16_t count, uint16_t site, uint8_t *room, size_t room_length,
+                       uint64_t *answer, size_t answer_length);
+
+/* ---- kept rules of a set: `words` is strides of LINTEL_STRIDE words, in the order in which the rules were kept.
+ * A stride: place; priority, its sign bit turned over; how many constrained sites; how many equal sites; from word 4 on four words for each
+ * constrained site, ascending: site, kind * 65536 + type (the name of a ConstPrim), and two words (Variant: variant, fields; Struct: fields, 0;
+ * ConstBool: value, 0; ConstInt: high word, low word; others 0, 0); from word 132 on two words for each equal site, ascending: site, lowest
+ * member of its class. LINTEL_SHORT where the words end before the rules that are asked for. */
+
+/* answer: LINTEL_NO, LINTEL_YES or LINTEL_SUBSET. */
+uint32_t lintel_may_overlap(const uint64_t *words, size_t words_length, uint32_t rule, uint32_t other, uint64_t *answer, size_t answer_length);
+
+/* answer: constrained plus equal sites. */
+uint32_t lintel_total_constraints(const uint64_t *words, size_t words_length, uint32_t rule, uint64_t *answer, size_t answer_length);
+
+/* The report of the first `count` rules of a set with these flags (1 multi, 2 rec, 3 both), as lines of findings 12 and 13. answer: how many bytes;
+ * they stand first in `room`, and the rest of it is left alone. `room` has at least LINTEL_REPORT_ROOM bytes. 7 where there are too many rules. */
+uint32_t lintel_report(const uint64_t *words, size_t words_length, uint32_t count, uint8_t flags, uint8_t *room, size_t room_length,
+                       uint64_t *answer, size_t answer_length);
+
+/* ---- terms: `table` has a row of LINTEL_ROW words for each term, a mark for each term that an edge runs to; `recs` is one such row, the terms
+ * with rec. Mark t is bit t % 64 of word t / 64. A term over 255 is 7. */
+
+/* Leaves both without marks. */
+void lintel_terms_clear(uint64_t table[LINTEL_PART(LINTEL_TABLE)], uint64_t recs[LINTEL_PART(LINTEL_ROW)]);
+
+/* Adds the edge that runs from one term to another. answer: nothing. */
+uint32_t lintel_add_edge(uint64_t table[LINTEL_PART(LINTEL_TABLE)], uint16_t from, uint16_t to, uint64_t *answer, size_t answer_length);
+
+/* Marks a term that has rec. answer: nothing. */
+uint32_t lintel_mark_rec(uint64_t recs[LINTEL_PART(LINTEL_ROW)], uint16_t term, uint64_t *answer, size_t answer_length);
+
+/* The cyclic terms without rec. answer: how many; they stand first in `found`, ascending, then zeros up to LINTEL_TERMS, and the rest of it is left
+ * alone. `found` has at least LINTEL_TERMS elements. */
+uint32_t lintel_cyclic_terms(const uint64_t table[LINTEL_PART(LINTEL_TABLE)], const uint64_t recs[LINTEL_PART(LINTEL_ROW)],
+                             uint16_t *found, size_t found_length, uint64_t *answer, size_t answer_length);
+
+#ifdef __cplusplus
+}
+#endif
+
+#endif
