@@ -74,7 +74,8 @@ enum { LINTEL_NO = 0, LINTEL_YES = 1, LINTEL_SUBSET = 2 };
 /* Leaves no site joined: every parent LINTEL_SITES, every rank 0, the count 0. */
 void lintel_classes_clear(uint16_t parents[LINTEL_PART(LINTEL_SITES)], uint8_t ranks[LINTEL_PART(LINTEL_SITES)], uint16_t *count);
 
-/* answer: the representative of the site's class, or LINTEL_NONE; the parent links followed. Changes nothing else. */
+/* answer: the representative of the site's class and the parent links followed; LINTEL_NONE, and no use of the second word, where it was never
+ * joined. Changes nothing else. */
 uint32_t lintel_find(const uint16_t parents[LINTEL_PART(LINTEL_SITES)], uint16_t site, uint64_t *answer, size_t answer_length);
 
 /* answer: the representative, or LINTEL_NONE. In `parents` each site passed on the way goes under its parent's parent. */

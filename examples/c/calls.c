@@ -1,0 +1,126 @@
+/* What a box's firmware does with the library: every call once or more, on memory that is lent and never grows. Prints what each answers. */
+#include "lintelmoth.h"
+
+#include <inttypes.h>
+#include <stdio.h>
+#include <string.h>
+
+_Static_assert(LINTEL_STRIDE == 4 + 4 * LINTEL_CONSTRAINED + 2 * LINTEL_EQUAL, "a stride");
+_Static_assert(LINTEL_REPORT_ROOM == 2 * LINTEL_RULES * (15 + 8 * LINTEL_RULES), "room for a report");
+_Static_assert(LINTEL_TABLE == LINTEL_TERMS * LINTEL_ROW && LINTEL_ROW == LINTEL_TERMS / 64, "the term table");
+
+static uint16_t parents[LINTEL_SITES], count, members[LINTEL_SITES];
+static uint8_t ranks[LINTEL_SITES];
+static uint8_t sites[LINTEL_SITES * LINTEL_SLOT];
+static uint64_t words[(LINTEL_RULES + 1) * LINTEL_STRIDE];
+static uint64_t table[LINTEL_TABLE], recs[LINTEL_ROW];
+static uint16_t found[LINTEL_TERMS];
+static uint8_t room[LINTEL_REPORT_ROOM];
+static uint64_t answer[LINTEL_ANSWER];
+static unsigned calls;
+
+/* A number and the words that go with it. */
+static void show(const char *call, uint32_t number) {
+    calls++;
+    printf("%s: %" PRIu32 ", %" PRIu64 " %" PRIu64 "\n", call, number, answer[0], answer[1]);
+}
+
+static void classes(void) {
+    lintel_classes_clear(parents, ranks, &count);
+    calls++;
+    printf("empty: %" PRIu32 "\n", lintel_is_empty(&count));
+    calls++;
+    show("find 5", lintel_find(parents, 5, answer, LINTEL_ANSWER));
+    show("merge 5 9", lintel_merge(parents, ranks, &count, 5, 9, answer, LINTEL_ANSWER));
+    show("merge 9 2", lintel_merge(parents, ranks, &count, 9, 2, answer, LINTEL_ANSWER));
+    show("merge 2 5", lintel_merge(parents, ranks, &count, 2, 5, answer, LINTEL_ANSWER));
+    show("merge 7 7", lintel_merge(parents, ranks, &count, 7, 7, answer, LINTEL_ANSWER));
+    show("merge 7 1024", lintel_merge(parents, ranks, &count, 7, 1024, answer, LINTEL_ANSWER));
+    show("find 2", lintel_find(parents, 2, answer, LINTEL_ANSWER));
+    show("find_mut 2", lintel_find_mut(parents, 2, answer, LINTEL_ANSWER));
+    show("same 2 9", lintel_in_same_set(parents, 2, 9, answer, LINTEL_ANSWER));
+    show("same 2 7", lintel_in_same_set(parents, 2, 7, answer, LINTEL_ANSWER));
+    printf("len: %" PRIu32 "\n", lintel_len(&count));
+    calls++;
+    show("remove 9, no room", lintel_remove_set_of(parents, &count, 9, members, 3, answer, LINTEL_ANSWER));
+    show("remove 9", lintel_remove_set_of(parents, &count, 9, members, LINTEL_SITES, answer, LINTEL_ANSWER));
+    for (uint64_t i = 0; i < answer[0]; i++) printf(" %" PRIu16, members[i]);
+    printf("\n");
+    show("remove 9", lintel_remove_set_of(parents, &count, 9, members, LINTEL_SITES, answer, LINTEL_ANSWER));
+    show("find, no answer", lintel_find(parents, 5, answer, 1));
+}
+
+/* Sites 0 and 1 are arguments, site 2 is field 0 of site 0 as a structure. */
+static void set_of_sites(void) {
+    static const uint8_t argument0[] = {3, 0}, argument1[] = {3, 1}, field[] = {10, 0, 0, 0}, loose[] = {6, 0, 9}, torn[] = {10, 0}, argument2[] = {3, 2};
+    uint16_t n = 0;
+    show("add 0300", lintel_add_site(sites, sizeof sites, n, argument0, sizeof argument0, 2, answer, LINTEL_ANSWER));
+    n += answer[1];
+    show("add 0301", lintel_add_site(sites, sizeof sites, n, argument1, sizeof argument1, 3, answer, LINTEL_ANSWER));
+    n += answer[1];
+    show("add 0A000000", lintel_add_site(sites, sizeof sites, n, field, sizeof field, 4, answer, LINTEL_ANSWER));
+    n += answer[1];
+    show("add 0300", lintel_add_site(sites, sizeof sites, n, argument0, sizeof argument0, 5, answer, LINTEL_ANSWER));
+    show("add 060009", lintel_add_site(sites, sizeof sites, n, loose, sizeof loose, 6, answer, LINTEL_ANSWER));
+    show("add 0A00", lintel_add_site(sites, sizeof sites, n, torn, sizeof torn, 7, answer, LINTEL_ANSWER));
+    show("add, no slot", lintel_add_site(sites, 3 * LINTEL_SLOT, n, argument2, sizeof argument2, 8, answer, LINTEL_ANSWER));
+    show("unfold 2", lintel_unfold(sites, sizeof sites, n, 2, room, sizeof room, answer, LINTEL_ANSWER));
+    for (uint64_t i = 0; i < answer[0]; i++) printf("%02X", room[i]);
+    printf("\n");
+    show("unfold 3", lintel_unfold(sites, sizeof sites, n, 3, room, sizeof room, answer, LINTEL_ANSWER));
+    show("unfold 2, room 3", lintel_unfold(sites, sizeof sites, n, 2, room, 3, answer, LINTEL_ANSWER));
+}
+
+/* A kept rule whose sites 0, 1 .. are the integers given, all of type 3. */
+static void rule(unsigned i, uint32_t place, int64_t priority, unsigned n, const uint64_t *values) {
+    uint64_t *w = words + i * LINTEL_STRIDE;
+    memset(w, 0, LINTEL_STRIDE * sizeof *w);
+    w[0] = place;
+    w[1] = (uint64_t)priority ^ UINT64_C(0x8000000000000000);
+    w[2] = n;
+    for (unsigned k = 0; k < n; k++) {
+        w[4 + 4 * k] = k;
+        w[5 + 4 * k] = 3 * 65536 + 3;
+        w[7 + 4 * k] = values[k];
+    }
+}
+
+static void set_of_rules(void) {
+    static const uint64_t five[] = {5}, six[] = {6}, five_six[] = {5, 6};
+    rule(0, 10, 1, 1, five);
+    rule(1, 20, 0, 2, five_six);
+    rule(2, 30, 0, 1, five);
+    rule(3, 40, 0, 1, six);
+    size_t length = 4 * LINTEL_STRIDE;
+    show("overlap 0 1", lintel_may_overlap(words, length, 0, 1, answer, LINTEL_ANSWER));
+    show("overlap 2 3", lintel_may_overlap(words, length, 2, 3, answer, LINTEL_ANSWER));
+    show("overlap 3 4", lintel_may_overlap(words, length, 3, 4, answer, LINTEL_ANSWER));
+    show("total 1", lintel_total_constraints(words, length, 1, answer, LINTEL_ANSWER));
+    show("report, room 80", lintel_report(words, length, 4, 0, room, 80, answer, LINTEL_ANSWER));
+    show("report of 65", lintel_report(words, sizeof words / sizeof *words, 65, 0, room, sizeof room, answer, LINTEL_ANSWER));
+    show("report", lintel_report(words, length, 4, 0, room, sizeof room, answer, LINTEL_ANSWER));
+    fwrite(room, 1, answer[0], stdout);
+}
+
+/* 01's graph, with a term that has rec. */
+static void terms(void) {
+    static const uint16_t edges[][2] = {{0, 1}, {0, 2}, {1, 0}, {2, 1}, {9, 9}, {9, 5}};
+    lintel_terms_clear(table, recs);
+    calls++;
+    for (size_t i = 0; i < sizeof edges / sizeof *edges; i++) show("edge", lintel_add_edge(table, edges[i][0], edges[i][1], answer, LINTEL_ANSWER));
+    show("edge to 256", lintel_add_edge(table, 3, 256, answer, LINTEL_ANSWER));
+    show("rec 1", lintel_mark_rec(recs, 1, answer, LINTEL_ANSWER));
+    show("cyclic, no room", lintel_cyclic_terms(table, recs, found, 255, answer, LINTEL_ANSWER));
+    show("cyclic", lintel_cyclic_terms(table, recs, found, LINTEL_TERMS, answer, LINTEL_ANSWER));
+    for (uint64_t i = 0; i < answer[0]; i++) printf(" %" PRIu16, found[i]);
+    printf("\n");
+}
+
+int main(void) {
+    classes();
+    set_of_sites();
+    set_of_rules();
+    terms();
+    printf("%u calls\n", calls);
+    return 0;
+}
