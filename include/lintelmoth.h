@@ -108,7 +108,8 @@ uint32_t lintel_is_empty(const uint16_t *count);
 uint32_t lintel_add_site(uint8_t *sites, size_t sites_length, uint16_t count, const uint8_t *body, size_t body_length, uint32_t line,
                          uint64_t *answer, size_t answer_length);
 
-/* Writes the unfolding of a site to the start of `room`. answer: how many bytes. 2; 7 where it has over LINTEL_UNFOLDING bytes or `room` less. */
+/* Writes the unfolding of a site to the start of `room`. answer: how many bytes. 2; 7 where it has over LINTEL_UNFOLDING bytes or `room` less.
+ * The call with the deepest stack: up to 400,000 bytes on a set that the calls made, up to 2,800,000 on any bytes. (All others stay under 9,000.) */
 uint32_t lintel_unfold(const uint8_t *sites, size_t sites_length, uint16_t count, uint16_t site, uint8_t *room, size_t room_length,
                        uint64_t *answer, size_t answer_length);
 

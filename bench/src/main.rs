@@ -170,27 +170,30 @@ fn removals(b: &mut Bench, n: usize, k: usize) {
 
 // ---- sites
 
-fn sites(b: &mut Bench, n: usize) {
+/// Site i is field `i % 8` of a source as a structure: of the site before it, or `wide`, eight fields of one source.
+fn sites(b: &mut Bench, n: usize, wide: bool) {
+    let source = |i: usize| if wide { (i - 1) / 8 } else { i - 1 };
     let bodies: Vec<Vec<u8>> = (0..n)
-        .map(|i| if i == 0 { vec![3, 0] } else { vec![10, (i - 1 >> 8) as u8, (i - 1) as u8, (i % 8) as u8] })
+        .map(|i| if i == 0 { vec![3, 0] } else { vec![10, (source(i) >> 8) as u8, source(i) as u8, (i % 8) as u8] })
         .collect();
     let (mut m, mut a) = (vec![0; n * SLOT], [0; ANSWER]);
-    b.case(
-        &format!("{n} sites added, a chain"),
-        || {
-            bodies.iter().enumerate().for_each(|(i, body)| {
-                assert_eq!(add_site(&mut m, i as u16, body, 0, &mut a), 0);
-            })
-        },
-        || {
-            let mut builder = Builder::default();
-            let mut last = builder.site(argument(0));
-            for i in 1..n {
-                last = builder.site(Binding::ExtractStruct { source: last, field: (i % 8).try_into().unwrap() });
-            }
-            builder
-        },
-    );
+    let mut ours = || {
+        bodies.iter().enumerate().fold(0, |sum, (i, body)| {
+            add_site(&mut m, i as u16, body, 0, &mut a);
+            sum + a[1]
+        })
+    };
+    let rust = || {
+        let mut builder = Builder::default();
+        let mut ids = vec![builder.site(argument(0))];
+        for i in 1..n {
+            ids.push(builder.site(Binding::ExtractStruct { source: ids[source(i)], field: (i % 8).try_into().unwrap() }));
+        }
+        builder
+    };
+    assert_eq!(ours() as usize, n);
+    assert_eq!(rust().rules().bindings.len(), n);
+    b.case(&format!("{n} sites added, {}", if wide { "eight a source" } else { "a chain" }), ours, rust);
 }
 
 // ---- rules
@@ -313,8 +316,9 @@ fn all(b: &mut Bench) {
     removals(b, 1024, 64);
     removals(b, 32, 4);
     title("Sites added");
-    sites(b, 32);
-    sites(b, 1024);
+    sites(b, 32, false);
+    sites(b, 32, true);
+    sites(b, 1024, true);
     title("Comparing kept rules");
     for kind in ["same", "last", "spread"] {
         overlaps(b, kind, 64, 32);
@@ -337,9 +341,9 @@ fn all(b: &mut Bench) {
 fn growth(b: &mut Bench) {
     title("How the costs grow");
     for n in [64, 128, 256, 512, 1024] {
-        sites(b, n);
+        sites(b, n, false);
     }
-    for n in [8, 16, 32, 64] {
+    for n in [8, 16, 32] {
         reports(b, &format!("report, {n} rules of 32 constraints, spread"), &[rules("spread", n, 32, 1)]);
     }
     for width in [4, 8, 16, 32] {

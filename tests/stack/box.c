@@ -1,0 +1,122 @@
+/* The deepest stack of each call of the library for the box, on inputs made to be deep: a painted stack. What is counted begins
+ * with the call of a small function that makes the call, so an empty one is in the table too. */
+#include "lintelmoth.h"
+
+#include <pthread.h>
+#include <stdio.h>
+#include <stdlib.h>
+#include <string.h>
+
+static uint16_t parents[LINTEL_SITES], count, members[LINTEL_SITES], found[LINTEL_TERMS];
+static uint8_t ranks[LINTEL_SITES], sites[LINTEL_SITES * LINTEL_SLOT], any[LINTEL_SITES * LINTEL_SLOT], room[LINTEL_REPORT_ROOM];
+static uint64_t words[LINTEL_RULES * LINTEL_STRIDE], table[LINTEL_TABLE], recs[LINTEL_ROW], answer[LINTEL_ANSWER];
+static const uint8_t body[] = {9, 0, 1, 1, 0, 9};
+
+static void nothing(void) {}
+static void clear(void) { lintel_classes_clear(parents, ranks, &count); }
+static void find(void) { lintel_find(parents, 1023, answer, LINTEL_ANSWER); }
+static void find_mut(void) { lintel_find_mut(parents, 1023, answer, LINTEL_ANSWER); }
+static void merge(void) { lintel_merge(parents, ranks, &count, 3, 1023, answer, LINTEL_ANSWER); }
+static void same(void) { lintel_in_same_set(parents, 3, 1023, answer, LINTEL_ANSWER); }
+static void remove_set(void) { lintel_remove_set_of(parents, &count, 3, members, LINTEL_SITES, answer, LINTEL_ANSWER); }
+static void len(void) { lintel_len(&count); }
+static void is_empty(void) { lintel_is_empty(&count); }
+static void add(void) { lintel_add_site(sites, sizeof sites, 1023, body, sizeof body, 0, answer, LINTEL_ANSWER); }
+static void unfold(void) { lintel_unfold(sites, sizeof sites, LINTEL_SITES, LINTEL_SITES - 1, room, sizeof room, answer, LINTEL_ANSWER); }
+static void unfold_any(void) { lintel_unfold(any, sizeof any, LINTEL_SITES, LINTEL_SITES - 1, room, sizeof room, answer, LINTEL_ANSWER); }
+static void overlap(void) { lintel_may_overlap(words, sizeof words / 8, 3, 60, answer, LINTEL_ANSWER); }
+static void total(void) { lintel_total_constraints(words, sizeof words / 8, 3, answer, LINTEL_ANSWER); }
+static void report(void) { lintel_report(words, sizeof words / 8, LINTEL_RULES, 0, room, sizeof room, answer, LINTEL_ANSWER); }
+static void terms_clear(void) { lintel_terms_clear(table, recs); }
+static void edge(void) { lintel_add_edge(table, 3, 200, answer, LINTEL_ANSWER); }
+static void rec(void) { lintel_mark_rec(recs, 3, answer, LINTEL_ANSWER); }
+static void cyclic(void) { lintel_cyclic_terms(table, recs, found, LINTEL_TERMS, answer, LINTEL_ANSWER); }
+
+static const struct {
+    const char *name;
+    void (*call)(void);
+} calls[] = {
+    {"an empty call", nothing},
+    {"lintel_classes_clear", clear},
+    {"lintel_merge", merge},
+    {"lintel_find", find},
+    {"lintel_find_mut", find_mut},
+    {"lintel_in_same_set", same},
+    {"lintel_remove_set_of", remove_set},
+    {"lintel_len", len},
+    {"lintel_is_empty", is_empty},
+    {"lintel_add_site", add},
+    {"lintel_unfold", unfold},
+    {"lintel_unfold, of bytes that no call made", unfold_any},
+    {"lintel_may_overlap", overlap},
+    {"lintel_total_constraints", total},
+    {"lintel_report", report},
+    {"lintel_terms_clear", terms_clear},
+    {"lintel_add_edge", edge},
+    {"lintel_mark_rec", rec},
+    {"lintel_cyclic_terms", cyclic},
+};
+
+static uint8_t *low;
+static size_t deep;
+
+/* Paints the stack below this frame, calls, and looks how far down it was written. */
+static void *run(void *call) {
+    volatile uint8_t *at, *sp;
+    __asm__ volatile("mov %%rsp, %0" : "=r"(sp));
+    for (at = low; at < sp; at++) *at = 0xA5;
+    (*(void (**)(void))call)();
+    for (at = low; at < sp && *at == 0xA5; at++) {}
+    deep = (size_t)(sp - at);
+    return 0;
+}
+
+static size_t used(void (*call)(void)) {
+    size_t size = 8u << 20;
+    pthread_attr_t with;
+    pthread_t thread;
+    low = aligned_alloc(4096, size);
+    pthread_attr_init(&with);
+    pthread_attr_setstack(&with, low, size);
+    if (pthread_create(&thread, &with, run, &call)) exit(1);
+    pthread_join(thread, 0);
+    free(low);
+    return deep;
+}
+
+/* The chain again, each site with twelve sources besides that are not lower, so that they write nothing: no set holds such sites. */
+static void fill_any(void) {
+    memcpy(any, sites, LINTEL_SLOT);
+    for (unsigned i = 1; i < LINTEL_SITES; i++) {
+        uint8_t *slot = any + LINTEL_SLOT * i;
+        memset(slot, 0xFF, LINTEL_SLOT);
+        uint8_t head[] = {30, 9, 0, 1, 13}, last[] = {(uint8_t)((i - 1) >> 8), (uint8_t)(i - 1)};
+        memcpy(slot, head, sizeof head);
+        memcpy(slot + 29, last, sizeof last);
+    }
+}
+
+/* A chain of 1,024 sites, 64 rules of 32 constraints that all overlap, a ring of 256 terms. */
+static void fill(void) {
+    static const uint8_t argument[] = {2, 3, 0};
+    memcpy(sites, argument, sizeof argument);
+    for (unsigned i = 1; i < LINTEL_SITES; i++) {
+        uint8_t slot[] = {6, 9, 0, 1, 1, (uint8_t)((i - 1) >> 8), (uint8_t)(i - 1)};
+        memcpy(sites + LINTEL_SLOT * i, slot, sizeof slot);
+    }
+    for (unsigned i = 0; i < LINTEL_RULES; i++) {
+        uint64_t *w = words + LINTEL_STRIDE * i;
+        w[0] = i;
+        w[1] = i % 2;
+        w[2] = LINTEL_CONSTRAINED;
+        for (unsigned k = 0; k < LINTEL_CONSTRAINED; k++) w[4 + 4 * k] = k;
+    }
+    for (unsigned t = 0; t < LINTEL_TERMS; t++) lintel_add_edge(table, (uint16_t)t, (uint16_t)((t + 1) % LINTEL_TERMS), answer, LINTEL_ANSWER);
+}
+
+int main(void) {
+    fill();
+    fill_any();
+    for (size_t i = 0; i < sizeof calls / sizeof *calls; i++) printf("| %s | %zu |\n", calls[i].name, used(calls[i].call));
+    return 0;
+}
