@@ -4,6 +4,8 @@
 mod clock;
 #[path = "../../examples/rust/src/lintelbox.rs"]
 mod lintelbox;
+#[cfg(feature = "loads")]
+mod loads;
 mod sets;
 
 use clock::{compare, Pair};
@@ -309,6 +311,47 @@ fn edges(n: usize, each: usize) -> Vec<(u16, u16)> {
     (0..n).flat_map(|a| (0..each).map(|_| (a as u16, numbers.below(n) as u16)).collect::<Vec<_>>()).collect()
 }
 
+// ---- loading
+
+#[cfg(feature = "loads")]
+fn loading(b: &mut Bench, name: &str, sets: &[loads::Written]) {
+    let env = env();
+    sets.iter().for_each(|w| loads::agree(w, &env));
+    let handed: Vec<loads::Handed> = sets.iter().map(loads::handed).collect();
+    let (mut ours, mut kept, mut theirs) = (loads::Ours::new(), vec![], vec![]);
+    b.case(
+        name,
+        || {
+            kept.clear();
+            handed.iter().map(|set| ours.whole(set, &mut kept)).sum::<usize>()
+        },
+        || {
+            theirs.clear();
+            sets.iter().map(|w| loads::rust(w, &env, &mut theirs).1).sum::<usize>()
+        },
+    );
+}
+
+#[cfg(feature = "loads")]
+fn loads(b: &mut Bench) {
+    title("Whole sets: sites added, rules loaded, the report");
+    loading(b, "64 sets of 4 to 8 rules of 3 items", &(0..64).map(loads::small).collect::<Vec<_>>());
+    loading(b, "16 rules, a chain of 14 fields under two equal sites", &[loads::deep(14, 16)]);
+    loading(b, "16 rules, a class of 4 sites with 8 fields", &[loads::wide(4, 8, 16)]);
+    loading(b, "16 rules, a class of 31 sites without fields", &[loads::wide(31, 0, 16)]);
+    loading(b, "64 rules of 4 structures over 1,017 sites", &[loads::full(64)]);
+    title("How loading grows");
+    for n in [8, 16, 32, 64] {
+        loading(b, &format!("{n} rules, a class of 4 sites with 8 fields"), &[loads::wide(4, 8, n)]);
+    }
+    for n in [2, 4, 8, 14] {
+        loading(b, &format!("16 rules, a chain of {n} fields under two equal sites, again"), &[loads::deep(n, 16)]);
+    }
+}
+
+#[cfg(not(feature = "loads"))]
+fn loads(_: &mut Bench) {}
+
 fn all(b: &mut Bench) {
     title("Class calls");
     classes(b, 1024);
@@ -359,6 +402,7 @@ fn main() {
     let ms = words.first().and_then(|w| w.parse().ok()).unwrap_or(100);
     let mut b = Bench { budget: Duration::from_millis(ms), only: words.get(1).cloned(), slower: vec![] };
     all(&mut b);
+    loads(&mut b);
     growth(&mut b);
     println!("\nslower than the Rust: {}", if b.slower.is_empty() { "none".to_string() } else { b.slower.join("; ") });
 }
