@@ -1,0 +1,3 @@
+-- The lent parts of `classes` hold the classes that paper's labels tell, through every call that the rounds make.
+pub mod Tied
+pub mod Starting
