@@ -3,3 +3,4 @@ pub mod Holding
 pub mod Growing
 pub mod Meeting
 pub mod Search
+pub mod Climb
