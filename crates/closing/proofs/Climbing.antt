@@ -16,7 +16,6 @@ use Rattle.paper.specs.Loading.{Holder, Labels, lowest, join-all, alike, turn, 
 use Rattle.paper.specs.Closure.{in-pairs, of-below}
 use Rattle.kept.proofs.PackLaws.{same-refl}
 use Rattle.closing.specs.Holding.{Held, held, kid-count, kid-in, site-of, count-of, kid-of, holder-in, holders-to, how-many, holders-in, eqs-in, class-check}
-use Rattle.closing.specs.Climb.{Climbs}
 use Rattle.closing.proofs.Turning.{of-holders}
 use Rattle.closing.proofs.Answering.{of-joined, endless-none}
 
@@ -142,7 +141,12 @@ ascend-below f (suc n) h p m = go (λ q. ascend-below f n (λ i j a b. h i j a (
     go r (inl q) = r q
     go r (inr q) = at (of-below n f (p .0) (q .0)) (q .1)
 
-rising : (H : Held) (m : ℕ) → Climbs H m → Rising (holders-to H m)
+-- the first m
+pub record Climbs (H : Held) (m : ℕ) : Type 0 where
+  pub ascend : (g h : ℕ) → g < h → h < m → site-of H g < site-of H h
+  pub higher : (h f : ℕ) → h < m → f < count-of H h → site-of H h < kid-of H h f
+
+pub rising : (H : Held) (m : ℕ) → Climbs H m → Rising (holders-to H m)
 unfolding holders-to
 rising H m C = record {
   ascend = ascend-below (holder-in H) m (C .ascend);
@@ -164,9 +168,6 @@ no-eqs eqs l = let e : length eqs / 2 ≡ 0 = omega arith in rw e
 
 fewer : (H : Held) (m n : ℕ) → n ≤ m → Climbs H m → Climbs H n
 fewer H m n l C = record { ascend = λ g h a b. C .ascend g h a (omega arith); higher = λ h f a. C .higher h f (omega arith) }
-
-pub passes : (eqs : List ℕ) (H : Held) (m : ℕ) → length eqs < 2 → m ≡ length (H .sites) → Climbs H m → class-check (eqs-in eqs) (holders-in H) ≡ done tt
-passes eqs H m l e C = rw (no-eqs eqs l) (climbing (holders-in H) (rising H (how-many H) (fewer H m (how-many H) (omega arith) C)))
 
 -- ---- the loops
 
@@ -217,5 +218,5 @@ climbs-step sites rows words kids m next h s w i v t T hm es ew l ei K et ev = r
     under g (yes e) a = rw (e, ← es) (omega arith)
     under g (no d) a = let u = T .past g (omega arith) in omega arith
 
-pub climbs-done : (H : Held) (m next h : ℕ) → ClimbsTo H m next h → m ≤ h → Climbs H m
-climbs-done H m next h T l = fewer H h m l (T .climb)
+pub climbs-done : (eqs : List ℕ) (H : Held) (next h : ℕ) → length eqs < 2 → ClimbsTo H (length (H .sites)) next h → length (H .sites) ≤ h → class-check (eqs-in eqs) (holders-in H) ≡ done tt
+climbs-done eqs H next h l T g = rw (no-eqs eqs l) (climbing (holders-in H) (rising H (how-many H) (fewer H h (how-many H) (omega arith) (T .climb))))

@@ -3,4 +3,3 @@ pub mod Holding
 pub mod Growing
 pub mod Meeting
 pub mod Search
-pub mod Climb

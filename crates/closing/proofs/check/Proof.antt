@@ -27,12 +27,12 @@ returns-3 : tie.Need-returns-3
 returns-3 c =
     stray-kids (c .before .before .before .before .before .before .before .before .before .before .before .args .eqs .now) (held (c .before .before .before .before .before .before .before .before .before .before .before .args .sites .now) (c .before .before .before .before .before .before .before .before .before .before .before .args .rows .now) (c .before .before .before .before .before .before .before .before .before .before .before .args .words .now) (c .before .before .before .before .before .before .before .before .before .before .before .args .kids .now)) _ (c .before .before .before .before .before .first-stray .ensures) (c .before .before .before .before .if1 .left) _ (c .before .before .before .first-stray2 .ensures) (c .before .before .if2 .left) _ (c .before .first-stray3 .ensures) (c .if3 .taken)
 
-plain-requires : tie.Need-plain-requires
-plain-requires c κs = tt
+climbs-requires : tie.Need-climbs-requires
+climbs-requires c κs = tt
 
 returns-4 : tie.Need-returns-4
 returns-4 c =
-    no-stray-at (c .before .before .before .before .before .before .before .before .before .before .before .before .before .args .eqs .now) (held (c .before .before .before .before .before .before .before .before .before .before .before .before .before .args .sites .now) (c .before .before .before .before .before .before .before .before .before .before .before .before .before .args .rows .now) (c .before .before .before .before .before .before .before .before .before .before .before .before .before .args .words .now) (c .before .before .before .before .before .before .before .before .before .before .before .before .before .args .kids .now)) _ (c .before .before .before .before .before .before .before .first-stray .ensures) (c .before .before .before .before .before .before .if1 .left) _ (c .before .before .before .before .before .first-stray2 .ensures) (c .before .before .before .before .if2 .left) _ (c .before .before .before .first-stray3 .ensures) (c .before .before .if3 .left) Passes (sym (c .before .plain .ensures (c .if4 .taken)))
+    no-stray-at (c .before .before .before .before .before .before .before .before .before .before .before .before .before .args .eqs .now) (held (c .before .before .before .before .before .before .before .before .before .before .before .before .before .args .sites .now) (c .before .before .before .before .before .before .before .before .before .before .before .before .before .args .rows .now) (c .before .before .before .before .before .before .before .before .before .before .before .before .before .args .words .now) (c .before .before .before .before .before .before .before .before .before .before .before .before .before .args .kids .now)) _ (c .before .before .before .before .before .before .before .first-stray .ensures) (c .before .before .before .before .before .before .if1 .left) _ (c .before .before .before .before .before .first-stray2 .ensures) (c .before .before .before .before .if2 .left) _ (c .before .before .before .first-stray3 .ensures) (c .before .before .if3 .left) Passes (sym (c .before .climbs .ensures (c .if4 .taken)))
 
 judge-requires : tie.Need-judge-requires
 judge-requires c κs =
@@ -52,7 +52,7 @@ check-spec =
     returns-2
     first-stray-requires-3
     returns-3
-    plain-requires
+    climbs-requires
     returns-4
     judge-requires
     returns-5)

@@ -1,5 +1,6 @@
 -- `closing::climbs` meets its contract. Assumes nothing.
 use native.Mathlib.Omega.{arith}
+use lib.ListN.{length}
 use mathlib.Core.Path.{sym}
 use Prim.Native.Nat.{_-_}
 use Rattle.closing.specs.Holding.{held}
@@ -9,10 +10,14 @@ use Rattle.closing.proofs.climbs.Statement.{statement}
 use Rattle.closing.proofs.climbs.Tie as tie
 
 abbrev Inv-loop : tie.InvT-loop
-Inv-loop sites rows words kids m next₀ h₀ next h = ClimbsTo (held sites rows words kids) m next h
+Inv-loop eqs sites rows words kids next₀ h₀ h-end next h = ClimbsTo (held sites rows words kids) (length sites) next h
 
 abbrev μ-loop : tie.MeasureT-loop
-μ-loop sites rows words kids m next₀ h₀ next h = m - h
+μ-loop eqs sites rows words kids next₀ h₀ h-end next h = length sites - h
+
+returns : tie.Need-returns Inv-loop μ-loop
+returns c =
+    λ e. no-bool (sym e)
 
 loop-holds : tie.Need-loop-holds Inv-loop μ-loop
 loop-holds c =
@@ -24,8 +29,8 @@ at-requires c κs = tt
 wide-requires : tie.Need-wide-requires Inv-loop μ-loop
 wide-requires c κs = tt
 
-returns : tie.Need-returns Inv-loop μ-loop
-returns c =
+returns-2 : tie.Need-returns-2 Inv-loop μ-loop
+returns-2 c =
     λ e. no-bool (sym e)
 
 at-requires-2 : tie.Need-at-requires-2 Inv-loop μ-loop
@@ -34,8 +39,8 @@ at-requires-2 c κs = tt
 higher-requires : tie.Need-higher-requires Inv-loop μ-loop
 higher-requires c κs = tt
 
-returns-2 : tie.Need-returns-2 Inv-loop μ-loop
-returns-2 c =
+returns-3 : tie.Need-returns-3 Inv-loop μ-loop
+returns-3 c =
     λ e. no-bool (sym e)
 
 wide-requires-2 : tie.Need-wide-requires-2 Inv-loop μ-loop
@@ -55,11 +60,11 @@ loop-less c =
 
 loop-again : tie.Need-loop-again Inv-loop μ-loop
 loop-again c =
-    climbs-step (c .before .before .before .before .before .before .before .before .before .before .before .before .before .args .sites .now) (c .before .before .before .before .before .before .before .before .before .before .before .before .before .args .rows .now) (c .before .before .before .before .before .before .before .before .before .before .before .before .before .args .words .now) (c .before .before .before .before .before .before .before .before .before .before .before .before .before .args .kids .now) _ _ _ _ _ _ _ _ (c .before .before .before .before .before .before .before .before .loop .inv) (c .before .before .before .before .before .before .before .loop-test .taken) (c .before .before .before .before .before .before .at .ensures) (c .before .before .before .before .before .wide .ensures) (c .before .before .before .before .if1 .left) (c .before .before .before .at2 .ensures) (c .before .before .higher .ensures) (c .before .if2 .left) (c .wide2 .ensures)
+    climbs-step (c .before .before .before .before .before .before .before .before .before .before .before .before .before .before .before .args .sites .now) (c .before .before .before .before .before .before .before .before .before .before .before .before .before .before .before .args .rows .now) (c .before .before .before .before .before .before .before .before .before .before .before .before .before .before .before .args .words .now) (c .before .before .before .before .before .before .before .before .before .before .before .before .before .before .before .args .kids .now) _ _ _ _ _ _ _ _ (c .before .before .before .before .before .before .before .before .loop .inv) (c .before .before .before .before .before .before .before .loop-test .taken) (c .before .before .before .before .before .before .at .ensures) (c .before .before .before .before .before .wide .ensures) (c .before .before .before .before .if2 .left) (c .before .before .before .at2 .ensures) (c .before .before .higher .ensures) (c .before .if3 .left) (c .wide2 .ensures)
 
-returns-3 : tie.Need-returns-3 Inv-loop μ-loop
-returns-3 c =
-    λ _. climbs-done _ _ _ _ (c .before .loop .inv) (c .loop-test .left)
+returns-4 : tie.Need-returns-4 Inv-loop μ-loop
+returns-4 c =
+    λ _. climbs-done (c .before .before .before .before .before .before .before .before .args .eqs .now) (held (c .before .before .before .before .before .before .before .before .args .sites .now) (c .before .before .before .before .before .before .before .before .args .rows .now) (c .before .before .before .before .before .before .before .before .args .words .now) (c .before .before .before .before .before .before .before .before .args .kids .now)) _ _ (c .before .before .if1 .left) (c .before .loop .inv) (c .loop-test .left)
 
 pub climbs-spec : {M : Type 1} → statement M
 climbs-spec =
@@ -67,16 +72,17 @@ climbs-spec =
     (tie.spec
     Inv-loop
     μ-loop
+    returns
     loop-holds
     at-requires
     wide-requires
-    returns
+    returns-2
     at-requires-2
     higher-requires
-    returns-2
+    returns-3
     wide-requires-2
     add-next
     add-h
     loop-less
     loop-again
-    returns-3)
+    returns-4)
