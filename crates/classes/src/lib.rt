@@ -13,6 +13,7 @@ use paper::Found;
 use paper::Refusal;
 use paper::SITES;
 
+pub mod lent;
 pub mod script;
 
 // The parent of a site that was never joined.
