@@ -14,14 +14,14 @@ use base.Fml.{GName, Lft, Share, Fml, ftrue, fsep, flft, fobs, fauth, fres, fbor
 use prog.Wp.{Heap, Env}
 use ghost.Atoms.{Atoms, sem}
 use contract.Monad.{fact}
-use types.Kit.{Goal, frees, Soaks, Given, Item, mean, Seq, Step, step, ‵, raw, _⊛_, some, later, _$_, move, drop, use1, use2, use3, split, pick, await, fsplit, fsplit3, fjoin, fjoin3}
+use types.Kit.{Goal, frees, Soaks, Given, Item, mean, Seq, Step, step, ‵, raw, _⊛_, some, later, _$_, move, drop, use1, use2, use3, split, pick, await, fsplit, fsplit3, fjoin, fjoin3, fpick, fpack}
 use types.Run.{forget, free1}
 use types.Tokens.{lft-new, lft-end, lent-back, shr-bor-dup, shr-bor-open, obor-close}
 use types.Mut.{open-ref, close-ref}
 use types.SemTy.{Body}
 use denote.RattleType.{RattleType, Denots}
 use denote.Laws.{Is, shows, Lawfuls}
-use denote.Memory.{mem, partAt, partOf, part-halves}
+use denote.Memory.{mem, cellAt, partAt, partOf, part-halves}
 use denote.Plain.{uint-makes, uint-lawful}
 use denote.Array.{Array, array-lawful}
 use denote.Builtin.{u8, u16}
@@ -29,6 +29,7 @@ use denote.Ref.{RefT, MutRef, ShrRef}
 use denote.Lend.{lends-ref, ref-back, lends-shr}
 use denote.Steps.{owned, peeks, heard, nothing}
 use denote.Struct.Laws as LL
+use denote.Struct.Steps.{spelt}
 use denote.Struct.Struct.{Struct}
 use denote.Struct.Members.{Member, rowsOf, partsAt}
 use denote.Struct.Parts.{shapeOf, PartsBack, struct-parts}
@@ -86,6 +87,13 @@ module _ {M : Type 1} (𝓤 : URA M) (H : Heap 𝓤) (A : Atoms 𝓤) where
 -- ---- the steps
 abbrev pub at-place : {X : Type 0} → X → GName → ℕ → ℕ → RefT X
 at-place x γ b o = record { ptr = (b, o); name = γ; now = x }
+
+-- the machine value of the struct, and that it is one
+abbrev pub valC : Classes → Val
+valC = LL.val T.the-type T′.the-laws
+
+abbrev pub IsC : Classes → Type 0
+IsC h = Is T.the-row h (valC h ∷ [])
 
 abbrev pub code : Classes → Gv
 code = T.the-row .coded .code
@@ -145,6 +153,19 @@ module _ {M : Type 1} {𝓤 : URA M} {H : Heap 𝓤} {A : Atoms 𝓤} {K : Type 
   lends-shared t z R ℓ i x b o k = lft-new t z (λ α. move t (1 ∷ []) $
       use1 W (later (some (λ (γ : GName). ‵ (ShrRef ℓ (α ∷ []) R .own (at-place x γ b o) (vptr b o ∷ [])) ⊛ ‵ (flent (α ∷ []) (partAt R i x b o))))) (lends-shr 𝓤 H A W R ℓ (α ∷ []) i x b o) $
       await t z $ pick t (λ γ. split t $ move t (0 ∷ 2 ∷ []) $ k α γ))
+
+  -- ---- a struct in a local lies in memory, and back
+  pub lies-there : K → (h : Classes) (b : ℕ) → IsC h → Step K W (‵ (partAt T.the-row fullShare h b 0) ∷ Γ) G (‵ (fat fullShare T′.mir b 0 (valC h)) ∷ Γ) G
+  unfolding partOf
+  lies-there t h b is = step (λ s. use1 W (‵ (cellAt fullShare (T.the-row .mir) (valC h ∷ []) b 0)) (W .laws .at-raw fullShare T′.mir b 0 (valC h)) $
+      owned t T.the-row (Is T.the-row) (LL.makes T.the-type T′.the-plain 𝓤 H A) h _ is $ move t (1 ∷ 0 ∷ []) $ fjoin t $
+      fpack t (List Val) (λ us. fsep (cellAt fullShare (T.the-row .mir) us b 0) (T.the-row .own h us)) (valC h ∷ []) $ s)
+
+  pub is-there : K → (h : Classes) (b : ℕ) → (IsC h → Seq K W (‵ (fat fullShare T′.mir b 0 (valC h)) ∷ Γ) G) → Seq K W (‵ (partAt T.the-row fullShare h b 0) ∷ Γ) G
+  unfolding partOf
+  is-there t h b k = fpick t (λ vs. fsplit t $ spelt t T.the-row (Is T.the-row) (shows 𝓤 H A T.the-row) (LL.vals T.the-type T′.the-laws) (LL.tells T.the-type T′.the-laws) fullShare h vs b 0 $
+      move t (1 ∷ []) $ peeks t T.the-row (Is T.the-row) (shows 𝓤 H A T.the-row) h (valC h ∷ []) (λ is. drop t $
+      use1 W (‵ (fat fullShare T′.mir b 0 (valC h))) (W .laws .raw-at fullShare T′.mir b 0 (valC h)) $ k is))
 
   -- what a covered function answers: some value r of its type, some last values z of what it was lent, and its `ensures`, φ
   pub answers : K → Soaks G → (R : RattleType) (v : Val) (tokens : Item 𝓤) {Z : Type 0} (left : Z → Fml) (φ : R .Denot → Z → Type 0)
