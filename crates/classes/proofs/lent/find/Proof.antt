@@ -41,7 +41,7 @@ use Rattle.classes.specs.Answers.{of, looked}
 use Rattle.classes.proofs.Classes as T
 use Rattle.classes.proofs.Looked as R
 use Rattle.classes.proofs.Looked.Laws as R′
-use Rattle.classes.proofs.Lending.{Parents, at-place, looks-apart, looks-together, lends-shared, shared-home, answers, number, goes1}
+use Rattle.classes.proofs.Lending.{Parents, at-place, looks-apart, looks-together, lends-shared, shared-home, asks-one, answers, number, goes1}
 use Rattle.classes.proofs.find_in as parts
 use Rattle.classes.proofs.find_in.Symbol as parts-def
 use Rattle.classes.proofs.find_in.Symbol.{name as #classes·find-in}
@@ -102,8 +102,7 @@ module _ {M : Type 1} (𝓤 : URA M) (H : Heap 𝓤) (A : Atoms 𝓤) (W : Given
         move ! (8 ∷ 9 ∷ []) $ looks-apart ! tt h b o (λ i.
         lends-shared ! tt Parents (named 0) i (h .parents) b (o + 0) (λ α₁ γ₁.
         -- [the parents; their token; the lender's part; the ranks; the count; the way back; the open borrow; the fractured borrow; _3; …; _2; …; _1; …; _0; …; res]
-        nothing ! $ move ! (2 ∷ 0 ∷ []) $ group ! 2 $ nothing ! $ number ! n gn $ move ! (3 ∷ 0 ∷ 1 ∷ []) $ group ! 3 $ move ! (1 ∷ 0 ∷ []) $ join ! $ nothing ! $ move ! (1 ∷ 0 ∷ []) $ join ! $
-        use1 W (raw (OnParts 𝓤 H A at-mem run .pre (to-parts α₁ γ₁))) (id⊢ 𝓤 _) $
+        asks-one ! n gn (OnParts 𝓤 H A at-mem run .pre (to-parts α₁ γ₁)) (id⊢ 𝓤 _) $
         calls-at ! fm (OnParts 𝓤 H A at-mem run) known (to-parts α₁ γ₁)
         (and-then ! (load ! (from ! (stop !)) (look ! 7 refl)) (and-then ! (load ! (from ! (stop !)) (look ! 9 refl)) (no-more !))) (λ v.
         answers ! tt R.the-row v (‵ (flft (α₁ ∷ []) fullShare) ⊛ ‵ ftrue)

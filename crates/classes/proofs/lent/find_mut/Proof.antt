@@ -42,7 +42,7 @@ use Rattle.classes.specs.Answers.{of, sought}
 use Rattle.classes.proofs.Classes as T
 use Rattle.classes.proofs.Sought as R
 use Rattle.classes.proofs.Sought.Laws as R′
-use Rattle.classes.proofs.Lending.{Parents, at-place, stands-apart, stands-together, lends, comes-home, answers, number, goes1}
+use Rattle.classes.proofs.Lending.{Parents, at-place, stands-apart, stands-together, lends, asks-one, home-from-one, answers, number, goes1}
 use Rattle.classes.proofs.find_mut_in as parts
 use Rattle.classes.proofs.find_mut_in.Symbol as parts-def
 use Rattle.classes.proofs.find_mut_in.Symbol.{name as #classes·find-mut-in}
@@ -110,16 +110,14 @@ module _ {M : Type 1} (𝓤 : URA M) (H : Heap 𝓤) (A : Atoms 𝓤) (W : Given
         move ! (8 ∷ 9 ∷ 10 ∷ []) $ stands-apart ! tt h b o $
         lends ! tt Parents (named 0) (h .parents) b (o + 0) (λ α₁ γ₁.
         -- [the parents; their token; the lender's part; the ranks; the count; the way back; the open borrow; obs; auth; _3; …; _2; …; _1; …; _0; …]
-        nothing ! $ move ! (2 ∷ 0 ∷ []) $ group ! 2 $ nothing ! $ number ! n gn $ move ! (3 ∷ 0 ∷ 1 ∷ []) $ group ! 3 $ move ! (1 ∷ 0 ∷ []) $ join ! $ nothing ! $ move ! (1 ∷ 0 ∷ []) $ join ! $
-        use1 W (raw (OnParts 𝓤 H A at-mem run .pre (to-parts α₁ γ₁))) (id⊢ 𝓤 _) $
+        asks-one ! n gn (OnParts 𝓤 H A at-mem run .pre (to-parts α₁ γ₁)) (id⊢ 𝓤 _) $
         calls-at ! fm (OnParts 𝓤 H A at-mem run) known (to-parts α₁ γ₁)
         (and-then ! (load ! (from ! (stop !)) (look ! 8 refl)) (and-then ! (load ! (from ! (stop !)) (look ! 10 refl)) (no-more !))) (λ v.
         answers ! tt R.the-row v (‵ (flft (α₁ ∷ []) fullShare) ⊛ ‵ ftrue)
         (lasts parts.ended (α₁ ∷ [], tt) (args γ₁)) (λ r (z : Last). (R : List ℕ) (k : ℕ) → (classes (z .0) R k, r) ≡ sought (classes (h .parents) R k) n) (λ r z e is.
         land ! (from ! (stop !)) (init ! 15 refl (EL.lawful R.the-type R′.the-laws 𝓤 H A W tt .typed r _ is .0)) $
         -- the parents come home at their last value
-        fsplit ! $ move ! (1 ∷ []) $ drop ! $ move ! (1 ∷ []) $ split ! $ move ! (1 ∷ []) $ drop ! $
-        move ! (0 ∷ 2 ∷ 1 ∷ []) $ comes-home ! tt Parents (z .0) b (o + 0) $ stands-together ! tt (struct h z) b o $
+        home-from-one ! tt Parents (z .0) b (o + 0) $ stands-together ! tt (struct h z) b o $
         -- [obs; the borrow; the token; _3; …; _2; …; _1; …; _0; …]
         returns ! (look ! 9 refl) $ move ! (9 ∷ 10 ∷ 7 ∷ 8 ∷ 5 ∷ 6 ∷ 3 ∷ 4 ∷ []) $ goes1 ! $ goes1 ! $ goes1 ! $ goes1 ! $ free0 ! $
         keep ! (0 ∷ 1 ∷ 2 ∷ []) $ by ! (exits r v (struct h z) (e (h .ranks) (h .count)) is))))))))

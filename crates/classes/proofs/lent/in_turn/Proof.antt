@@ -59,7 +59,7 @@ use Rattle.classes.proofs.Taken as K
 use Rattle.classes.proofs.Taken.Laws as K′
 use Rattle.classes.proofs.lent.InTurn as I
 use Rattle.classes.proofs.lent.InTurn.Laws as I′
-use Rattle.classes.proofs.Lending.{at-place, valC, IsC, lends, comes-home, lends-shared, shared-home, lies-there, is-there, answers, number, goes1}
+use Rattle.classes.proofs.Lending.{at-place, valC, IsC, lends, comes-home, lends-shared, shared-home, lies-there, is-there, asks-one, home-from-one, answers, number, goes1}
 use Rattle.classes.proofs.lent.merge as merge
 use Rattle.classes.proofs.lent.merge.Symbol as merge-def
 use Rattle.classes.proofs.lent.merge.Symbol.{name as #merge}
@@ -97,9 +97,16 @@ after d j s l t = record { classes = d; joined = j; sought = s; looked = l; take
 made : (d : Classes) (j : Joined) (s : Sought) (l : Looked) (t : Taken) (u v w z : Val) → IsC d → Is J.the-row j (u ∷ []) → Is S.the-row s (v ∷ []) → Is L.the-row l (w ∷ []) → Is K.the-row t (z ∷ [])
     → Is I.the-row (after d j s l t) (LL.vals I.the-type I′.the-laws (after d j s l t))
 made d j s l t u v w z g a b c e =
-    LL.owes I.the-type I′.the-laws (after d j s l t)
-    (g, (subst (Is J.the-row j) (EL.tells J.the-type J′.the-laws j _ a) a, (subst (Is S.the-row s) (EL.tells S.the-type S′.the-laws s _ b) b,
-    (subst (Is L.the-row l) (EL.tells L.the-type L′.the-laws l _ c) c, (subst (Is K.the-row t) (EL.tells K.the-type K′.the-laws t _ e) e, tt)))))
+    LL.owes I.the-type I′.the-laws (after d j s l t) (
+      g,
+      (
+        subst (Is J.the-row j) (EL.tells J.the-type J′.the-laws j _ a) a,
+        (
+          subst (Is S.the-row s) (EL.tells S.the-type S′.the-laws s _ b) b,
+          (subst (Is L.the-row l) (EL.tells L.the-type L′.the-laws l _ c) c, (subst (Is K.the-row t) (EL.tells K.the-type K′.the-laws t _ e) e, tt)),
+        ),
+      ),
+    )
 
 abbrev stayed : Stays (in-turn.ended .signature .params) (in-turn.ended .kept)
 stayed = (stay-none (λ _. T.the-row) yes, (stay-none (λ _. u16) yes, (stay-none (λ _. u16) yes, (gave-slice (0 ∷ []) tt (plain (λ _. u16)), tt))))
@@ -176,21 +183,19 @@ module _ {M : Type 1} (𝓤 : URA M) (H : Heap 𝓤) (A : Atoms 𝓤) (W : Given
         (λ r (z : Classes × (Unit {0} × (Unit {0} × Unit {0}))). (of (z .0), r) ≡ joined (of h) m n) (λ r₁ z₁ e₁ is₁.
         land ! (from ! (stop !)) (init ! 23 refl (EL.lawful J.the-type J′.the-laws 𝓤 H A W tt .typed r₁ _ is₁ .0)) $
         rewrite ! 23 (λ (u : Val). ‵ (fat fullShare J′.mir l₆ 0 u)) (ap only (EL.tells J.the-type J′.the-laws r₁ (v₁ ∷ []) is₁)) refl $
-        fsplit ! $ move ! (1 ∷ []) $ drop ! $ move ! (1 ∷ []) $ split ! $ move ! (1 ∷ []) $ drop ! $ move ! (0 ∷ 2 ∷ 1 ∷ []) $ comes-home ! tt T.the-row (z₁ .0) c 0 $ is-there ! (z₁ .0) c (λ g₁.
+        home-from-one ! tt T.the-row (z₁ .0) c 0 $ is-there ! (z₁ .0) c (λ g₁.
         -- `find_mut`: [_5; _16; …]
         assigns ! (addr ! (from ! (stop !))) (from ! (stop !)) (init ! 11 refl (tt, tt)) $ lies-there ! (z₁ .0) c g₁ $ lends ! tt T.the-row (named 0) (z₁ .0) c 0 (λ α₂ γ₂.
-        nothing ! $ move ! (2 ∷ 0 ∷ []) $ group ! 2 $ nothing ! $ number ! n gn $ move ! (3 ∷ 0 ∷ 1 ∷ []) $ group ! 3 $ move ! (1 ∷ 0 ∷ []) $ join ! $ nothing ! $ move ! (1 ∷ 0 ∷ []) $ join ! $
-        use1 W (raw (Seeks 𝓤 H A at-mem run .pre (to-find-mut c (z₁ .0) α₂ γ₂))) (id⊢ 𝓤 _) $ calls-at ! fm (Seeks 𝓤 H A at-mem run) (known .1 .0) (to-find-mut c (z₁ .0) α₂ γ₂)
+        asks-one ! n gn (Seeks 𝓤 H A at-mem run .pre (to-find-mut c (z₁ .0) α₂ γ₂)) (id⊢ 𝓤 _) $ calls-at ! fm (Seeks 𝓤 H A at-mem run) (known .1 .0) (to-find-mut c (z₁ .0) α₂ γ₂)
         (and-then ! (load ! (from ! (stop !)) (look ! 12 refl)) (and-then ! (load ! (from ! (stop !)) (look ! 27 refl)) (no-more !))) (λ v₂.
         answers ! tt S.the-row v₂ (‵ (flft (α₂ ∷ []) fullShare) ⊛ ‵ ftrue) (lasts find-mut.ended (α₂ ∷ [], tt) (at-place (z₁ .0) γ₂ c 0, (n, tt)))
         (λ r (z : Classes × (Unit {0} × Unit {0})). (of (z .0), r) ≡ sought (of (z₁ .0)) n) (λ r₂ z₂ e₂ is₂.
         land ! (from ! (stop !)) (init ! 21 refl (EL.lawful S.the-type S′.the-laws 𝓤 H A W tt .typed r₂ _ is₂ .0)) $
         rewrite ! 21 (λ (u : Val). ‵ (fat fullShare S′.mir l₇ 0 u)) (ap only (EL.tells S.the-type S′.the-laws r₂ (v₂ ∷ []) is₂)) refl $
-        fsplit ! $ move ! (1 ∷ []) $ drop ! $ move ! (1 ∷ []) $ split ! $ move ! (1 ∷ []) $ drop ! $ move ! (0 ∷ 2 ∷ 1 ∷ []) $ comes-home ! tt T.the-row (z₂ .0) c 0 $ is-there ! (z₂ .0) c (λ g₂.
+        home-from-one ! tt T.the-row (z₂ .0) c 0 $ is-there ! (z₂ .0) c (λ g₂.
         -- `find`
         assigns ! (addr ! (from ! (stop !))) (from ! (stop !)) (init ! 9 refl (tt, tt)) $ lies-there ! (z₂ .0) c g₂ $ lends-shared ! tt T.the-row (named 0) fullShare (z₂ .0) c 0 (λ α₃ γ₃.
-        nothing ! $ move ! (2 ∷ 0 ∷ []) $ group ! 2 $ nothing ! $ number ! m gm $ move ! (3 ∷ 0 ∷ 1 ∷ []) $ group ! 3 $ move ! (1 ∷ 0 ∷ []) $ join ! $ nothing ! $ move ! (1 ∷ 0 ∷ []) $ join ! $
-        use1 W (raw (Finds 𝓤 H A at-mem run .pre (to-find c (z₂ .0) α₃ γ₃))) (id⊢ 𝓤 _) $ calls-at ! fm (Finds 𝓤 H A at-mem run) (known .1 .1 .0) (to-find c (z₂ .0) α₃ γ₃)
+        asks-one ! m gm (Finds 𝓤 H A at-mem run .pre (to-find c (z₂ .0) α₃ γ₃)) (id⊢ 𝓤 _) $ calls-at ! fm (Finds 𝓤 H A at-mem run) (known .1 .1 .0) (to-find c (z₂ .0) α₃ γ₃)
         (and-then ! (load ! (from ! (stop !)) (look ! 10 refl)) (and-then ! (load ! (from ! (stop !)) (look ! 29 refl)) (no-more !))) (λ v₃.
         answers ! tt L.the-row v₃ (‵ (flft (α₃ ∷ []) fullShare) ⊛ ‵ ftrue) (lasts find.ended (α₃ ∷ [], tt) (at-place (z₂ .0) γ₃ c 0, (m, tt)))
         (λ r (z : Unit {0} × (Unit {0} × Unit {0})). r ≡ looked (C.find (of (z₂ .0)) m)) (λ r₃ z₃ e₃ is₃.
@@ -242,8 +247,13 @@ unfolding code.routine tablesOf
 in-turn-spec 𝓤 H 𝓜 𝓖 𝓡 =
     entered 𝓤 H (tripleOf 𝓤 H (𝓖 .A) in-turn.signature (in-turn.spec 𝓤 H (𝓖 .A) (𝓜 .mem) (𝓡 .run)))
     (tables 𝓤 H 𝓜 𝓡 code.env .C) (tables 𝓤 H 𝓜 𝓡 code.env .Λ) #in-turn code.function (code.unfolded 𝓤 H 𝓜 𝓡)
-    (meets 𝓤 H (𝓖 .A) (givenOf 𝓤 H 𝓜 𝓖) (𝓜 .mem) (𝓡 .run) (tablesOf 𝓤 H 𝓜 (tables 𝓤 H 𝓜 𝓡 code.env))
-    (cited 𝓤 H (Merges 𝓤 H (𝓖 .A) (𝓜 .mem) (𝓡 .run)) 𝓜 𝓡 code.env #merge merge-def.routine code.calls-classes·lent·merge (merge-thm.met 𝓤 H 𝓜 𝓖 𝓡),
-    (cited 𝓤 H (Seeks 𝓤 H (𝓖 .A) (𝓜 .mem) (𝓡 .run)) 𝓜 𝓡 code.env #find-mut find-mut-def.routine code.calls-classes·lent·find-mut (find-mut-thm.met 𝓤 H 𝓜 𝓖 𝓡),
-    (cited 𝓤 H (Finds 𝓤 H (𝓖 .A) (𝓜 .mem) (𝓡 .run)) 𝓜 𝓡 code.env #find find-def.routine code.calls-classes·lent·find (find-thm.met 𝓤 H 𝓜 𝓖 𝓡),
-    cited 𝓤 H (Removes 𝓤 H (𝓖 .A) (𝓜 .mem) (𝓡 .run)) 𝓜 𝓡 code.env #remove-set-of remove-set-of-def.routine code.calls-classes·lent·remove-set-of (remove-set-of-thm.met 𝓤 H 𝓜 𝓖 𝓡)))))
+    (meets 𝓤 H (𝓖 .A) (givenOf 𝓤 H 𝓜 𝓖) (𝓜 .mem) (𝓡 .run) (tablesOf 𝓤 H 𝓜 (tables 𝓤 H 𝓜 𝓡 code.env)) (
+      cited 𝓤 H (Merges 𝓤 H (𝓖 .A) (𝓜 .mem) (𝓡 .run)) 𝓜 𝓡 code.env #merge merge-def.routine code.calls-classes·lent·merge (merge-thm.met 𝓤 H 𝓜 𝓖 𝓡),
+      (
+        cited 𝓤 H (Seeks 𝓤 H (𝓖 .A) (𝓜 .mem) (𝓡 .run)) 𝓜 𝓡 code.env #find-mut find-mut-def.routine code.calls-classes·lent·find-mut (find-mut-thm.met 𝓤 H 𝓜 𝓖 𝓡),
+        (
+          cited 𝓤 H (Finds 𝓤 H (𝓖 .A) (𝓜 .mem) (𝓡 .run)) 𝓜 𝓡 code.env #find find-def.routine code.calls-classes·lent·find (find-thm.met 𝓤 H 𝓜 𝓖 𝓡),
+          cited 𝓤 H (Removes 𝓤 H (𝓖 .A) (𝓜 .mem) (𝓡 .run)) 𝓜 𝓡 code.env #remove-set-of remove-set-of-def.routine code.calls-classes·lent·remove-set-of (remove-set-of-thm.met 𝓤 H 𝓜 𝓖 𝓡),
+        ),
+      ),
+    ))
