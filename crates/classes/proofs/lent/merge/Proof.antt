@@ -41,7 +41,7 @@ use Rattle.classes.specs.Answers.{of, joined}
 use Rattle.classes.proofs.Classes as T
 use Rattle.classes.proofs.Joined as R
 use Rattle.classes.proofs.Joined.Laws as R′
-use Rattle.classes.proofs.Lending.{Parents, Ranks, at-place, stands-apart, stands-together, lends, comes-home, answers, number, goes1}
+use Rattle.classes.proofs.Lending.{Parents, Ranks, ranks-at, count-at, at-place, stands-apart, stands-together, lends, comes-home, answers, number, goes1}
 use Rattle.classes.proofs.merge_in as parts
 use Rattle.classes.proofs.merge_in.Symbol as parts-def
 use Rattle.classes.proofs.merge_in.Symbol.{name as #classes·merge-in}
@@ -92,7 +92,7 @@ module _ {M : Type 1} (𝓤 : URA M) (H : Heap 𝓤) (A : Atoms 𝓤) (W : Given
 
   -- what the callee's triple binds outside: the fields, lent under names and lifetimes of their own
   abbrev args : GName → GName → GName → Args
-  args γ₁ γ₂ γ₃ = (at-place (h .parents) γ₁ b (o + 0), (at-place (h .ranks) γ₂ b (o + 2048), (at-place (h .count) γ₃ b (o + 3072), (m, (n, tt)))))
+  args γ₁ γ₂ γ₃ = (at-place (h .parents) γ₁ b (o + 0), (at-place (h .ranks) γ₂ b (o + ranks-at), (at-place (h .count) γ₃ b (o + count-at), (m, (n, tt)))))
 
   abbrev to-parts : ℕ → ℕ → ℕ → GName → GName → GName → OnParts 𝓤 H A at-mem run .Ghost
   to-parts α₁ α₂ α₃ γ₁ γ₂ γ₃ = (
@@ -101,7 +101,7 @@ module _ {M : Type 1} (𝓤 : URA M) (H : Heap 𝓤) (A : Atoms 𝓤) (W : Given
       (fullShare, (fullShare, (fullShare, tt))),
       tt,
       args γ₁ γ₂ γ₃,
-      (vptr b (o + 0) ∷ [], (vptr b (o + 2048) ∷ [], (vptr b (o + 3072) ∷ [], (vint w16 m ∷ [], (vint w16 n ∷ [], tt))))),
+      (vptr b (o + 0) ∷ [], (vptr b (o + ranks-at) ∷ [], (vptr b (o + count-at) ∷ [], (vint w16 m ∷ [], (vint w16 n ∷ [], tt))))),
     ),
     tt,
   )
@@ -120,8 +120,8 @@ module _ {M : Type 1} (𝓤 : URA M) (H : Heap 𝓤) (A : Atoms 𝓤) (W : Given
         assigns ! (addr ! (from ! (hop ! (look ! 10 refl) (fld ! refl (stop !))))) (from ! (stop !)) (init ! 0 refl (tt, tt)) $
         move ! (14 ∷ 15 ∷ 16 ∷ []) $ stands-apart ! tt h b o $
         lends ! tt Parents (named 0) (h .parents) b (o + 0) (λ α₁ γ₁. move ! (3 ∷ []) $
-        lends ! tt Ranks (named 1) (h .ranks) b (o + 2048) (λ α₂ γ₂. move ! (6 ∷ []) $
-        lends ! tt u16 (named 2) (h .count) b (o + 3072) (λ α₃ γ₃.
+        lends ! tt Ranks (named 1) (h .ranks) b (o + ranks-at) (λ α₂ γ₂. move ! (6 ∷ []) $
+        lends ! tt u16 (named 2) (h .count) b (o + count-at) (λ α₃ γ₃.
         -- [the count; its token; the lender's part; the ranks; …; the parents; …; the way back; the open borrow; obs; auth; _6; …; _5; …; _4; …; _3; …; _2; …; _1; …; _0; …]
         nothing ! $ move ! (8 ∷ 5 ∷ 2 ∷ 0 ∷ []) $ group ! 4 $ nothing ! $ number ! n gn $ number ! m gm $ move ! (8 ∷ 6 ∷ 4 ∷ 0 ∷ 1 ∷ 2 ∷ []) $ group ! 6 $ move ! (1 ∷ 0 ∷ []) $ join ! $ nothing ! $ move ! (1 ∷ 0 ∷ []) $ join ! $
         use1 W (raw (OnParts 𝓤 H A at-mem run .pre (to-parts α₁ α₂ α₃ γ₁ γ₂ γ₃))) (id⊢ 𝓤 _) $
@@ -133,7 +133,7 @@ module _ {M : Type 1} (𝓤 : URA M) (H : Heap 𝓤) (A : Atoms 𝓤) (W : Given
         land ! (from ! (stop !)) (init ! 21 refl (EL.lawful R.the-type R′.the-laws 𝓤 H A W tt .typed r _ is .0)) $
         -- each field comes home at its last value
         fsplit3 ! $ move ! (2 ∷ []) $ fsplit ! $ move ! (1 ∷ []) $ drop ! $ move ! (3 ∷ []) $ split3 ! $ move ! (2 ∷ []) $ split ! $ move ! (1 ∷ []) $ drop ! $
-        move ! (0 ∷ 6 ∷ 3 ∷ []) $ comes-home ! tt u16 (z .1 .1 .0) b (o + 3072) $ move ! (2 ∷ 5 ∷ 4 ∷ []) $ comes-home ! tt Ranks (z .1 .0) b (o + 2048) $
+        move ! (0 ∷ 6 ∷ 3 ∷ []) $ comes-home ! tt u16 (z .1 .1 .0) b (o + count-at) $ move ! (2 ∷ 5 ∷ 4 ∷ []) $ comes-home ! tt Ranks (z .1 .0) b (o + ranks-at) $
         move ! (2 ∷ 4 ∷ 3 ∷ []) $ comes-home ! tt Parents (z .0) b (o + 0) $ stands-together ! tt (struct z) b o $
         -- [obs; the borrow; the token; _6; …; _5; …; _4; …; _3; …; _2; …; _1; …; _0; …]
         returns ! (look ! 15 refl) $ move ! (15 ∷ 16 ∷ 13 ∷ 14 ∷ 11 ∷ 12 ∷ 9 ∷ 10 ∷ 7 ∷ 8 ∷ 5 ∷ 6 ∷ 3 ∷ 4 ∷ []) $ goes1 ! $ goes1 ! $ goes1 ! $ goes1 ! $ goes1 ! $ goes1 ! $ goes1 ! $ free0 ! $

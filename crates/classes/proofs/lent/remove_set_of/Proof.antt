@@ -45,7 +45,7 @@ use Rattle.classes.specs.Answers.{of, taken}
 use Rattle.classes.proofs.Classes as T
 use Rattle.classes.proofs.Taken as R
 use Rattle.classes.proofs.Taken.Laws as R′
-use Rattle.classes.proofs.Lending.{Parents, at-place, stands-apart, stands-together, lends, comes-home, answers, number, goes1}
+use Rattle.classes.proofs.Lending.{Parents, count-at, at-place, stands-apart, stands-together, lends, comes-home, answers, number, goes1}
 use Rattle.classes.proofs.remove_set_of_in as parts
 use Rattle.classes.proofs.remove_set_of_in.Symbol as parts-def
 use Rattle.classes.proofs.remove_set_of_in.Symbol.{name as #classes·remove-set-of-in}
@@ -100,7 +100,7 @@ module _ {M : Type 1} (𝓤 : URA M) (H : Heap 𝓤) (A : Atoms 𝓤) (W : Given
 
   -- what the callee's triple binds outside: the fields, lent under names and lifetimes of their own, and the list, given up at its own
   abbrev args : GName → GName → Args
-  args γ₁ γ₂ = (at-place (h .parents) γ₁ b (o + 0), (at-place (h .count) γ₂ b (o + 3072), (n, (at-place ys γ′ b′ o′, tt))))
+  args γ₁ γ₂ = (at-place (h .parents) γ₁ b (o + 0), (at-place (h .count) γ₂ b (o + count-at), (n, (at-place ys γ′ b′ o′, tt))))
 
   abbrev to-parts : ℕ → ℕ → GName → GName → OnParts 𝓤 H A at-mem run .Ghost
   to-parts α₁ α₂ γ₁ γ₂ = (
@@ -109,7 +109,7 @@ module _ {M : Type 1} (𝓤 : URA M) (H : Heap 𝓤) (A : Atoms 𝓤) (W : Given
       (fullShare, (fullShare, (q′, tt))),
       tt,
       args γ₁ γ₂,
-      (vptr b (o + 0) ∷ [], (vptr b (o + 3072) ∷ [], (vint w16 n ∷ [], (s ∷ [], tt)))),
+      (vptr b (o + 0) ∷ [], (vptr b (o + count-at) ∷ [], (vint w16 n ∷ [], (s ∷ [], tt)))),
     ),
     tt,
   )
@@ -130,7 +130,7 @@ module _ {M : Type 1} (𝓤 : URA M) (H : Heap 𝓤) (A : Atoms 𝓤) (W : Given
         assigns ! (agg ! (and-then ! (load ! (from ! (stop !)) (look ! 2 refl)) (and-then ! (load ! (from ! (fld ! refl (stop !))) (look-in ! 8 (sub ! 1 refl (whole !)))) (no-more !)))) (from ! (stop !)) (init ! 0 refl (tt, (tt, (record { fits = room .0 }, tt)))) $
         move ! (16 ∷ 17 ∷ 18 ∷ []) $ stands-apart ! tt h b o $
         lends ! tt Parents (named 0) (h .parents) b (o + 0) (λ α₁ γ₁. move ! (4 ∷ []) $
-        lends ! tt u16 (named 1) (h .count) b (o + 3072) (λ α₂ γ₂.
+        lends ! tt u16 (named 1) (h .count) b (o + count-at) (λ α₂ γ₂.
         -- [the count; its token; the lender's part; the parents; …; the ranks; the way back; the open borrow; obs; auth; _7; …; _0; …; what the list owns; its token]
         nothing ! $ move ! (5 ∷ 2 ∷ 29 ∷ 0 ∷ []) $ group ! 4 $ nothing ! $ number ! n gn $ move ! (5 ∷ 3 ∷ 0 ∷ 28 ∷ 1 ∷ []) $ group ! 5 $ move ! (1 ∷ 0 ∷ []) $ join ! $ nothing ! $ move ! (1 ∷ 0 ∷ []) $ join ! $
         use1 W (raw (OnParts 𝓤 H A at-mem run .pre (to-parts α₁ α₂ γ₁ γ₂))) (id⊢ 𝓤 _) $
@@ -142,7 +142,7 @@ module _ {M : Type 1} (𝓤 : URA M) (H : Heap 𝓤) (A : Atoms 𝓤) (W : Given
         land ! (from ! (stop !)) (init ! 23 refl (EL.lawful R.the-type R′.the-laws 𝓤 H A W tt .typed r _ is .0)) $
         -- each field comes home at its last value
         fsplit3 ! $ move ! (2 ∷ []) $ fsplit ! $ drop ! $ fsplit ! $ fsplit ! $ move ! (1 ∷ []) $ feqL ! (λ l. move ! (1 ∷ []) $ drop ! $ move ! (3 ∷ []) $ split3 ! $ move ! (2 ∷ []) $ split ! $ move ! (1 ∷ []) $ drop ! $
-        move ! (2 ∷ 6 ∷ 5 ∷ []) $ comes-home ! tt u16 (z .1 .0) b (o + 3072) $ move ! (2 ∷ 5 ∷ 4 ∷ []) $ comes-home ! tt Parents (z .0) b (o + 0) $
+        move ! (2 ∷ 6 ∷ 5 ∷ []) $ comes-home ! tt u16 (z .1 .0) b (o + count-at) $ move ! (2 ∷ 5 ∷ 4 ∷ []) $ comes-home ! tt Parents (z .0) b (o + 0) $
         move ! (0 ∷ 4 ∷ 1 ∷ 5 ∷ 6 ∷ 7 ∷ 8 ∷ []) $ stands-together ! tt (struct h z) b o $
         -- [obs; the borrow; its token; the list's token; the last list; _7; …; _0; …]
         returns ! (look ! 19 refl) $ move ! (19 ∷ 20 ∷ 17 ∷ 18 ∷ 15 ∷ 16 ∷ 13 ∷ 14 ∷ 11 ∷ 12 ∷ 9 ∷ 10 ∷ 7 ∷ 8 ∷ 5 ∷ 6 ∷ []) $
