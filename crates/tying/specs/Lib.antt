@@ -3,3 +3,5 @@ pub mod Tied
 pub mod Starting
 pub mod Rows
 pub mod Taking
+pub mod Reading
+pub mod Choosing

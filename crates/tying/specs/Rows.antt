@@ -5,12 +5,12 @@ use mathlib.Core.Option.{Option, none, some}
 use mathlib.Core.List.{List, [], _∷_, _++_, map, List·Memᴰ, List·Memᴰ·head, List·Memᴰ·tail, Memᴰ·map, Memᴰ·of-map}
 use Prim.Native.Nat.{ℕ, zero, suc, _+_, _≤_, _<_}
 use native.Mathlib.Omega.{arith}
-use lib.ListN.{length, getD, length-append}
+use lib.ListN.{length, length-append}
 use Rattle.paper.specs.Words.{keep, below, Table, look}
-use Rattle.paper.specs.Labels.{never}
 use Rattle.paper.specs.Loading.{Labels}
 use Rattle.paper.specs.Tables.{of-keep, in-keep, Rising, keep-rising, look-in, above}
 use Rattle.paper.specs.Closure.{of-below, in-below}
+use Rattle.classes.specs.Well.{cnt, bit}
 use Rattle.classes.proofs.Tables.{Once}
 
 -- ---- ascending tables
@@ -75,6 +75,26 @@ pub below-length : {A : Type 0} (c : ℕ) (f : ℕ → A) → length (below c f)
 unfolding below
 below-length zero f = refl
 below-length (suc c) f = let h = below-length c f in simp length-append (omega arith)
+
+kept-last : (f : ℕ → Bool) (xs : List ℕ) (y : ℕ) → length (keep f (xs ++ (y ∷ []))) ≡ bit (f y) + length (keep f xs)
+unfolding keep
+kept-last f [] y = go (f y)
+  where
+    go : (b : Bool) → length {A = ℕ} (elim b as (λ _. List ℕ) [ true ↦ y ∷ [] | false ↦ [] ]) ≡ bit b + 0
+    go true = refl
+    go false = refl
+kept-last f (x ∷ xs) y = go (f x) (kept-last f xs y)
+  where
+    go : (b : Bool) → length (keep f (xs ++ (y ∷ []))) ≡ bit (f y) + length (keep f xs)
+        → length {A = ℕ} (elim b as (λ _. List ℕ) [ true ↦ x ∷ keep f (xs ++ (y ∷ [])) | false ↦ keep f (xs ++ (y ∷ [])) ]) ≡ bit (f y) + length {A = ℕ} (elim b as (λ _. List ℕ) [ true ↦ x ∷ keep f xs | false ↦ keep f xs ])
+    go true i = omega arith
+    go false i = i
+
+-- how many numbers below c are kept
+pub kept-count : (f : ℕ → Bool) (c : ℕ) → length (keep f (below c (λ z. z))) ≡ cnt f c
+unfolding keep below cnt
+kept-count f zero = refl
+kept-count f (suc c) = let i = kept-count f c in kept-last f (below c (λ z. z)) c ∙ omega arith
 
 -- ---- rows
 

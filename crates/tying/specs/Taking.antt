@@ -1,34 +1,33 @@
 -- A class taken out: what classes::remove_set_of_in lists is what paper calls the members, and it leaves what paper's `dissolve` leaves.
 use mathlib.Core.Path.{_≡_, refl, sym, ap, _∙_, subst, subst⁻¹}
-use mathlib.Core.Bool.{Bool, true, false, not}
+use mathlib.Core.Bool.{true, false}
 use mathlib.Core.Option.{Option, none, some}
-use mathlib.Core.List.{List, [], _∷_, _++_, map, List·Memᴰ}
-use Prim.Native.Nat.{ℕ, zero, suc, _+_, _-_, _≤_, _<_, min}
+use mathlib.Core.List.{List, map, List·Memᴰ}
+use Prim.Native.Nat.{ℕ, _≤_, _<_, min}
 use native.Mathlib.Omega.{arith}
 use native.Mathlib.Decide.{ℕ-discrete}
 use lib.ListN.{length, getD, take, drop, length-append, length-drop, List·getD-append}
 use lib.Seq.{take-append-seam}
-use lib.Dec.{eqb, ltb}
-use borrow.Author.Tests.{lt-ltb, ltb-true, ltb-false, eq-eqb, eqb-true, ne-eqb}
+use lib.Dec.{eqb}
+use borrow.Author.Tests.{lt-ltb, ltb-false, eq-eqb, eqb-true, ne-eqb}
 use Rattle.paper.specs.declared.Found.{Found}
 use Rattle.paper.specs.declared.Found.the-variants.{At, Nothing}
-use Rattle.paper.specs.declared.Refusal.the-variants.{Unknown}
-use Rattle.paper.specs.Words.{if_then_else_, keep, below, look}
-use Rattle.paper.specs.Numbers.{max-sites, Outcome, done, refused, _>>=_, demand}
+use Rattle.paper.specs.Words.{keep, below, look}
+use Rattle.paper.specs.Numbers.{max-sites, done}
 use Rattle.paper.specs.Classes.{Classes, classes, up, find-in, is-at, Removed, halved, remove-at, remove-below, remove-set-of}
 use Rattle.paper.specs.Loading.{Labels, lowest, members, dissolve}
 use Rattle.paper.specs.Labels.{never}
-use Rattle.paper.specs.Tables.{Fine, Rising, of-keep, in-keep, keep-rising, look-in, in-look, lowest-is, dissolved, undissolved, dissolve-fine}
+use Rattle.paper.specs.Tables.{Fine, of-keep, in-keep, keep-rising, look-in, in-look, lowest-is, dissolved, undissolved, dissolve-fine}
 use Rattle.classes.specs.declared.Taken.{Taken}
 use Rattle.classes.specs.declared.Taken.the-variants as K
 use Rattle.classes.specs.Answers.{or-self, rep, over, taken}
-use Rattle.classes.specs.Well.{Well, WellMade, has-up, in-class, rep-of, dropped}
+use Rattle.classes.specs.Well.{has-up, in-class, dropped}
 use Rattle.classes.specs.Equal.{Holds, TakesOut, sites-below}
 use Rattle.classes.proofs.Uniting.{is-joined, joined-has}
 use Rattle.classes.proofs.Laws.{remove-takes}
 use Rattle.classes.proofs.Room.{remove-room}
 use Rattle.classes.proofs.Tables.{remove-dissolves}
-use Rattle.tying.specs.Tied.{is-some, has-label, Tied, tied-fine, label-some, some-label, label-none}
+use Rattle.tying.specs.Tied.{has-label, Tied, tied-fine, label-some, label-none}
 use Rattle.tying.specs.Rows.{rising-same, rising-once, keep-most, below-length, row, row-rising, in-row, of-row, row-firsts}
 
 no-bool : {A : Type 0} → true ≡ false → A

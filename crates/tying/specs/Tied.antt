@@ -8,7 +8,7 @@ use native.Mathlib.Omega.{arith}
 use Rattle.paper.specs.Words.{look}
 use Rattle.paper.specs.Numbers.{max-sites}
 use Rattle.paper.specs.Loading.{Labels, lowest}
-use Rattle.paper.specs.Labels.{Sound, never}
+use Rattle.paper.specs.Labels.{Sound}
 use Rattle.paper.specs.Tables.{Rising, Fine, lowest-is, lowest-own}
 use Rattle.classes.specs.Well.{Well, has-up}
 use Rattle.classes.specs.Equal.{Holds}
