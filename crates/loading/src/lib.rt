@@ -2,6 +2,8 @@
 use holders::Answer;
 use paper::Refusal;
 
+pub mod rounds;
+
 // What the rounds leave: how many words the tail has, how many sites are constrained, how many are equal; or why the rule is refused.
 pub struct Solved {
     pub tail: u16,
