@@ -1,17 +1,16 @@
 -- What stands between two steps of the rounds: the lent lists and the lent classes tell a solving of paper.
 use mathlib.Core.Path.{_≡_}
-use mathlib.Core.Option.{Option, none, some}
-use mathlib.Core.List.{List, map}
+use mathlib.Core.Option.{none, some}
+use mathlib.Core.List.{List}
 use Prim.Native.Nat.{ℕ, _+_, _<_, _≤_}
-use lib.ListN.{length, getD, drop, set}
+use lib.ListN.{length, getD, set}
 use lib.Dec.{eqb}
 use Rattle.paper.specs.declared.Constraint.{Constraint}
-use Rattle.paper.specs.declared.Refusal.{Refusal}
 use Rattle.paper.specs.Words.{if_then_else_, below, put, look}
-use Rattle.paper.specs.Numbers.{max-sites, max-fields, max-equal, Outcome, done, refused, _>>=_}
+use Rattle.paper.specs.Numbers.{max-sites, max-equal, Outcome, done, refused, _>>=_}
 use Rattle.paper.specs.Sites.{Sites, child-count, child, children, number-of, add-all}
 use Rattle.paper.specs.Tables.{Rising}
-use Rattle.paper.specs.Loading.{Constraints, Labels, Solving, lowest, join-all, like-children, take-class, grow-all, give-all, join-children, others}
+use Rattle.paper.specs.Loading.{Constraints, Labels, Solving, lowest, join-all, like-children, take-class, grow-all, give-all, join-children}
 use Rattle.classes.specs.Answers.{rep}
 use Rattle.classes.specs.Well.{has-up}
 use Rattle.growth.specs.Tail.{table}
