@@ -181,7 +181,15 @@ pub fn wide(members: usize, fields: u8, rules: usize) -> Written {
     Written { sites, rules: (0..rules).map(|i| (i as i64, items.clone())).collect() }
 }
 
-/// As many sites as may be, eight fields a site; rules of four constraints whose children are all there.
+/// Arguments that must be integers, the last another in each rule.
+pub fn flat(items: usize, rules: usize) -> Written {
+    let sites = (0..items).map(|k| Site::Argument(k as u8)).collect();
+    let value = |i: usize, k: usize| if k + 1 == items { i } else { k };
+    let rule = |i: usize| (0..items).map(|k| Item::Is(k, Shape::Integer(value(i, k) as i128))).collect();
+    Written { sites, rules: (0..rules).map(|i| (0, rule(i))).collect() }
+}
+
+/// As many sites as may be, site s with fields 8s + 1 to 8s + 8; rules that go down three structures, whose children are all there, to an integer.
 pub fn full(rules: usize) -> Written {
     let mut sites = vec![Site::Argument(0)];
     while sites.len() + 8 <= SITES {
@@ -189,7 +197,13 @@ pub fn full(rules: usize) -> Written {
         sites.extend((0..8).map(|f| Site::Field(source, f)));
     }
     let rules = (0..rules)
-        .map(|i| (0, [0, 1 + i % 8, 9 + i % 64, 17].iter().map(|&s| Item::Is(s, Shape::Structure(s as u16, 8))).collect()))
+        .map(|i| {
+            let one = 1 + i % 8;
+            let two = 8 * one + 1 + i / 8 % 8;
+            let mut items: Vec<Item> = [0, one, two].iter().map(|&s| Item::Is(s, Shape::Structure(s as u16, 8))).collect();
+            items.push(Item::Is(8 * two + 1, Shape::Integer(i as i128)));
+            (0, items)
+        })
         .collect();
     Written { sites, rules }
 }
