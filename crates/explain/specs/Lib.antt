@@ -1,0 +1,4 @@
+pub mod Parts
+pub mod Shapes
+pub mod Words
+pub mod Said
