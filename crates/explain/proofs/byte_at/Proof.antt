@@ -14,7 +14,7 @@ shared-slice-read-wide c = search needs
 
 -- src/lib.rt:43:9
 wide-requires : tie.Need-wide-requires
-wide-requires c κs = search needs
+wide-requires c κs = tt
 
 -- src/lib.rt:43:9
 returns : tie.Need-returns

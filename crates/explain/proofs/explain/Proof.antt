@@ -9,11 +9,11 @@ use Rattle.explain.proofs.put_explained.Reads as put-explained-reads
 
 -- src/lib.rt:407:9
 put-explained-requires : tie.Need-put-explained-requires
-put-explained-requires c κs = search needs
+put-explained-requires c κs = tt
 
 -- src/lib.rt:408:5
 end-line-requires : tie.Need-end-line-requires
-end-line-requires c κs = search needs
+end-line-requires c κs = tt
 
 -- src/lib.rt:404:1
 same-length : tie.Need-same-length

@@ -28,7 +28,7 @@ shared-slice-read-put-part c = search needs
 
 -- src/lib.rt:157:13
 put-part-requires : tie.Need-put-part-requires Inv-loop μ-loop
-put-part-requires c κs = search needs
+put-part-requires c κs = tt
 
 -- src/lib.rt:159:9
 add-i : tie.Need-add-i Inv-loop μ-loop

@@ -24,7 +24,7 @@ returns-2 c = few-listed _ _ _ _ _ _ (c .before .if1 .left) (c .if2 .taken)
 
 -- src/lib.rt:184:5
 when-requires : tie.Need-when-requires
-when-requires c κs = search needs
+when-requires c κs = tt
 
 -- src/lib.rt:174:1
 returns-3 : tie.Need-returns-3

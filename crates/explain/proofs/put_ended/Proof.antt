@@ -1,3 +1,4 @@
+use mathlib.Core.Path.{refl}
 use Rattle.explain.specs.Words.{clean-sheet, read-to-end}
 use Rattle.explain.proofs.LineLaws.{end-words}
 use mathlib.Core.Bool.{true, false}
@@ -10,11 +11,11 @@ use Rattle.explain.proofs.fill.Reads as fill-reads
 
 -- src/lib.rt:325:13
 slice-aggregate-fill : tie.Need-slice-aggregate-fill
-slice-aggregate-fill c = search needs
+slice-aggregate-fill c = refl
 
 -- src/lib.rt:324:9
 fill-requires : tie.Need-fill-requires
-fill-requires c κs = search needs
+fill-requires c κs = tt
 
 -- src/lib.rt:324:9
 same-length : tie.Need-same-length
@@ -27,11 +28,11 @@ returns c = end-words _ _ _ _ true (c .before .before .before .before .before .i
 
 -- src/lib.rt:332:9
 slice-aggregate-fill-2 : tie.Need-slice-aggregate-fill-2
-slice-aggregate-fill-2 c = search needs
+slice-aggregate-fill-2 c = refl
 
 -- src/lib.rt:331:5
 fill-requires-2 : tie.Need-fill-requires-2
-fill-requires-2 c κs = search needs
+fill-requires-2 c κs = tt
 
 -- src/lib.rt:320:1
 same-length-2 : tie.Need-same-length-2

@@ -1,3 +1,4 @@
+use mathlib.Core.Path.{refl}
 use Rattle.explain.specs.Words.{overlap-two, overlap-more, mask-one, mask-more, calls-itself, empty-line, not-known}
 use Rattle.explain.proofs.LineLaws.{shape-words}
 use Rattle.explain.specs.declared.Shape.the-variants.{Refused, OverlapTwo, OverlapMore, MaskOne, MaskMore, Term, End, Stop, Empty, Unknown}
@@ -14,7 +15,7 @@ use Rattle.explain.proofs.shape_of.Reads as shape-of-reads
 
 -- src/lib.rt:342:9
 shape-of-requires : tie.Need-shape-of-requires
-shape-of-requires c κs = search needs
+shape-of-requires c κs = tt
 
 -- src/lib.rt:344:42
 enum-told : tie.Need-enum-told
@@ -22,7 +23,7 @@ enum-told c = search needs
 
 -- src/lib.rt:344:27
 put-refused-requires : tie.Need-put-refused-requires
-put-refused-requires c κs = search needs
+put-refused-requires c κs = tt
 
 -- src/lib.rt:346:13
 enum-told-2 : tie.Need-enum-told-2
@@ -30,11 +31,11 @@ enum-told-2 c = search needs
 
 -- src/lib.rt:346:13
 slice-aggregate-fill : tie.Need-slice-aggregate-fill
-slice-aggregate-fill c = search needs
+slice-aggregate-fill c = refl
 
 -- src/lib.rt:345:30
 fill-requires : tie.Need-fill-requires
-fill-requires c κs = search needs
+fill-requires c κs = tt
 
 -- src/lib.rt:352:13
 enum-told-3 : tie.Need-enum-told-3
@@ -42,11 +43,11 @@ enum-told-3 c = search needs
 
 -- src/lib.rt:352:13
 slice-aggregate-fill-2 : tie.Need-slice-aggregate-fill-2
-slice-aggregate-fill-2 c = search needs
+slice-aggregate-fill-2 c = refl
 
 -- src/lib.rt:351:31
 fill-requires-2 : tie.Need-fill-requires-2
-fill-requires-2 c κs = search needs
+fill-requires-2 c κs = tt
 
 -- src/lib.rt:358:13
 enum-told-4 : tie.Need-enum-told-4
@@ -54,11 +55,11 @@ enum-told-4 c = search needs
 
 -- src/lib.rt:358:13
 slice-aggregate-fill-3 : tie.Need-slice-aggregate-fill-3
-slice-aggregate-fill-3 c = search needs
+slice-aggregate-fill-3 c = refl
 
 -- src/lib.rt:357:27
 fill-requires-3 : tie.Need-fill-requires-3
-fill-requires-3 c κs = search needs
+fill-requires-3 c κs = tt
 
 -- src/lib.rt:364:13
 enum-told-5 : tie.Need-enum-told-5
@@ -66,11 +67,11 @@ enum-told-5 c = search needs
 
 -- src/lib.rt:364:13
 slice-aggregate-fill-4 : tie.Need-slice-aggregate-fill-4
-slice-aggregate-fill-4 c = search needs
+slice-aggregate-fill-4 c = refl
 
 -- src/lib.rt:363:28
 fill-requires-4 : tie.Need-fill-requires-4
-fill-requires-4 c κs = search needs
+fill-requires-4 c κs = tt
 
 -- src/lib.rt:370:13
 enum-told-6 : tie.Need-enum-told-6
@@ -78,11 +79,11 @@ enum-told-6 c = search needs
 
 -- src/lib.rt:370:13
 slice-aggregate-fill-5 : tie.Need-slice-aggregate-fill-5
-slice-aggregate-fill-5 c = search needs
+slice-aggregate-fill-5 c = refl
 
 -- src/lib.rt:369:24
 fill-requires-5 : tie.Need-fill-requires-5
-fill-requires-5 c κs = search needs
+fill-requires-5 c κs = tt
 
 -- src/lib.rt:375:43
 enum-told-7 : tie.Need-enum-told-7
@@ -90,7 +91,7 @@ enum-told-7 c = search needs
 
 -- src/lib.rt:375:23
 put-ended-requires : tie.Need-put-ended-requires
-put-ended-requires c κs = search needs
+put-ended-requires c κs = tt
 
 -- src/lib.rt:376:39
 enum-told-8 : tie.Need-enum-told-8
@@ -98,7 +99,7 @@ enum-told-8 c = search needs
 
 -- src/lib.rt:376:24
 put-stopped-requires : tie.Need-put-stopped-requires
-put-stopped-requires c κs = search needs
+put-stopped-requires c κs = tt
 
 -- src/lib.rt:378:13
 enum-told-9 : tie.Need-enum-told-9
@@ -106,11 +107,11 @@ enum-told-9 c = search needs
 
 -- src/lib.rt:378:13
 slice-aggregate-fill-6 : tie.Need-slice-aggregate-fill-6
-slice-aggregate-fill-6 c = search needs
+slice-aggregate-fill-6 c = refl
 
 -- src/lib.rt:377:25
 fill-requires-6 : tie.Need-fill-requires-6
-fill-requires-6 c κs = search needs
+fill-requires-6 c κs = tt
 
 -- src/lib.rt:384:13
 enum-told-10 : tie.Need-enum-told-10
@@ -118,11 +119,11 @@ enum-told-10 c = search needs
 
 -- src/lib.rt:384:13
 slice-aggregate-fill-7 : tie.Need-slice-aggregate-fill-7
-slice-aggregate-fill-7 c = search needs
+slice-aggregate-fill-7 c = refl
 
 -- src/lib.rt:383:27
 fill-requires-7 : tie.Need-fill-requires-7
-fill-requires-7 c κs = search needs
+fill-requires-7 c κs = tt
 
 -- src/lib.rt:339:1
 same-length : tie.Need-same-length

@@ -18,7 +18,7 @@ four-at-requires c κs = search needs
 
 -- src/lib.rt:122:9
 put-decimal-requires : tie.Need-put-decimal-requires
-put-decimal-requires c κs = search needs
+put-decimal-requires c κs = tt
 
 -- src/lib.rt:122:9
 same-length : tie.Need-same-length
@@ -34,7 +34,7 @@ four-at-requires-2 c κs = search needs
 
 -- src/lib.rt:125:9
 put-decimal-requires-2 : tie.Need-put-decimal-requires-2
-put-decimal-requires-2 c κs = search needs
+put-decimal-requires-2 c κs = tt
 
 -- src/lib.rt:125:9
 same-length-2 : tie.Need-same-length-2
@@ -46,7 +46,7 @@ returns-2 c = instead _ _ _ _ (is-first _ _ _ (c .before .before .before .before
 
 -- src/lib.rt:128:9
 put-places-requires : tie.Need-put-places-requires
-put-places-requires c κs = search needs
+put-places-requires c κs = tt
 
 -- src/lib.rt:128:9
 same-length-3 : tie.Need-same-length-3
@@ -62,7 +62,7 @@ two-at-requires c κs = search needs
 
 -- src/lib.rt:131:9
 put-decimal-requires-3 : tie.Need-put-decimal-requires-3
-put-decimal-requires-3 c κs = search needs
+put-decimal-requires-3 c κs = tt
 
 -- src/lib.rt:131:9
 same-length-4 : tie.Need-same-length-4
@@ -78,7 +78,7 @@ two-at-requires-2 c κs = search needs
 
 -- src/lib.rt:134:9
 put-decimal-requires-4 : tie.Need-put-decimal-requires-4
-put-decimal-requires-4 c κs = search needs
+put-decimal-requires-4 c κs = tt
 
 -- src/lib.rt:134:9
 same-length-5 : tie.Need-same-length-5
@@ -94,7 +94,7 @@ two-at-requires-3 c κs = search needs
 
 -- src/lib.rt:137:9
 put-plural-requires : tie.Need-put-plural-requires
-put-plural-requires c κs = search needs
+put-plural-requires c κs = tt
 
 -- src/lib.rt:137:9
 same-length-6 : tie.Need-same-length-6
@@ -110,7 +110,7 @@ two-at-requires-4 c κs = search needs
 
 -- src/lib.rt:140:9
 put-plural-requires-2 : tie.Need-put-plural-requires-2
-put-plural-requires-2 c κs = search needs
+put-plural-requires-2 c κs = tt
 
 -- src/lib.rt:140:9
 same-length-7 : tie.Need-same-length-7
@@ -122,11 +122,11 @@ returns-7 c = instead _ _ _ _ (is-second-plural _ _ _ (c .before .before .before
 
 -- src/lib.rt:143:37
 byte-at-requires : tie.Need-byte-at-requires
-byte-at-requires c κs = search needs
+byte-at-requires c κs = tt
 
 -- src/lib.rt:143:9
 put-decimal-requires-5 : tie.Need-put-decimal-requires-5
-put-decimal-requires-5 c κs = search needs
+put-decimal-requires-5 c κs = tt
 
 -- src/lib.rt:143:9
 same-length-8 : tie.Need-same-length-8
@@ -138,11 +138,11 @@ returns-8 c = instead _ _ _ _ (is-number _ _ _ (c .before .before .before .befor
 
 -- src/lib.rt:146:37
 byte-at-requires-2 : tie.Need-byte-at-requires-2
-byte-at-requires-2 c κs = search needs
+byte-at-requires-2 c κs = tt
 
 -- src/lib.rt:146:9
 put-decimal-requires-6 : tie.Need-put-decimal-requires-6
-put-decimal-requires-6 c κs = search needs
+put-decimal-requires-6 c κs = tt
 
 -- src/lib.rt:146:9
 same-length-9 : tie.Need-same-length-9
@@ -154,7 +154,7 @@ returns-9 c = instead _ _ _ _ (is-kind _ _ _ (c .before .before .before .before 
 
 -- src/lib.rt:148:5
 put-requires : tie.Need-put-requires
-put-requires c κs = search needs
+put-requires c κs = tt
 
 -- src/lib.rt:118:1
 same-length-10 : tie.Need-same-length-10

@@ -10,7 +10,7 @@ use Rattle.texts.proofs.put_decimal.Reads as put-decimal-reads
 
 -- src/lib.rt:76:9
 put-separator-requires : tie.Need-put-separator-requires
-put-separator-requires c κs = search needs
+put-separator-requires c κs = tt
 
 -- src/lib.rt:77:25
 four-at-requires : tie.Need-four-at-requires
@@ -18,7 +18,7 @@ four-at-requires c κs = search needs
 
 -- src/lib.rt:77:5
 put-decimal-requires : tie.Need-put-decimal-requires
-put-decimal-requires c κs = search needs
+put-decimal-requires c κs = tt
 
 -- src/lib.rt:72:1
 same-length : tie.Need-same-length

@@ -14,7 +14,7 @@ four-at-requires c κs = search needs
 
 -- src/lib.rt:101:9
 put-decimal-requires : tie.Need-put-decimal-requires
-put-decimal-requires c κs = search needs
+put-decimal-requires c κs = tt
 
 -- src/lib.rt:103:9
 same-length : tie.Need-same-length

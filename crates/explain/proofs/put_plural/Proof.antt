@@ -12,7 +12,7 @@ returns c = singular _ _ (c .if1 .taken)
 
 -- src/lib.rt:114:5
 put-requires : tie.Need-put-requires
-put-requires c κs = search needs
+put-requires c κs = tt
 
 -- src/lib.rt:108:1
 same-length : tie.Need-same-length

@@ -1,3 +1,4 @@
+use mathlib.Core.Path.{refl}
 use Rattle.explain.specs.Words.{unknown-site, unreachable, hanging-site, self-containing, limit-of-a-rule, place-used, other-refusal}
 use Rattle.explain.proofs.LineLaws.{words-of, refused-2, refused-4, refused-5, refused-6, refused-7, refused-8, refused-other}
 use Rattle.explain.specs.Said.{refused-words}
@@ -11,15 +12,15 @@ use Rattle.explain.proofs.fill.Reads as fill-reads
 
 -- src/lib.rt:217:9
 byte-at-requires : tie.Need-byte-at-requires
-byte-at-requires c κs = search needs
+byte-at-requires c κs = tt
 
 -- src/lib.rt:220:13
 slice-aggregate-fill : tie.Need-slice-aggregate-fill
-slice-aggregate-fill c = search needs
+slice-aggregate-fill c = refl
 
 -- src/lib.rt:219:9
 fill-requires : tie.Need-fill-requires
-fill-requires c κs = search needs
+fill-requires c κs = tt
 
 -- src/lib.rt:219:9
 same-length : tie.Need-same-length
@@ -32,11 +33,11 @@ returns c = words-of _ _ _ refused-words unknown-site _ _ (c .before .before .be
 
 -- src/lib.rt:228:13
 slice-aggregate-fill-2 : tie.Need-slice-aggregate-fill-2
-slice-aggregate-fill-2 c = search needs
+slice-aggregate-fill-2 c = refl
 
 -- src/lib.rt:227:9
 fill-requires-2 : tie.Need-fill-requires-2
-fill-requires-2 c κs = search needs
+fill-requires-2 c κs = tt
 
 -- src/lib.rt:227:9
 same-length-2 : tie.Need-same-length-2
@@ -49,11 +50,11 @@ returns-2 c = words-of _ _ _ refused-words unreachable _ _ (c .before .before .b
 
 -- src/lib.rt:236:13
 slice-aggregate-fill-3 : tie.Need-slice-aggregate-fill-3
-slice-aggregate-fill-3 c = search needs
+slice-aggregate-fill-3 c = refl
 
 -- src/lib.rt:235:9
 fill-requires-3 : tie.Need-fill-requires-3
-fill-requires-3 c κs = search needs
+fill-requires-3 c κs = tt
 
 -- src/lib.rt:235:9
 same-length-3 : tie.Need-same-length-3
@@ -66,11 +67,11 @@ returns-3 c = words-of _ _ _ refused-words hanging-site _ _ (c .before .before .
 
 -- src/lib.rt:244:13
 slice-aggregate-fill-4 : tie.Need-slice-aggregate-fill-4
-slice-aggregate-fill-4 c = search needs
+slice-aggregate-fill-4 c = refl
 
 -- src/lib.rt:243:9
 fill-requires-4 : tie.Need-fill-requires-4
-fill-requires-4 c κs = search needs
+fill-requires-4 c κs = tt
 
 -- src/lib.rt:243:9
 same-length-4 : tie.Need-same-length-4
@@ -83,11 +84,11 @@ returns-4 c = words-of _ _ _ refused-words self-containing _ _ (c .before .befor
 
 -- src/lib.rt:252:13
 slice-aggregate-fill-5 : tie.Need-slice-aggregate-fill-5
-slice-aggregate-fill-5 c = search needs
+slice-aggregate-fill-5 c = refl
 
 -- src/lib.rt:251:9
 fill-requires-5 : tie.Need-fill-requires-5
-fill-requires-5 c κs = search needs
+fill-requires-5 c κs = tt
 
 -- src/lib.rt:251:9
 same-length-5 : tie.Need-same-length-5
@@ -100,11 +101,11 @@ returns-5 c = words-of _ _ _ refused-words limit-of-a-rule _ _ (c .before .befor
 
 -- src/lib.rt:260:13
 slice-aggregate-fill-6 : tie.Need-slice-aggregate-fill-6
-slice-aggregate-fill-6 c = search needs
+slice-aggregate-fill-6 c = refl
 
 -- src/lib.rt:259:9
 fill-requires-6 : tie.Need-fill-requires-6
-fill-requires-6 c κs = search needs
+fill-requires-6 c κs = tt
 
 -- src/lib.rt:259:9
 same-length-6 : tie.Need-same-length-6
@@ -117,11 +118,11 @@ returns-6 c = words-of _ _ _ refused-words place-used _ _ (c .before .before .be
 
 -- src/lib.rt:267:9
 slice-aggregate-fill-7 : tie.Need-slice-aggregate-fill-7
-slice-aggregate-fill-7 c = search needs
+slice-aggregate-fill-7 c = refl
 
 -- src/lib.rt:266:5
 fill-requires-7 : tie.Need-fill-requires-7
-fill-requires-7 c κs = search needs
+fill-requires-7 c κs = tt
 
 -- src/lib.rt:214:1
 same-length-7 : tie.Need-same-length-7

@@ -1,3 +1,4 @@
+use mathlib.Core.Path.{refl}
 use Rattle.explain.proofs.PartLaws.{instead, last-separator, other-separator}
 use borrow.Author.Needs.{needs}
 use Rattle.explain.proofs.put_separator.Statement.{statement}
@@ -8,11 +9,11 @@ use Rattle.texts.proofs.put_text.Reads as put-text-reads
 
 -- src/lib.rt:67:34
 slice-aggregate-put-text : tie.Need-slice-aggregate-put-text
-slice-aggregate-put-text c = search needs
+slice-aggregate-put-text c = refl
 
 -- src/lib.rt:67:9
 put-text-requires : tie.Need-put-text-requires
-put-text-requires c κs = search needs
+put-text-requires c κs = tt
 
 -- src/lib.rt:67:9
 same-length : tie.Need-same-length
@@ -24,11 +25,11 @@ returns c = instead _ _ _ _ (last-separator _ (c .before .before .before .before
 
 -- src/lib.rt:69:23
 slice-aggregate-put-text-2 : tie.Need-slice-aggregate-put-text-2
-slice-aggregate-put-text-2 c = search needs
+slice-aggregate-put-text-2 c = refl
 
 -- src/lib.rt:69:5
 put-text-requires-2 : tie.Need-put-text-requires-2
-put-text-requires-2 c κs = search needs
+put-text-requires-2 c κs = tt
 
 -- src/lib.rt:63:1
 same-length-2 : tie.Need-same-length-2

@@ -1,3 +1,4 @@
+use mathlib.Core.Path.{refl}
 use Rattle.explain.specs.Words.{bad-line, source-unknown, limit-of-a-sheet, repeated, other-stop}
 use Rattle.explain.proofs.LineLaws.{words-of, stopped-1, stopped-2, stopped-7, stopped-9, stopped-other}
 use Rattle.explain.specs.Said.{stopped-words}
@@ -11,15 +12,15 @@ use Rattle.explain.proofs.fill.Reads as fill-reads
 
 -- src/lib.rt:278:9
 byte-at-requires : tie.Need-byte-at-requires
-byte-at-requires c κs = search needs
+byte-at-requires c κs = tt
 
 -- src/lib.rt:281:13
 slice-aggregate-fill : tie.Need-slice-aggregate-fill
-slice-aggregate-fill c = search needs
+slice-aggregate-fill c = refl
 
 -- src/lib.rt:280:9
 fill-requires : tie.Need-fill-requires
-fill-requires c κs = search needs
+fill-requires c κs = tt
 
 -- src/lib.rt:280:9
 same-length : tie.Need-same-length
@@ -32,11 +33,11 @@ returns c = words-of _ _ _ stopped-words bad-line _ _ (c .before .before .before
 
 -- src/lib.rt:289:13
 slice-aggregate-fill-2 : tie.Need-slice-aggregate-fill-2
-slice-aggregate-fill-2 c = search needs
+slice-aggregate-fill-2 c = refl
 
 -- src/lib.rt:288:9
 fill-requires-2 : tie.Need-fill-requires-2
-fill-requires-2 c κs = search needs
+fill-requires-2 c κs = tt
 
 -- src/lib.rt:288:9
 same-length-2 : tie.Need-same-length-2
@@ -49,11 +50,11 @@ returns-2 c = words-of _ _ _ stopped-words source-unknown _ _ (c .before .before
 
 -- src/lib.rt:297:13
 slice-aggregate-fill-3 : tie.Need-slice-aggregate-fill-3
-slice-aggregate-fill-3 c = search needs
+slice-aggregate-fill-3 c = refl
 
 -- src/lib.rt:296:9
 fill-requires-3 : tie.Need-fill-requires-3
-fill-requires-3 c κs = search needs
+fill-requires-3 c κs = tt
 
 -- src/lib.rt:296:9
 same-length-3 : tie.Need-same-length-3
@@ -66,11 +67,11 @@ returns-3 c = words-of _ _ _ stopped-words limit-of-a-sheet _ _ (c .before .befo
 
 -- src/lib.rt:305:13
 slice-aggregate-fill-4 : tie.Need-slice-aggregate-fill-4
-slice-aggregate-fill-4 c = search needs
+slice-aggregate-fill-4 c = refl
 
 -- src/lib.rt:304:9
 fill-requires-4 : tie.Need-fill-requires-4
-fill-requires-4 c κs = search needs
+fill-requires-4 c κs = tt
 
 -- src/lib.rt:304:9
 same-length-4 : tie.Need-same-length-4
@@ -83,11 +84,11 @@ returns-4 c = words-of _ _ _ stopped-words repeated _ _ (c .before .before .befo
 
 -- src/lib.rt:312:9
 slice-aggregate-fill-5 : tie.Need-slice-aggregate-fill-5
-slice-aggregate-fill-5 c = search needs
+slice-aggregate-fill-5 c = refl
 
 -- src/lib.rt:311:5
 fill-requires-5 : tie.Need-fill-requires-5
-fill-requires-5 c κs = search needs
+fill-requires-5 c κs = tt
 
 -- src/lib.rt:275:1
 same-length-5 : tie.Need-same-length-5

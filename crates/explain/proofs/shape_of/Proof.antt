@@ -12,7 +12,7 @@ use Rattle.explain.proofs.when.Reads as when-reads
 
 -- src/lib.rt:191:9
 byte-at-requires : tie.Need-byte-at-requires
-byte-at-requires c κs = search needs
+byte-at-requires c κs = tt
 
 -- src/lib.rt:193:9
 returns : tie.Need-returns
@@ -20,7 +20,7 @@ returns c = an-empty _ 0 Empty (c .if1 .taken)
 
 -- src/lib.rt:196:9
 when-requires : tie.Need-when-requires
-when-requires c κs = search needs
+when-requires c κs = tt
 
 -- src/lib.rt:196:9
 returns-2 : tie.Need-returns-2
@@ -52,7 +52,7 @@ returns-4 c = a-13 _ _ _ (c .before .before .before .before .before .if1 .left) 
 
 -- src/lib.rt:205:9
 when-requires-2 : tie.Need-when-requires-2
-when-requires-2 c κs = search needs
+when-requires-2 c κs = tt
 
 -- src/lib.rt:205:9
 returns-5 : tie.Need-returns-5
@@ -60,7 +60,7 @@ returns-5 c = a-14 _ _ _ (c .before .before .before .before .before .if1 .left) 
 
 -- src/lib.rt:208:9
 when-requires-3 : tie.Need-when-requires-3
-when-requires-3 c κs = search needs
+when-requires-3 c κs = tt
 
 -- src/lib.rt:208:9
 returns-6 : tie.Need-returns-6
@@ -68,11 +68,11 @@ returns-6 c = a-15 _ _ _ (c .before .before .before .before .before .before .if1
 
 -- src/lib.rt:210:22
 when-requires-4 : tie.Need-when-requires-4
-when-requires-4 c κs = search needs
+when-requires-4 c κs = tt
 
 -- src/lib.rt:210:5
 when-requires-5 : tie.Need-when-requires-5
-when-requires-5 c κs = search needs
+when-requires-5 c κs = tt
 
 -- src/lib.rt:187:1
 returns-7 : tie.Need-returns-7

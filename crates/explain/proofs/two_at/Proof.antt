@@ -9,7 +9,7 @@ use Rattle.explain.proofs.byte_at.Reads as byte-at-reads
 
 -- src/lib.rt:52:5
 byte-at-requires : tie.Need-byte-at-requires
-byte-at-requires c κs = search needs
+byte-at-requires c κs = tt
 
 -- src/lib.rt:52:5
 mul-result : tie.Need-mul-result
@@ -21,7 +21,7 @@ add-byte-at c = search needs
 
 -- src/lib.rt:52:27
 byte-at-requires-2 : tie.Need-byte-at-requires-2
-byte-at-requires-2 c κs = search needs
+byte-at-requires-2 c κs = tt
 
 -- src/lib.rt:52:5
 add-result : tie.Need-add-result
