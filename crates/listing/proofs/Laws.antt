@@ -1,7 +1,7 @@
 -- Laws of the lines, for the functions that write them.
 use mathlib.Core.Path.{_≡_, refl, sym, ap, _∙_}
 use mathlib.Core.Bool.{Bool, true, false}
-use mathlib.Core.List.{List, [], _∷_, _++_}
+use mathlib.Core.List.{List, [], _∷_, _++_, append-assoc, append-nil}
 use Prim.Native.Nat.{ℕ, zero, suc, _+_, _-_, _*_, _/_, _%_, _≤_, _<_}
 use native.Mathlib.Omega.{arith}
 use native.Mathlib.Numerals.{add-one}
@@ -14,7 +14,7 @@ use Rattle.paper.specs.declared.Constraint.the-variants.{ConstBool, ConstInt}
 use Rattle.paper.specs.declared.Overlap.{Overlap}
 use Rattle.paper.specs.declared.Refusal.{Refusal}
 use Rattle.paper.specs.Words.{two, four, eight, flag}
-use Rattle.paper.specs.Numbers.{Outcome, done, refused, max-unfolding}
+use Rattle.paper.specs.Numbers.{Outcome, done, refused, number, told, max-unfolding}
 use Rattle.paper.specs.Sites.{Sites, constraint-body, unfold-answer, unfolded, known}
 use Rattle.paper.specs.Loading.{Kept}
 use Rattle.paper.specs.Rules.{may-overlap, total, rank}
@@ -31,7 +31,7 @@ use Rattle.kept.specs.Stored.{kept-in, kept-at, base, run, constrained-at, equa
 use Rattle.texts.specs.Written.{Room, wrote, after, follows, nothing}
 use Rattle.texts.specs.Decimal.{decimal}
 use Rattle.texts.proofs.Laws.{digits-after}
-use Rattle.listing.specs.Listed.{or-over, site-text, c-line, c-lines, member-text, members, class-line, classes, head-text, total-line, kept-lines, overlap-word, pair-line, set-line, terms-text, cyclic-line}
+use Rattle.listing.specs.Listed.{or-over, site-text, c-line, c-lines, member-text, members, class-line, classes, head-text, total-line, kept-lines, told-text, refused-line, overlap-word, pair-line, set-line, terms-text, cyclic-line}
 
 -- ---- one text after the other
 pub chain3 : (p q r s : Room) (a b c : List ℕ) → q ≡ wrote p a → r ≡ wrote q b → s ≡ wrote r c → s ≡ wrote p (a ++ (b ++ c))
@@ -257,3 +257,22 @@ term-put p q r t e f = follows p q r (unended " ") (digits-of (two t)) e f ∙ a
     append-none : (s : List ℕ) → s ++ [] ≡ s
     append-none [] = refl
     append-none (x ∷ s) = ap (λ t. x ∷ t) (append-none s)
+
+-- ---- what is told with a refusal
+pub one-put : (p q r : Room) (n : ℕ) → q ≡ wrote p (unended " ") → r ≡ wrote q (decimal n) → r ≡ wrote p (told-text (n ∷ []))
+unfolding told-text
+one-put p q r n e f = chain3 p q r r (unended " ") (decimal n) [] e f (nothing r)
+
+pub both-put : (p q r : Room) (n o : ℕ) → q ≡ wrote p (told-text (n ∷ [])) → r ≡ wrote q (told-text (o ∷ [])) → r ≡ wrote p (told-text (n ∷ o ∷ []))
+unfolding told-text
+both-put p q r n o e f = follows p q r (told-text (n ∷ [])) (told-text (o ∷ [])) e f ∙ ap (λ z. wrote p z) (joined (unended " ") (decimal n) (told-text (o ∷ [])))
+  where
+    joined : (a b c : List ℕ) → (a ++ (b ++ [])) ++ c ≡ a ++ (b ++ c)
+    joined a b c = simp (append-assoc, append-nil)
+
+pub told-put : (p q : Room) (r s : Refusal) → r ≡ s → q ≡ wrote p (told-text (told s)) → q ≡ wrote p (told-text (told r))
+told-put p q r s e f = f ∙ ap (λ z. wrote p (told-text (told z))) (sym e)
+
+pub refused-put : (p q r s t u : Room) (place priority n : ℕ) (x : Refusal) → n ≡ number x → q ≡ wrote p (head-text place priority) → r ≡ wrote q (unended " refused ") → s ≡ wrote r (decimal n) → t ≡ wrote s (told-text (told x)) → u ≡ wrote t (10 ∷ []) → u ≡ wrote p (refused-line place priority x)
+unfolding refused-line
+refused-put p q r s t u place priority n x en e f g h k = chain5 p q r s t u (head-text place priority) (unended " refused ") (decimal (number x)) (told-text (told x)) (10 ∷ []) e f (g ∙ ap (λ z. wrote r (decimal z)) en) h k

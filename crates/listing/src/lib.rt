@@ -320,3 +320,54 @@ pub fn put_cyclic(out: &mut [u8], at: usize, terms: &[u16]) -> usize
     let b = put_terms(out, a, terms);
     put_text(out, b, b"\n")
 }
+
+fn put_one(out: &mut [u8], at: usize, n: u64) -> usize
+    ensures { λ r. ⌜ (now (out .exit), r) ≡ wrote (now (out .entry), at) (told-text (n ∷ [])) ⌝ }
+{
+    let a = put_text(out, at, b" ");
+    put_decimal(out, a, n)
+}
+
+fn put_both(out: &mut [u8], at: usize, n: u64, o: u64) -> usize
+    ensures { λ r. ⌜ (now (out .exit), r) ≡ wrote (now (out .entry), at) (told-text (n ∷ o ∷ [])) ⌝ }
+{
+    let a = put_one(out, at, n);
+    put_one(out, a, o)
+}
+
+// What is told with a refusal.
+fn put_told(out: &mut [u8], at: usize, r: Refusal) -> usize
+    ensures { λ x. ⌜ (now (out .exit), x) ≡ wrote (now (out .entry), at) (told-text (told r)) ⌝ }
+{
+    match r {
+        Refusal::Layout { line } => put_one(out, at, line as u64),
+        Refusal::Unknown { site } => put_one(out, at, site as u64),
+        Refusal::Itself { site } => put_one(out, at, site as u64),
+        Refusal::Unreachable { site, other } => put_both(out, at, site as u64, other as u64),
+        Refusal::Hanging { site } => put_one(out, at, site as u64),
+        Refusal::Endless { site } => put_one(out, at, site as u64),
+        Refusal::TooManySites { asked: _, at: _ } => at,
+        Refusal::TooManySources { asked: _, at: _ } => at,
+        Refusal::TooManyFields { asked: _, at: _ } => at,
+        Refusal::TooManyRules { asked: _ } => at,
+        Refusal::TooManyItems { asked: _ } => at,
+        Refusal::TooManyConstrained { asked: _ } => at,
+        Refusal::TooManyEqual { asked: _ } => at,
+        Refusal::TooManySets { asked: _ } => at,
+        Refusal::TermTooHigh { asked: _ } => at,
+        Refusal::UnfoldingTooLong { asked: _ } => at,
+        Refusal::PlaceUsed { place } => put_one(out, at, place as u64),
+        Refusal::Repeated { line } => put_one(out, at, line as u64),
+    }
+}
+
+// A rule that was refused: its number and what is told with it.
+pub fn put_refused(out: &mut [u8], at: usize, place: u32, priority: u64, r: Refusal) -> usize
+    ensures { λ x. ⌜ (now (out .exit), x) ≡ wrote (now (out .entry), at) (refused-line place priority r) ⌝ }
+{
+    let a = put_head(out, at, place, priority);
+    let b = put_text(out, a, b" refused ");
+    let c = put_decimal(out, b, findings::number_of(r) as u64);
+    let d = put_told(out, c, r);
+    put_text(out, d, b"\n")
+}
