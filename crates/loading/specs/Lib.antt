@@ -1,2 +1,3 @@
 pub mod Rounding
 pub mod Whole
+pub mod Parts

@@ -1,0 +1,4 @@
+-- Laws of loading.
+pub mod Placing
+pub mod Walking
+pub mod Gates

@@ -1,0 +1,82 @@
+-- The parts of loading, as the code goes through them.
+use mathlib.Core.Path.{_≡_}
+use mathlib.Core.Bool.{Bool, _&&_, not}
+use mathlib.Core.List.{List, []}
+use Prim.Native.Nat.{ℕ, suc, _+_, _*_, _/_, _%_, _<_, _≤_, min}
+use lib.ListN.{length, getD}
+use lib.Dec.{eqb, ltb, leb}
+use Rattle.paper.specs.declared.Rule.{Rule}
+use Rattle.paper.specs.declared.Refusal.the-variants.{TooManySites, TooManyRules, TooManyItems, TooManyConstrained, TooManyEqual, PlaceUsed}
+use Rattle.paper.specs.Words.{or-else, any, below}
+use Rattle.paper.specs.Numbers.{max-sites, max-rules, max-items, max-constrained, max-equal, most-rounds, Outcome, done, refused, _>>=_, demand}
+use Rattle.paper.specs.Sites.{Site, parent}
+use Rattle.paper.specs.Loading.{Kept, Solving, Loading, closure, holders, conflict, check-4, steps, endless, no-endless, rounds, started}
+use Rattle.kept.specs.Stored.{base, stride, kept-first}
+use Rattle.sites.specs.Slots.{slot, no-site}
+use Rattle.growth.specs.Tail.{site-of-word}
+use Rattle.holders.specs.declared.Answer.{Answer}
+use Rattle.holders.specs.declared.Answer.the-variants as answer
+use Rattle.items.specs.declared.Progress.{Progress}
+use Rattle.items.specs.Shown.{Shown, items-in}
+
+abbrev pub answer-as : {A : Type 0} → Outcome A → Answer
+answer-as (done a) = answer.Fine
+answer-as (refused e) = answer.Refused e
+
+-- a kept rule has the place
+unfoldable pub has-place : List ℕ → ℕ → ℕ → Bool
+has-place ws k place = any (λ (q : Kept). eqb (q .place) place) (kept-first ws k)
+
+-- the checks before the items
+unfoldable pub admitted : ℕ → List ℕ → ℕ → ℕ → ℕ → Outcome (Unit {0})
+admitted n ws k place count = do
+  _ ← demand (ltb k max-rules && leb (base k + stride) (length ws)) (TooManyRules (suc (min k max-rules)))
+  _ ← demand (leb n max-sites) (TooManySites n count)
+  _ ← demand (leb count max-items) (TooManyItems count)
+  demand (not (has-place ws k place)) (PlaceUsed place)
+
+-- items and 5, classes, rounds
+unfoldable pub worked : List ℕ → ℕ → Rule → Outcome Solving
+worked m n r = do
+  l ← items-in Bool.true m n r
+  _ ← (let k = closure l in check-4 k (holders l) (conflict k (holders l)))
+  _ ← (let k = closure l in no-endless (endless (steps k (holders l))))
+  rounds most-rounds (r .count) (started l)
+
+-- "Last, 7 if the result passes a number", or if the lent bytes can't hold its table
+unfoldable pub settled : ℕ → ℕ → ℕ → ℕ → ℕ → Outcome (Unit {0})
+settled total held equal room count = do
+  _ ← demand (leb held max-constrained) (TooManyConstrained held)
+  _ ← demand (leb equal max-equal) (TooManyEqual equal)
+  demand (leb (total * slot) room) (TooManySites total count)
+
+-- the lent lists are long enough
+pub record Lent (n : ℕ) (tail sites rows shapes equal low : List ℕ) (r : Rule) : Type 0 where
+  pub few : n ≤ max-sites
+  pub items : r .count ≤ max-items
+  pub long-tail : length tail ≡ max-sites
+  pub long-sites : length sites ≡ max-sites
+  pub long-rows : length rows ≡ max-sites
+  pub long-shapes : length shapes ≡ 96
+  pub long-equal : length equal ≡ max-equal
+  pub long-low : length low ≡ max-equal
+
+-- ---- what is written
+
+-- a word that tells a child whose source has two bytes
+pub record ChildWord (w : ℕ) : Type 0 where
+  pub real : site-of-word w ≡ no-site → ⊥
+  pub low : or-else (parent (site-of-word w)) 0 < 65536
+
+-- the sites that the tail tells
+unfoldable pub new-sites : List ℕ → ℕ → List Site
+new-sites tail t = below t (λ i. site-of-word (getD tail i 0))
+
+-- the words of the rows' constraints, three a row, k of them
+unfoldable pub gathered : List ℕ → List ℕ → ℕ → List ℕ
+gathered rows shapes k = below k (λ i. getD shapes (3 * getD rows (i / 3) 0 + i % 3) 0)
+
+-- stub
+abbrev pub Told : List ℕ → ℕ → List ℕ → List ℕ → List ℕ → List ℕ → List ℕ → List ℕ → Progress → Outcome Loading → Type 0
+Told m n tail sites rows words kids eqs x (done l) = (x .answer ≡ answer.Fine) × Shown m n tail (x .tail) sites rows words kids (x .held) eqs (x .equal) l
+Told m n tail sites rows words kids eqs x (refused e) = x .answer ≡ answer.Refused e
