@@ -2,3 +2,6 @@
 pub mod Placing
 pub mod Walking
 pub mod Gates
+pub mod Widening
+pub mod Parting
+pub mod Laying
