@@ -5,3 +5,4 @@ pub mod Gates
 pub mod Widening
 pub mod Parting
 pub mod Laying
+pub mod Checking

@@ -99,7 +99,8 @@ module _ (m : List ℕ) (n : ℕ) (ws : List ℕ) (k : ℕ) (r : Rule) where
           (λ g. leb (length (g .sites) * slot) (length m)) (λ g. TooManySites (length (g .sites)) (r .count)) (λ s. refl) (λ s. refl)
           (load-items (no-items (sites-in m n)) 0 (written r .items)))
 
-  -- ---- what the items and the rounds leave
+-- ---- what the items and the rounds leave
+module _ (m : List ℕ) (n : ℕ) (r : Rule) where
   pub items-done : (l : Loading) → items-in true m n r ≡ done l → (load-items (no-items (sites-in m n)) 0 (written r .items) ≡ done l) × (n ≤ max-sites) × (r .count ≤ max-items)
   unfolding items-in
   items-done l e =

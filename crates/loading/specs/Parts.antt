@@ -14,6 +14,7 @@ use Rattle.paper.specs.Loading.{Kept, Solving, Loading, closure, holders, confl
 use Rattle.kept.specs.Stored.{base, stride, kept-first}
 use Rattle.sites.specs.Slots.{slot, no-site}
 use Rattle.growth.specs.Tail.{site-of-word}
+use Rattle.closing.specs.Growing.{Inside}
 use Rattle.holders.specs.declared.Answer.{Answer}
 use Rattle.holders.specs.declared.Answer.the-variants as answer
 use Rattle.items.specs.declared.Progress.{Progress}
@@ -50,16 +51,14 @@ settled total held equal room count = do
   _ ← demand (leb equal max-equal) (TooManyEqual equal)
   demand (leb (total * slot) room) (TooManySites total count)
 
--- the lent lists are long enough
-pub record Lent (n : ℕ) (tail sites rows shapes equal low : List ℕ) (r : Rule) : Type 0 where
+-- the lists that are lent for the items are long enough
+pub record Lent (n : ℕ) (tail sites rows shapes : List ℕ) (r : Rule) : Type 0 where
   pub few : n ≤ max-sites
   pub items : r .count ≤ max-items
-  pub long-tail : length tail ≡ max-sites
-  pub long-sites : length sites ≡ max-sites
-  pub long-rows : length rows ≡ max-sites
-  pub long-shapes : length shapes ≡ 96
-  pub long-equal : length equal ≡ max-equal
-  pub long-low : length low ≡ max-equal
+  pub long-tail : max-sites ≤ length tail
+  pub long-sites : max-sites ≤ length sites
+  pub long-rows : max-sites ≤ length rows
+  pub long-shapes : 3 * max-items ≤ length shapes
 
 -- ---- what is written
 
@@ -80,3 +79,12 @@ gathered rows shapes k = below k (λ i. getD shapes (3 * getD rows (i / 3) 0 + i
 abbrev pub Told : List ℕ → ℕ → List ℕ → List ℕ → List ℕ → List ℕ → List ℕ → List ℕ → Progress → Outcome Loading → Type 0
 Told m n tail sites rows words kids eqs x (done l) = (x .answer ≡ answer.Fine) × Shown m n tail (x .tail) sites rows words kids (x .held) eqs (x .equal) l
 Told m n tail sites rows words kids eqs x (refused e) = x .answer ≡ answer.Refused e
+
+-- what the items leave, where they are not refused
+pub record Left (m : List ℕ) (n : ℕ) (tail sites rows words kids eqs : List ℕ) (x : Progress) (r : Rule) : Type 0 where
+  pub told : Told m n tail sites rows words kids eqs x (items-in Bool.true m n r)
+  pub fine : x .answer ≡ answer.Fine
+  pub inside : Inside kids
+  pub long-tail : max-sites ≤ length tail
+  pub long-sites : max-sites ≤ length sites
+  pub long-rows : max-sites ≤ length rows

@@ -14,9 +14,10 @@ ghost use Rattle.items.specs.Shown.{items-in, roomy};
 ghost use Rattle.closing.specs.Growing.{Inside};
 ghost use Rattle.loading.specs.Rounding.{Proper, Rounds, solved};
 ghost use Rattle.loading.specs.Whole.{load-in, loaded-as, sites-after, words-after};
-ghost use Rattle.loading.specs.Parts.{has-place, admitted, answer-as, worked, settled, ChildWord, Lent, gathered, new-sites};
+ghost use Rattle.loading.specs.Parts.{has-place, admitted, answer-as, worked, settled, ChildWord, Lent, Left, gathered, new-sites};
 use closing::Verdict;
 use holders::Answer;
+use items::Progress;
 use paper::CONSTRAINED;
 use paper::EQUALS;
 use paper::ITEMS;
@@ -105,6 +106,33 @@ fn refuse(why: Refusal) -> Solved
     }
 }
 
+// The class check, then the rounds, of what the items left.
+fn normalise(
+    m: &[u8],
+    n: u16,
+    tail: &mut [u64],
+    sites: &mut [u16],
+    rows: &mut [u16],
+    shapes: &[u64],
+    kids: &[u16],
+    eqs: &[u16],
+    a: Progress,
+    equal: &mut [u16],
+    low: &mut [u16],
+    rule: Rule,
+) -> Solved
+    requires { ⌜ Left (now m) n (now tail) (now sites) (now rows) (now shapes) (now kids) (now eqs) a rule ⌝ }
+    ensures { λ r. ⌜ Rounds (now (m .entry)) n (now (tail .exit)) (now (sites .exit)) (now (rows .exit)) (now (shapes .entry)) (now (equal .exit)) (now (low .exit)) r (worked (now (m .entry)) n rule) ⌝ }
+{
+    let held = a.held;
+    let k = a.equal;
+    let v = closing::check(&eqs[..k], &sites[..held], &rows[..held], shapes, kids);
+    if let Verdict::Refused(why) = v {
+        return refuse(why);
+    }
+    rounds::rounds(m, n, tail, a.tail, rule.count as u32, sites, rows, held, shapes, &eqs[..k], equal, low)
+}
+
 // The items and 5, then the class check, then the rounds.
 fn solve(
     m: &[u8],
@@ -117,7 +145,7 @@ fn solve(
     low: &mut [u16],
     rule: Rule,
 ) -> Solved
-    requires { ⌜ Lent n (now tail) (now sites) (now rows) (now shapes) (now equal) (now low) rule ⌝ }
+    requires { ⌜ Lent n (now tail) (now sites) (now rows) (now shapes) rule ⌝ }
     ensures { λ r. ⌜ Rounds (now (m .entry)) n (now (tail .exit)) (now (sites .exit)) (now (rows .exit)) (now (shapes .exit)) (now (equal .exit)) (now (low .exit)) r (worked (now (m .entry)) n rule) ⌝ }
 {
     let mut kids = [0u16; 256];
@@ -127,13 +155,7 @@ fn solve(
     if let Answer::Refused(why) = answer {
         return refuse(why);
     }
-    let held = a.held;
-    let k = a.equal;
-    let v = closing::check(&eqs[..k], &sites[..held], &rows[..held], shapes, &kids);
-    if let Verdict::Refused(why) = v {
-        return refuse(why);
-    }
-    rounds::rounds(m, n, tail, a.tail, rule.count as u32, sites, rows, held, shapes, &eqs[..k], equal, low)
+    normalise(m, n, tail, sites, rows, shapes, &kids, &eqs, a, equal, low, rule)
 }
 
 // The checks of the result: 7 if it passes a number, then if the lent bytes can't hold its table.
