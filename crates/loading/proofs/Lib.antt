@@ -6,3 +6,4 @@ pub mod Widening
 pub mod Parting
 pub mod Laying
 pub mod Checking
+pub mod Keeping

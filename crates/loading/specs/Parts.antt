@@ -19,6 +19,7 @@ use Rattle.holders.specs.declared.Answer.{Answer}
 use Rattle.holders.specs.declared.Answer.the-variants as answer
 use Rattle.items.specs.declared.Progress.{Progress}
 use Rattle.items.specs.Shown.{Shown, items-in}
+use Rattle.loading.specs.declared.Solved.{Solved}
 
 abbrev pub answer-as : {A : Type 0} → Outcome A → Answer
 answer-as (done a) = answer.Fine
@@ -88,3 +89,18 @@ pub record Left (m : List ℕ) (n : ℕ) (tail sites rows words kids eqs : List 
   pub long-tail : max-sites ≤ length tail
   pub long-sites : max-sites ≤ length sites
   pub long-rows : max-sites ≤ length rows
+
+-- what the rounds leave, where the rule is to be kept: all of it has room
+pub record Keepable (bytes n : ℕ) (tail sites rows shapes equal low : List ℕ) (x : Solved) : Type 0 where
+  pub fits : n + x .tail ≤ max-sites
+  pub room : (n + x .tail) * slot ≤ bytes
+  pub long-tail : x .tail ≤ length tail
+  pub children : (i : ℕ) → i < x .tail → ChildWord (getD tail i 0)
+  pub few : x .held ≤ max-constrained
+  pub long-sites : x .held ≤ length sites
+  pub long-rows : x .held ≤ length rows
+  pub long-shapes : 3 * max-items ≤ length shapes
+  pub items : (i : ℕ) → i < x .held → getD rows i 0 < max-items
+  pub few-equal : x .equal ≤ max-equal
+  pub long-equal : x .equal ≤ length equal
+  pub long-low : x .equal ≤ length low

@@ -14,7 +14,7 @@ ghost use Rattle.items.specs.Shown.{items-in, roomy};
 ghost use Rattle.closing.specs.Growing.{Inside};
 ghost use Rattle.loading.specs.Rounding.{Proper, Rounds, solved};
 ghost use Rattle.loading.specs.Whole.{load-in, loaded-as, sites-after, words-after};
-ghost use Rattle.loading.specs.Parts.{has-place, admitted, answer-as, worked, settled, ChildWord, Lent, Left, gathered, new-sites};
+ghost use Rattle.loading.specs.Parts.{has-place, admitted, answer-as, worked, settled, ChildWord, Lent, Left, Keepable, gathered, new-sites};
 use closing::Verdict;
 use holders::Answer;
 use items::Progress;
@@ -243,4 +243,64 @@ fn write_children(m: &mut [u8], n: u16, tail: &[u64], t: u16)
         write_child(m, first + i, tail[i]);
         i += 1;
     }
+}
+
+// Writes the new sites into their slots, and the rule into its stride.
+fn keep(
+    m: &mut [u8],
+    n: u16,
+    words: &mut [u64],
+    kept: u32,
+    place: u32,
+    priority: u64,
+    tail: &[u64],
+    sites: &[u16],
+    rows: &[u16],
+    shapes: &[u64],
+    equal: &[u16],
+    low: &[u16],
+    s: Solved,
+)
+    requires { ⌜ Keepable (length (now m)) n (now tail) (now sites) (now rows) (now shapes) (now equal) (now low) s ⌝ }
+    ensures { λ _. ⌜ now (m .exit) ≡ store (now (m .entry)) n (new-sites (now (tail .entry)) (s .tail)) ⌝ }
+    ensures { λ _. ⌜ now (words .exit) ≡ written (now (words .entry)) kept place priority (take (s .held) (now (sites .entry))) (gathered (now (rows .entry)) (now (shapes .entry)) (3 * s .held)) (take (s .equal) (now (equal .entry))) (take (s .equal) (now (low .entry))) ⌝ }
+{
+    let held = s.held;
+    let count = 3 * held;
+    let e = s.equal;
+    let mut out = [0u64; 96];
+    gather(rows, held, shapes, &mut out);
+    write_children(m, n, tail, s.tail);
+    kept::write(words, kept, place, priority, &sites[..held], &out[..count], &equal[..e], &low[..e]);
+}
+
+// Loads a rule over the n sites of m and the `kept` rules of `words`. A refused rule changes nothing.
+pub fn load(m: &mut [u8], n: u16, words: &mut [u64], kept: u32, rule: Rule) -> Loaded
+    ensures { λ r. ⌜ r ≡ loaded-as (load-in (now (m .entry)) n (now (words .entry)) kept rule) ⌝ }
+    ensures { λ _. ⌜ now (m .exit) ≡ sites-after (now (m .entry)) n (load-in (now (m .entry)) n (now (words .entry)) kept rule) ⌝ }
+    ensures { λ _. ⌜ now (words .exit) ≡ words-after (now (words .entry)) kept (load-in (now (m .entry)) n (now (words .entry)) kept rule) ⌝ }
+{
+    let first = admit(n, words, kept, rule.place, rule.count);
+    if let Answer::Refused(why) = first {
+        return Loaded::Refused(why);
+    }
+    let mut tail = [0u64; SITES];
+    let mut sites = [0u16; SITES];
+    let mut rows = [0u16; SITES];
+    let mut shapes = [0u64; 96];
+    let mut equal = [0u16; EQUALS];
+    let mut low = [0u16; EQUALS];
+    let s = solve(m, n, &mut tail, &mut sites, &mut rows, &mut shapes, &mut equal, &mut low, rule);
+    let answer = s.answer;
+    if let Answer::Refused(why) = answer {
+        return Loaded::Refused(why);
+    }
+    let total = size(n) + size(s.tail);
+    let room = m.len();
+    let last = settle(total, s.held, s.equal, room, rule.count);
+    if let Answer::Refused(why) = last {
+        return Loaded::Refused(why);
+    }
+    keep(m, n, words, kept, rule.place, rule.priority, &tail, &sites, &rows, &shapes, &equal, &low, s);
+    Loaded::Kept(total as u16)
 }
