@@ -76,10 +76,10 @@ new-words m n tail t u e W i l =
 module _ (m : List ℕ) (n : ℕ) (ws : List ℕ) (k : ℕ) (r : Rule) where
   -- what `load` ensures
   abbrev pub Answers : Loaded → List ℕ → List ℕ → Type 0
-  Answers out m′ ws′ = (out ≡ loaded-as (load-in m n ws k r)) × (m′ ≡ sites-after m n (load-in m n ws k r)) × (ws′ ≡ words-after ws k (load-in m n ws k r))
+  Answers out m′ ws′ = (out ≡ loaded-as (load-in m n ws k r)) × ((m′ ≡ sites-after m n (load-in m n ws k r)) × (ws′ ≡ words-after ws k (load-in m n ws k r)))
 
   refuses : (e : Refusal) → load-in m n ws k r ≡ refused e → Answers (loaded.Refused e) m ws
-  refuses e q = rw q (refl, refl, refl)
+  refuses e q = rw q (refl, (refl, refl))
 
   -- ---- before the items
   pub first-refuses : (a : Answer) (e : Refusal) → a ≡ answer-as (admitted n ws k (r .place) (r .count)) → a ≡ answer.Refused e → Answers (loaded.Refused e) m ws
@@ -187,6 +187,9 @@ module _ (m : List ℕ) (n : ℕ) (ws : List ℕ) (k : ℕ) (r : Rule) where
                   long-low = omega arith;
                 }
 
+            pub equals-fit : x .equal ≤ max-equal
+            equals-fit = limits .1
+
             kept-so : load-in m n ws k r ≡ done (with-rule (set-in m n ws k) (written r) (found .0))
             kept-so = last-is total e ∙ ap (λ o. o >>= λ _. done (with-rule (set-in m n ws k) (written r) (found .0))) settles
 
@@ -209,4 +212,11 @@ module _ (m : List ℕ) (n : ℕ) (ws : List ℕ) (k : ℕ) (r : Rule) where
                 let s : drop n (found .0 .sites) ≡ new-sites tail (x .tail) = ap (drop n) (sym (found .2 .sites-are)) ∙ table-new m n tail (x .tail) in
                 let t : total ≡ length (found .0 .sites) = e ∙ sym sites-many in
                 let w : ws′ ≡ stored.written ws k (r .place) (r .priority) (map (λ p. p .0) (found .0 .constraints)) (joined (map three (found .0 .constraints))) (map (λ p. p .0) (found .0 .classes)) (map (λ p. p .1) (found .0 .classes)) = rw (← a, ← b, ← c, ← d) q in
-                rw kept-so (ap loaded.Kept t, p ∙ ap (store m n) (sym s), w ∙ ap (put-kept ws k) (sym last-rule))
+                rw kept-so (ap loaded.Kept t, (p ∙ ap (store m n) (sym s), w ∙ ap (put-kept ws k) (sym last-rule)))
+
+-- ---- for the proofs of the code
+pub wrote-as : (ws : List ℕ) (k p q : ℕ) (ss sh sh′ es lo w : List ℕ) → w ≡ stored.written ws k p q ss sh es lo → sh ≡ sh′ → w ≡ stored.written ws k p q ss sh′ es lo
+wrote-as ws k p q ss sh sh′ es lo w e f = e ∙ ap (λ x. stored.written ws k p q ss x es lo) f
+
+pub array-long : (xs : List ℕ) (n : ℕ) → length xs ≡ length {A = ℕ} (replicate n 0) → length xs ≡ n
+array-long xs n e = e ∙ length-replicate n 0
