@@ -7,3 +7,4 @@ pub mod Parting
 pub mod Laying
 pub mod Checking
 pub mod Keeping
+pub mod Ranging
