@@ -8,3 +8,4 @@ pub mod Laying
 pub mod Checking
 pub mod Keeping
 pub mod Ranging
+pub mod Afterwards
