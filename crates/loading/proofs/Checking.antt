@@ -16,7 +16,7 @@ use Rattle.paper.specs.declared.Rule.{Rule}
 use Rattle.paper.specs.Words.{below, first}
 use Rattle.paper.specs.Numbers.{max-sites, max-fields, max-items, max-equal, most-rounds, Outcome, done, refused, _>>=_}
 use Rattle.paper.specs.Sites.{child-count, child-number}
-use Rattle.paper.specs.Loading.{Loading, Solving, Holder, holder, holders, closure, conflict, check-4, steps, endless, no-endless, join-all, rounds, started}
+use Rattle.paper.specs.Loading.{Loading, Labels, Solving, Holder, holder, holders, closure, conflict, check-4, steps, endless, no-endless, join-all, rounds, started}
 use Rattle.paper.specs.Closure.{of-below}
 use Rattle.paper.specs.Tables.{Rising}
 use Rattle.sites.specs.Slots.{sites-in}
@@ -31,8 +31,8 @@ use Rattle.holders.specs.declared.Answer.the-variants as answer
 use Rattle.items.specs.declared.Progress.{Progress}
 use Rattle.items.specs.Shown.{shown, Row, Shown, roomy, items-in}
 use Rattle.loading.specs.declared.Solved.{Solved}
-use Rattle.loading.specs.Rounding.{GoodRow, Proper, Rounds, solved}
-use Rattle.loading.specs.Parts.{worked, Told, Lent, Left}
+use Rattle.loading.specs.Rounding.{GoodRow, Proper, Listed, Rounds, solved}
+use Rattle.loading.specs.Parts.{worked, Told, Lent, Left, SameTo}
 use Rattle.loading.proofs.Widening.{Passed}
 use Rattle.loading.proofs.Parting.{after-items, items-done}
 use Rattle.loading.proofs.Laying.{below-same, map-below, table-long, shown-long}
@@ -147,6 +147,17 @@ module _ (m : List ℕ) (n : ℕ) (tail : List ℕ) (t : ℕ) (sites rows words 
 never-both : (a : Answer) (e : Refusal) → a ≡ answer.Fine → a ≡ answer.Refused e → ⊥
 never-both a e p q = let z : _≡_ {A = ℕ} 0 1 = cc in omega arith
 
+-- the equal sites in lists that begin alike
+listed-by : (a b c d : List ℕ) (k : Labels) → SameTo max-equal a c → SameTo max-equal b d → Listed a b k → Listed c d k
+listed-by a b c d k p q L = record { each = λ i l h. let x = p i h in let y = q i h in rw (x, y) (L .each i l h) }
+
+pub rounds-copied : (m : List ℕ) (n : ℕ) (tail sites rows words a b c d : List ℕ) (x : Solved) (o p : Outcome Solving) → p ≡ o → SameTo max-equal a c → SameTo max-equal b d → Rounds m n tail sites rows words a b x o → Rounds m n tail sites rows words c d x p
+rounds-copied m n tail sites rows words a b c d x o p e f g h = rw e (go o h)
+  where
+    go : (o : Outcome Solving) → Rounds m n tail sites rows words a b x o → Rounds m n tail sites rows words c d x o
+    go (refused r) h = h
+    go (done s) h = let S = h .1 in (h .0, record { sites-are = S .sites-are; fits = S .fits; constraints-are = S .constraints-are; good = S .good; number = S .number; classes-are = listed-by a b c d (s .classes) f g (S .classes-are); long-sites = S .long-sites })
+
 pub rounds-by : (m : List ℕ) (n : ℕ) (tail sites rows words equal low : List ℕ) (x : Solved) (o p : Outcome Solving) → p ≡ o → Rounds m n tail sites rows words equal low x o → Rounds m n tail sites rows words equal low x p
 rounds-by m n tail sites rows words equal low x o p e h = rw e h
 
@@ -166,7 +177,7 @@ module _ (m : List ℕ) (n : ℕ) (tail sites rows words kids eqs : List ℕ) (x
       let t : items-in true m n r ≡ refused e = ap (λ b. items-in b m n r) (sym q) ∙ told-refused (items-in room m n r) e T (f ∙ g) in
       rw t
 
-  module _ (r : Rule) (L : Left m n tail sites rows words kids eqs x r) where
+  module _ (r : Rule) (equal low : List ℕ) (L : Left m n tail sites rows words kids eqs equal low x r) where
     found : (l : Loading) × (items-in true m n r ≡ done l) × Shown m n tail (x .tail) sites rows words kids (x .held) eqs (x .equal) l
     found = told-done (items-in true m n r) (L .told) (L .fine)
 
@@ -216,9 +227,9 @@ module _ (m : List ℕ) (n : ℕ) (tail sites rows words kids eqs : List ℕ) (x
         go (done u) (done w) h = refl
 
 -- ---- the lists that are lent to the items
-pub roomy-so : (n : ℕ) (tail sites rows shapes : List ℕ) (r : Rule) (kids eqs : List ℕ) → Lent n tail sites rows shapes r → length kids ≡ 256 → length eqs ≡ 64 → roomy tail sites rows shapes kids eqs ≡ true
+pub roomy-so : (n : ℕ) (tail sites rows shapes equal low : List ℕ) (r : Rule) (kids eqs : List ℕ) → Lent n tail sites rows shapes equal low r → length kids ≡ 256 → length eqs ≡ 64 → roomy tail sites rows shapes kids eqs ≡ true
 unfolding roomy
-roomy-so n tail sites rows shapes r kids eqs L p q =
+roomy-so n tail sites rows shapes equal low r kids eqs L p q =
     let a = L .long-tail in
     let b = L .long-sites in
     let c = L .long-rows in
@@ -230,6 +241,6 @@ zeros-inside zero k = omega arith
 zeros-inside (suc n) zero = omega arith
 zeros-inside (suc n) (suc k) = zeros-inside n k
 
-pub left-so : (m : List ℕ) (n : ℕ) (tail sites rows words kids eqs : List ℕ) (x : Progress) (r : Rule) (room : Bool) → room ≡ true → Told m n tail sites rows words kids eqs x (items-in room m n r) → x .answer ≡ answer.Fine → Inside kids
-    → max-sites ≤ length tail → max-sites ≤ length sites → max-sites ≤ length rows → Left m n tail sites rows words kids eqs x r
-left-so m n tail sites rows words kids eqs x r room q T f k a b c = record { told = rw q at T; fine = f; inside = k; long-tail = a; long-sites = b; long-rows = c }
+pub left-so : (m : List ℕ) (n : ℕ) (tail sites rows words kids eqs equal low : List ℕ) (x : Progress) (r : Rule) (room : Bool) → room ≡ true → Told m n tail sites rows words kids eqs x (items-in room m n r) → x .answer ≡ answer.Fine → Inside kids
+    → max-sites ≤ length tail → max-sites ≤ length sites → max-sites ≤ length rows → max-equal ≤ length equal → max-equal ≤ length low → Left m n tail sites rows words kids eqs equal low x r
+left-so m n tail sites rows words kids eqs equal low x r room q T f k a b c d e = record { told = rw q at T; fine = f; inside = k; long-tail = a; long-sites = b; long-rows = c; long-equal = d; long-low = e }

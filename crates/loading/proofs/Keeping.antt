@@ -102,11 +102,12 @@ module _ (m : List ℕ) (n : ℕ) (ws : List ℕ) (k : ℕ) (r : Rule) where
         let z = demand-done (leb (r .count) max-items) (TooManyItems (r .count)) _ tt (y .1) in
         (leb-true _ _ (y .0), leb-true _ _ (z .0))
 
-    pub lent-so : Lent n (replicate 1024 0) (replicate 1024 0) (replicate 1024 0) (replicate 96 0) r
+    pub lent-so : Lent n (replicate 1024 0) (replicate 1024 0) (replicate 1024 0) (replicate 96 0) (replicate 32 0) (replicate 32 0) r
     lent-so =
         let b = length-replicate {A = ℕ} 1024 0 in
         let d = length-replicate {A = ℕ} 96 0 in
-        record { few = few .0; items = few .1; long-tail = omega arith; long-sites = omega arith; long-rows = omega arith; long-shapes = omega arith }
+        let e = length-replicate {A = ℕ} 32 0 in
+        record { few = few .0; items = few .1; long-tail = omega arith; long-sites = omega arith; long-rows = omega arith; long-shapes = omega arith; long-equal = omega arith; long-low = omega arith }
 
     -- ---- the rounds
     module _ (tail sites rows words equal low : List ℕ) (x : Solved) (R : Rounds m n tail sites rows words equal low x (worked m n r)) where

@@ -4,15 +4,16 @@ use mathlib.Core.Bool.{Bool, true, false, _||_}
 use mathlib.Core.List.{List, [], _∷_, _++_}
 use Prim.Native.Nat.{ℕ, zero, suc, _+_, _-_, _*_, _/_, _%_, _≤_, _<_}
 use native.Mathlib.Omega.{arith}
+use native.Mathlib.Decide.{ℕ-discrete}
 use native.Mathlib.Numerals.{add-one}
 use lib.ListN.{length, getD, set, take, length-set}
-use lib.Seq.{take-suc-set}
+use lib.Seq.{take-suc-set, getD-set-same, getD-set-other}
 use lib.Dec.{eqb}
 use borrow.Author.Tests.{eq-eqb, ne-eqb}
 use Rattle.paper.specs.Words.{any, below}
 use Rattle.paper.specs.Loading.{Kept}
 use Rattle.kept.specs.Stored.{run, base, place-at, kept-at, kept-in, kept-first}
-use Rattle.loading.specs.Parts.{has-place, gathered}
+use Rattle.loading.specs.Parts.{has-place, gathered, SameTo}
 
 -- the rules from i on
 unfoldable pub place-from : List ℕ → ℕ → ℕ → ℕ → Bool
@@ -61,3 +62,14 @@ third-below k held h = omega arith
 
 pub row-fits : (row k : ℕ) → row < 32 → 3 * row + k % 3 < 96
 row-fits row k h = omega arith
+
+-- ---- copying
+pub same-none : (xs ys : List ℕ) → SameTo 0 xs ys
+same-none xs ys i h = absurd (omega arith)
+
+pub same-turn : (xs ys : List ℕ) (k : ℕ) → k < length ys → SameTo k xs ys → SameTo (k + 1) xs (set ys k (getD xs k 0))
+same-turn xs ys k l h i j = go (ℕ-discrete i k)
+  where
+    go : Dec (i ≡ k) → getD (set ys k (getD xs k 0)) i 0 ≡ getD xs i 0
+    go (yes e) = rw e (getD-set-same ys k (getD xs k 0) 0 l)
+    go (no n) = getD-set-other ys k i (getD xs k 0) 0 n ∙ h i (omega arith)

@@ -53,13 +53,15 @@ settled total held equal room count = do
   demand (leb (total * slot) room) (TooManySites total count)
 
 -- the lists that are lent for the items are long enough
-pub record Lent (n : ℕ) (tail sites rows shapes : List ℕ) (r : Rule) : Type 0 where
+pub record Lent (n : ℕ) (tail sites rows shapes equal low : List ℕ) (r : Rule) : Type 0 where
   pub few : n ≤ max-sites
   pub items : r .count ≤ max-items
   pub long-tail : max-sites ≤ length tail
   pub long-sites : max-sites ≤ length sites
   pub long-rows : max-sites ≤ length rows
   pub long-shapes : 3 * max-items ≤ length shapes
+  pub long-equal : max-equal ≤ length equal
+  pub long-low : max-equal ≤ length low
 
 -- ---- what is written
 
@@ -82,13 +84,19 @@ Told m n tail sites rows words kids eqs x (done l) = (x .answer ≡ answer.Fine)
 Told m n tail sites rows words kids eqs x (refused e) = x .answer ≡ answer.Refused e
 
 -- what the items leave, where they are not refused
-pub record Left (m : List ℕ) (n : ℕ) (tail sites rows words kids eqs : List ℕ) (x : Progress) (r : Rule) : Type 0 where
+pub record Left (m : List ℕ) (n : ℕ) (tail sites rows words kids eqs equal low : List ℕ) (x : Progress) (r : Rule) : Type 0 where
   pub told : Told m n tail sites rows words kids eqs x (items-in Bool.true m n r)
   pub fine : x .answer ≡ answer.Fine
   pub inside : Inside kids
   pub long-tail : max-sites ≤ length tail
   pub long-sites : max-sites ≤ length sites
   pub long-rows : max-sites ≤ length rows
+  pub long-equal : max-equal ≤ length equal
+  pub long-low : max-equal ≤ length low
+
+-- two lists begin alike
+abbrev pub SameTo : ℕ → List ℕ → List ℕ → Type 0
+SameTo k xs ys = (i : ℕ) → i < k → getD ys i 0 ≡ getD xs i 0
 
 -- what the rounds leave, where the rule is to be kept: all of it has room
 pub record Keepable (bytes n : ℕ) (tail sites rows shapes equal low : List ℕ) (x : Solved) : Type 0 where

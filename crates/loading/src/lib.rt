@@ -14,7 +14,7 @@ ghost use Rattle.items.specs.Shown.{items-in, roomy};
 ghost use Rattle.closing.specs.Growing.{Inside};
 ghost use Rattle.loading.specs.Rounding.{Proper, Rounds, solved};
 ghost use Rattle.loading.specs.Whole.{load-in, loaded-as, sites-after, words-after};
-ghost use Rattle.loading.specs.Parts.{has-place, admitted, answer-as, worked, settled, ChildWord, Lent, Left, Keepable, gathered, new-sites};
+ghost use Rattle.loading.specs.Parts.{has-place, admitted, answer-as, worked, settled, ChildWord, Lent, Left, SameTo, Keepable, gathered, new-sites};
 use closing::Verdict;
 use holders::Answer;
 use items::Progress;
@@ -106,6 +106,17 @@ fn refuse(why: Refusal) -> Solved
     }
 }
 
+fn copy(from: &[u16; EQUALS], to: &mut [u16])
+    requires { ⌜ max-equal ≤ length (now to) ⌝ }
+    ensures { λ _. ⌜ SameTo max-equal (now (from .entry)) (now (to .exit)) ⌝ }
+{
+    let mut i = 0;
+    while i < EQUALS {
+        to[i] = from[i];
+        i += 1;
+    }
+}
+
 // The class check, then the rounds, of what the items left.
 fn normalise(
     m: &[u8],
@@ -121,16 +132,21 @@ fn normalise(
     low: &mut [u16],
     rule: Rule,
 ) -> Solved
-    requires { ⌜ Left (now m) n (now tail) (now sites) (now rows) (now shapes) (now kids) (now eqs) a rule ⌝ }
+    requires { ⌜ Left (now m) n (now tail) (now sites) (now rows) (now shapes) (now kids) (now eqs) (now equal) (now low) a rule ⌝ }
     ensures { λ r. ⌜ Rounds (now (m .entry)) n (now (tail .exit)) (now (sites .exit)) (now (rows .exit)) (now (shapes .entry)) (now (equal .exit)) (now (low .exit)) r (worked (now (m .entry)) n rule) ⌝ }
 {
     let held = a.held;
     let k = a.equal;
     let v = closing::check(&eqs[..k], &sites[..held], &rows[..held], shapes, kids);
-    if let Verdict::Refused(why) = v {
-        return refuse(why);
+    if let Verdict::Refused(told) = v {
+        return refuse(told);
     }
-    rounds::rounds(m, n, tail, a.tail, rule.count as u32, sites, rows, held, shapes, &eqs[..k], equal, low)
+    let mut joined = [0u16; EQUALS];
+    let mut lowest = [0u16; EQUALS];
+    let s = rounds::rounds(m, n, tail, a.tail, rule.count as u32, sites, rows, held, shapes, &eqs[..k], &mut joined, &mut lowest);
+    copy(&joined, equal);
+    copy(&lowest, low);
+    s
 }
 
 // The items and 5, then the class check, then the rounds.
@@ -145,7 +161,7 @@ fn solve(
     low: &mut [u16],
     rule: Rule,
 ) -> Solved
-    requires { ⌜ Lent n (now tail) (now sites) (now rows) (now shapes) rule ⌝ }
+    requires { ⌜ Lent n (now tail) (now sites) (now rows) (now shapes) (now equal) (now low) rule ⌝ }
     ensures { λ r. ⌜ Rounds (now (m .entry)) n (now (tail .exit)) (now (sites .exit)) (now (rows .exit)) (now (shapes .exit)) (now (equal .exit)) (now (low .exit)) r (worked (now (m .entry)) n rule) ⌝ }
 {
     let mut kids = [0u16; 256];
