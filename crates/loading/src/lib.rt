@@ -318,5 +318,6 @@ pub fn load(m: &mut [u8], n: u16, words: &mut [u64], kept: u32, rule: Rule) -> L
         return Loaded::Refused(why);
     }
     keep(m, n, words, kept, rule.place, rule.priority, &tail, &sites, &rows, &shapes, &equal, &low, s);
-    Loaded::Kept(total as u16)
+    let many = total as u16;
+    Loaded::Kept(many)
 }
