@@ -18,6 +18,8 @@ use Rattle.sites.specs.Slots.{sites-in}
 use Rattle.growth.specs.Tail.{table}
 use Rattle.closing.specs.Holding.{shape-in, kid-in, eqs-in}
 use Rattle.closing.specs.Growing.{Inside}
+use Rattle.holders.specs.declared.Answer.the-variants as answer
+use Rattle.items.specs.declared.Progress.{Progress}
 
 -- the constrained sites with their constraints
 unfoldable pub shown : List ℕ → List ℕ → List ℕ → ℕ → Constraints
@@ -56,3 +58,17 @@ items-in room m n r = do
   l ← load-items (no-items (sites-in m n)) 0 (written r .items)
   _ ← no-hanging (hanging l)
   done l
+
+-- What load_items answers, and what it leaves in the lists; of a refused rule they say nothing.
+abbrev pub Told : List ℕ → ℕ → List ℕ → List ℕ → List ℕ → List ℕ → List ℕ → List ℕ → Progress → Outcome Loading → Type 0
+Told m n tail sites rows words kids eqs r (done l) = (r .answer ≡ answer.Fine) × Shown m n tail (r .tail) sites rows words kids (r .held) eqs (r .equal) l
+Told m n tail sites rows words kids eqs r (refused e) = r .answer ≡ answer.Refused e
+
+-- the lent lists are as long as before
+pub record AsLong (tail sites rows words kids eqs tail′ sites′ rows′ words′ kids′ eqs′ : List ℕ) : Type 0 where
+  pub tail-long : length tail′ ≡ length tail
+  pub sites-long : length sites′ ≡ length sites
+  pub rows-long : length rows′ ≡ length rows
+  pub words-long : length words′ ≡ length words
+  pub kids-long : length kids′ ≡ length kids
+  pub eqs-long : length eqs′ ≡ length eqs
