@@ -29,10 +29,10 @@ use Rattle.closing.proofs.Agreeing.{class-lines}
 use Rattle.holders.specs.declared.Answer.{Answer}
 use Rattle.holders.specs.declared.Answer.the-variants as answer
 use Rattle.items.specs.declared.Progress.{Progress}
-use Rattle.items.specs.Shown.{shown, Row, Shown, roomy, items-in}
+use Rattle.items.specs.Shown.{shown, Row, Shown, roomy, items-in, Told}
 use Rattle.loading.specs.declared.Solved.{Solved}
 use Rattle.loading.specs.Rounding.{GoodRow, Proper, Listed, Rounds, solved}
-use Rattle.loading.specs.Parts.{worked, Told, Lent, Left, SameTo}
+use Rattle.loading.specs.Parts.{worked, Lent, Left, SameTo}
 use Rattle.loading.proofs.Widening.{Passed}
 use Rattle.loading.proofs.Parting.{after-items, items-done}
 use Rattle.loading.proofs.Laying.{below-same, map-below, table-long, shown-long}

@@ -10,7 +10,7 @@ use Rattle.paper.specs.declared.Refusal.the-variants.{TooManySites, TooManyRule
 use Rattle.paper.specs.Words.{or-else, any, below}
 use Rattle.paper.specs.Numbers.{max-sites, max-rules, max-items, max-constrained, max-equal, most-rounds, Outcome, done, refused, _>>=_, demand}
 use Rattle.paper.specs.Sites.{Site, parent}
-use Rattle.paper.specs.Loading.{Kept, Solving, Loading, closure, holders, conflict, check-4, steps, endless, no-endless, rounds, started}
+use Rattle.paper.specs.Loading.{Kept, Solving, closure, holders, conflict, check-4, steps, endless, no-endless, rounds, started}
 use Rattle.kept.specs.Stored.{base, stride, kept-first}
 use Rattle.sites.specs.Slots.{slot, no-site}
 use Rattle.growth.specs.Tail.{site-of-word}
@@ -18,7 +18,7 @@ use Rattle.closing.specs.Growing.{Inside}
 use Rattle.holders.specs.declared.Answer.{Answer}
 use Rattle.holders.specs.declared.Answer.the-variants as answer
 use Rattle.items.specs.declared.Progress.{Progress}
-use Rattle.items.specs.Shown.{Shown, items-in}
+use Rattle.items.specs.Shown.{items-in, Told}
 use Rattle.loading.specs.declared.Solved.{Solved}
 
 abbrev pub answer-as : {A : Type 0} → Outcome A → Answer
@@ -77,11 +77,6 @@ new-sites tail t = below t (λ i. site-of-word (getD tail i 0))
 -- the words of the rows' constraints, three a row, k of them
 unfoldable pub gathered : List ℕ → List ℕ → ℕ → List ℕ
 gathered rows shapes k = below k (λ i. getD shapes (3 * getD rows (i / 3) 0 + i % 3) 0)
-
--- stub
-abbrev pub Told : List ℕ → ℕ → List ℕ → List ℕ → List ℕ → List ℕ → List ℕ → List ℕ → Progress → Outcome Loading → Type 0
-Told m n tail sites rows words kids eqs x (done l) = (x .answer ≡ answer.Fine) × Shown m n tail (x .tail) sites rows words kids (x .held) eqs (x .equal) l
-Told m n tail sites rows words kids eqs x (refused e) = x .answer ≡ answer.Refused e
 
 -- what the items leave, where they are not refused
 pub record Left (m : List ℕ) (n : ℕ) (tail sites rows words kids eqs equal low : List ℕ) (x : Progress) (r : Rule) : Type 0 where

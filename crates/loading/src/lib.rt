@@ -27,7 +27,6 @@ use paper::Rule;
 use paper::SITES;
 
 mod rounds;
-mod stub;
 
 const SLOT: usize = 32;
 
@@ -166,7 +165,7 @@ fn solve(
 {
     let mut kids = [0u16; 256];
     let mut eqs = [0u16; 64];
-    let a = stub::load_items(m, n, tail, sites, rows, shapes, &mut kids, &mut eqs, rule);
+    let a = items::load_items(m, n, tail, sites, rows, shapes, &mut kids, &mut eqs, rule);
     let answer = a.answer;
     if let Answer::Refused(why) = answer {
         return refuse(why);
