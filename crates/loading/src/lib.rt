@@ -1,18 +1,15 @@
 // Loading a rule into a set whose sites and kept rules lie in lent memory.
 // The lent table is only read until the rule is kept: new sites wait as words of a tail.
 ghost use mathlib.Core.Path.{_≡_};
-ghost use mathlib.Core.List.{List, _∷_, []};
+ghost use mathlib.Core.List.{_∷_, []};
 ghost use Prim.Native.Nat.{ℕ, _+_, _*_, _<_, _≤_};
 ghost use lib.ListN.{length, getD, take};
-ghost use Rattle.paper.specs.Words.{below};
 ghost use Rattle.paper.specs.Numbers.{max-sites, max-items, max-constrained, max-equal};
 ghost use Rattle.paper.specs.Sites.{body};
 ghost use Rattle.kept.specs.Stored.{written};
 ghost use Rattle.sites.specs.Slots.{slot, put, store};
 ghost use Rattle.growth.specs.Tail.{site-of-word};
-ghost use Rattle.items.specs.Shown.{items-in, roomy};
-ghost use Rattle.closing.specs.Growing.{Inside};
-ghost use Rattle.loading.specs.Rounding.{Proper, Rounds, solved};
+ghost use Rattle.loading.specs.Rounding.{Rounds};
 ghost use Rattle.loading.specs.Whole.{load-in, loaded-as, sites-after, words-after};
 ghost use Rattle.loading.specs.Parts.{has-place, admitted, answer-as, worked, settled, ChildWord, Lent, Left, SameTo, Keepable, gathered, new-sites};
 use closing::Verdict;
@@ -26,9 +23,9 @@ use paper::Refusal;
 use paper::Rule;
 use paper::SITES;
 
-mod rounds;
-
 const SLOT: usize = 32;
+
+pub mod rounds;
 
 // What the rounds leave: how many words the tail has, how many sites are constrained, how many are equal; or why the rule is refused.
 pub struct Solved {
