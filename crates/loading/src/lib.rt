@@ -139,7 +139,20 @@ fn normalise(
     }
     let mut joined = [0u16; EQUALS];
     let mut lowest = [0u16; EQUALS];
-    let s = rounds::rounds(m, n, tail, a.tail, rule.count as u32, sites, rows, held, shapes, &eqs[..k], &mut joined, &mut lowest);
+    let s = rounds::rounds(
+        m,
+        n,
+        tail,
+        a.tail,
+        rule.count as u32,
+        sites,
+        rows,
+        held,
+        shapes,
+        &eqs[..k],
+        &mut joined,
+        &mut lowest,
+    );
     copy(&joined, equal);
     copy(&lowest, low);
     s
@@ -167,7 +180,20 @@ fn solve(
     if let Answer::Refused(why) = answer {
         return refuse(why);
     }
-    normalise(m, n, tail, sites, rows, shapes, &kids, &eqs, a, equal, low, rule)
+    normalise(
+        m,
+        n,
+        tail,
+        sites,
+        rows,
+        shapes,
+        &kids,
+        &eqs,
+        a,
+        equal,
+        low,
+        rule,
+    )
 }
 
 // The checks of the result: 7 if it passes a number, then if the lent bytes can't hold its table.
@@ -283,7 +309,16 @@ fn keep(
     let mut out = [0u64; 96];
     gather(rows, held, shapes, &mut out);
     write_children(m, n, tail, s.tail);
-    kept::write(words, kept, place, priority, &sites[..held], &out[..count], &equal[..e], &low[..e]);
+    kept::write(
+        words,
+        kept,
+        place,
+        priority,
+        &sites[..held],
+        &out[..count],
+        &equal[..e],
+        &low[..e],
+    );
 }
 
 // Loads a rule over the n sites of m and the `kept` rules of `words`. A refused rule changes nothing.
@@ -302,7 +337,17 @@ pub fn load(m: &mut [u8], n: u16, words: &mut [u64], kept: u32, rule: Rule) -> L
     let mut shapes = [0u64; 96];
     let mut equal = [0u16; EQUALS];
     let mut low = [0u16; EQUALS];
-    let s = solve(m, n, &mut tail, &mut sites, &mut rows, &mut shapes, &mut equal, &mut low, rule);
+    let s = solve(
+        m,
+        n,
+        &mut tail,
+        &mut sites,
+        &mut rows,
+        &mut shapes,
+        &mut equal,
+        &mut low,
+        rule,
+    );
     let answer = s.answer;
     if let Answer::Refused(why) = answer {
         return Loaded::Refused(why);
@@ -313,7 +358,21 @@ pub fn load(m: &mut [u8], n: u16, words: &mut [u64], kept: u32, rule: Rule) -> L
     if let Answer::Refused(why) = last {
         return Loaded::Refused(why);
     }
-    keep(m, n, words, kept, rule.place, rule.priority, &tail, &sites, &rows, &shapes, &equal, &low, s);
+    keep(
+        m,
+        n,
+        words,
+        kept,
+        rule.place,
+        rule.priority,
+        &tail,
+        &sites,
+        &rows,
+        &shapes,
+        &equal,
+        &low,
+        s,
+    );
     let many = total as u16;
     Loaded::Kept(many)
 }

@@ -7,61 +7,43 @@ use Rattle.loading.proofs.Keeping.{wrote-as}
 use borrow.Author.Needs.{needs}
 use Rattle.loading.proofs.keep.Statement.{statement}
 use Rattle.loading.proofs.keep.Tie as tie
-use Rattle.loading.proofs.keep.Reads as reads
-use Rattle.loading.proofs.keep.Lts as lts
-use Rattle.kept.proofs.write.Reads as write-reads
-use Rattle.loading.proofs.gather.Reads as gather-reads
-use Rattle.loading.proofs.write_children.Reads as write-children-reads
 
--- src/lib.rt:269:17
 mul-count : tie.Need-mul-count
 mul-count c = search needs
 
--- src/lib.rt:272:32
 slice-aggregate-gather : tie.Need-slice-aggregate-gather
 slice-aggregate-gather c = search needs
 
--- src/lib.rt:272:5
 gather-requires : tie.Need-gather-requires
 gather-requires c κs = search needs
 
--- src/lib.rt:273:5
 write-children-requires : tie.Need-write-children-requires
 write-children-requires c κs = search needs
 
--- src/lib.rt:274:47
 slice-aggregate-write : tie.Need-slice-aggregate-write
 slice-aggregate-write c = sym (length-take-le _ _ (c .before .before .before .before .before .before .before .before .before .before .before .before .before .before .before .before .before .pre .long-sites))
 
--- src/lib.rt:274:63
 array-share-prefix-out : tie.Need-array-share-prefix-out
 array-share-prefix-out c = search needs
 
--- src/lib.rt:274:63
 slice-aggregate-write-2 : tie.Need-slice-aggregate-write-2
 slice-aggregate-write-2 c = sym (length-take-le _ _ (omega (arith, c .before .before .before .before .before .before .before .before .gather .kept .1 .1 .1 .0, c .before .before .before .before .before .before .before .before .before .before .before .before .before .before .before .before .before .before .pre .few)))
 
--- src/lib.rt:274:78
 slice-aggregate-write-3 : tie.Need-slice-aggregate-write-3
 slice-aggregate-write-3 c = sym (length-take-le _ _ (c .before .before .before .before .before .before .before .before .before .before .before .before .before .before .before .before .before .before .before .pre .long-equal))
 
--- src/lib.rt:274:91
 slice-aggregate-write-4 : tie.Need-slice-aggregate-write-4
 slice-aggregate-write-4 c = sym (length-take-le _ _ (c .before .before .before .before .before .before .before .before .before .before .before .before .before .before .before .before .before .before .before .before .pre .long-low))
 
--- src/lib.rt:274:5
 write-requires : tie.Need-write-requires
 write-requires c κs = search needs
 
--- src/lib.rt:249:1
 same-length : tie.Need-same-length
 same-length c = search needs
 
--- src/lib.rt:249:1
 same-length-2 : tie.Need-same-length-2
 same-length-2 c = search needs
 
--- src/lib.rt:249:1
 returns : tie.Need-returns
 returns c = (c .before .before .before .before .before .before .before .before .before .before .write-children .ensures, wrote-as _ _ _ _ _ _ _ _ _ _ (c .before .before .write .ensures .1) (c .before .before .before .before .before .before .before .before .before .before .before .before .before .gather .ensures))
 

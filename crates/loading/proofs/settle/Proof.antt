@@ -3,38 +3,28 @@ use Rattle.loading.proofs.Gates.{constrained-many, equal-many, room-sho
 use borrow.Author.Needs.{needs}
 use Rattle.loading.proofs.settle.Statement.{statement}
 use Rattle.loading.proofs.settle.Tie as tie
-use Rattle.loading.proofs.settle.Reads as reads
-use Rattle.loading.proofs.settle.Lts as lts
 
--- src/lib.rt:145:69
 cast-t7 : tie.Need-cast-t7
 cast-t7 c = search needs
 
--- src/lib.rt:145:9
 returns : tie.Need-returns
 returns c = constrained-many _ _ _ _ _ (c .if1 .taken)
 
--- src/lib.rt:149:20
 cast-t9 : tie.Need-cast-t9
 cast-t9 c = search needs
 
--- src/lib.rt:148:9
 returns-2 : tie.Need-returns-2
 returns-2 c = equal-many _ _ _ _ _ (c .before .if1 .left) (c .if2 .taken)
 
--- src/lib.rt:152:15
 mul-if3 : tie.Need-mul-if3
 mul-if3 c = search needs
 
--- src/lib.rt:154:20
 cast-t12 : tie.Need-cast-t12
 cast-t12 c = search needs
 
--- src/lib.rt:153:9
 returns-3 : tie.Need-returns-3
 returns-3 c = room-short _ _ _ _ _ (c .before .before .if1 .left) (c .before .if2 .left) (c .if3 .taken)
 
--- src/lib.rt:140:1
 returns-4 : tie.Need-returns-4
 returns-4 c = settled-so _ _ _ _ _ (c .before .before .if1 .left) (c .before .if2 .left) (c .if3 .left)
 

@@ -6,10 +6,6 @@ use Rattle.loading.specs.Parts.{has-place}
 use Rattle.loading.proofs.Walking.{place-from, place-all, place-here, place-next, place-none}
 use Rattle.loading.proofs.used.Statement.{statement}
 use Rattle.loading.proofs.used.Tie as tie
-use Rattle.loading.proofs.used.Reads as reads
-use Rattle.loading.proofs.used.Lts as lts
-use Rattle.kept.proofs.place.Reads as place-reads
-use Rattle.kept.proofs.start.Reads as start-reads
 
 abbrev Inv-loop : tie.InvT-loop
 Inv-loop words kept place i₀ i = (i ≤ kept) × (place-from words place i (kept - i) ≡ has-place words kept place)
@@ -17,35 +13,27 @@ Inv-loop words kept place i₀ i = (i ≤ kept) × (place-from words place i (ke
 abbrev μ-loop : tie.MeasureT-loop
 μ-loop words kept place i₀ i = kept - i
 
--- src/lib.rt:58:5
 loop-holds : tie.Need-loop-holds Inv-loop μ-loop
 loop-holds c = (omega arith, place-all _ _ _)
 
--- src/lib.rt:59:13
 start-requires : tie.Need-start-requires Inv-loop μ-loop
 start-requires c κs = tt
 
--- src/lib.rt:60:12
 place-requires : tie.Need-place-requires Inv-loop μ-loop
 place-requires c κs = tt
 
--- src/lib.rt:61:13
 returns : tie.Need-returns Inv-loop μ-loop
 returns c = place-here _ _ _ (c .before .before .before .before .loop .i) _ _ (c .before .before .before .loop-test .taken) (c .before .before .before .before .loop .inv .1) (c .before .before .start .ensures .0) (c .before .place .ensures) (c .if1 .taken)
 
--- src/lib.rt:63:9
 add-i : tie.Need-add-i Inv-loop μ-loop
 add-i c = omega arith
 
--- src/lib.rt:58:5
 loop-less : tie.Need-loop-less Inv-loop μ-loop
 loop-less c = omega arith
 
--- src/lib.rt:58:5
 loop-again : tie.Need-loop-again Inv-loop μ-loop
 loop-again c = (omega arith, place-next _ _ _ (c .before .before .before .before .loop .i) _ _ (c .before .before .before .loop-test .taken) (c .before .before .before .before .loop .inv .1) (c .before .before .start .ensures .0) (c .before .place .ensures) (c .if1 .left))
 
--- src/lib.rt:54:1
 returns-2 : tie.Need-returns-2 Inv-loop μ-loop
 returns-2 c = place-none _ _ _ (c .before .loop .i) (c .loop-test .left) (c .before .loop .inv .1)
 

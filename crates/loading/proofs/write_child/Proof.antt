@@ -7,104 +7,76 @@ use Rattle.loading.proofs.Placing.{put-variant, put-struct, put-some}
 use borrow.Author.Needs.{needs}
 use Rattle.loading.proofs.write_child.Statement.{statement}
 use Rattle.loading.proofs.write_child.Tie as tie
-use Rattle.loading.proofs.write_child.Reads as reads
-use Rattle.loading.proofs.write_child.Lts as lts
-use Rattle.growth.proofs.source_of.Reads as source-of-reads
-use Rattle.loading.proofs.put_four.Reads as put-four-reads
 
--- src/lib.rt:190:14
 mul-at : tie.Need-mul-at
 mul-at c = search needs
 
--- src/lib.rt:192:9
 source-of-requires : tie.Need-source-of-requires
 source-of-requires c κs = search needs
 
--- src/lib.rt:193:16
 cast-high : tie.Need-cast-high
 cast-high c = omega (arith, c .before .before .pre .2 .low, c .source-of .ensures)
 
--- src/lib.rt:194:15
 cast-low : tie.Need-cast-low
 cast-low c = search needs
 
--- src/lib.rt:195:17
 cast-field : tie.Need-cast-field
 cast-field c = search needs
 
--- src/lib.rt:198:9
 put-four-requires : tie.Need-put-four-requires
 put-four-requires c κs = search needs
 
--- src/lib.rt:199:21
 cast-m : tie.Need-cast-m
 cast-m c = search needs
 
--- src/lib.rt:199:11
 add-m : tie.Need-add-m
 add-m c = search needs
 
--- src/lib.rt:199:9
 slice-write-m : tie.Need-slice-write-m
 slice-write-m c = search needs
 
--- src/lib.rt:200:21
 cast-m-2 : tie.Need-cast-m-2
 cast-m-2 c = search needs
 
--- src/lib.rt:200:11
 add-m-2 : tie.Need-add-m-2
 add-m-2 c = search needs
 
--- src/lib.rt:200:9
 slice-write-m-2 : tie.Need-slice-write-m-2
 slice-write-m-2 c = simp length-set (omega (arith, c .before .before .put-four .kept .0))
 
--- src/lib.rt:201:11
 add-m-3 : tie.Need-add-m-3
 add-m-3 c = search needs
 
--- src/lib.rt:201:9
 slice-write-m-3 : tie.Need-slice-write-m-3
 slice-write-m-3 c = simp length-set (omega (arith, c .before .before .put-four .kept .0))
 
--- src/lib.rt:202:9
 same-length : tie.Need-same-length
 same-length c = search needs
 
--- src/lib.rt:202:9
 returns : tie.Need-returns
 returns c = put-variant (c .before .before .before .before .before .before .before .args .m .now) _ (c .before .before .before .before .before .before .before .args .i) (c .before .before .before .before .before .before .before .args .w) _ (c .before .before .before .before .before .before .before .pre .1) (c .before .before .before .before .before .source-of .ensures) (c .before .before .before .before .if1 .taken) (c .before .before .put-four .ensures)
 
--- src/lib.rt:205:9
 put-four-requires-2 : tie.Need-put-four-requires-2
 put-four-requires-2 c κs = search needs
 
--- src/lib.rt:206:11
 add-m-4 : tie.Need-add-m-4
 add-m-4 c = search needs
 
--- src/lib.rt:206:9
 slice-write-m-4 : tie.Need-slice-write-m-4
 slice-write-m-4 c = search needs
 
--- src/lib.rt:207:9
 same-length-2 : tie.Need-same-length-2
 same-length-2 c = search needs
 
--- src/lib.rt:207:9
 returns-2 : tie.Need-returns-2
 returns-2 c = put-struct (c .before .before .before .before .before .before .before .before .args .m .now) _ (c .before .before .before .before .before .before .before .before .args .i) (c .before .before .before .before .before .before .before .before .args .w) _ (c .before .before .before .before .before .before .before .before .pre .1) (c .before .before .before .before .before .before .source-of .ensures) (c .before .before .before .before .if2 .taken) (c .before .before .put-four2 .ensures)
 
--- src/lib.rt:209:5
 put-four-requires-3 : tie.Need-put-four-requires-3
 put-four-requires-3 c κs = search needs
 
--- src/lib.rt:186:1
 same-length-3 : tie.Need-same-length-3
 same-length-3 c = search needs
 
--- src/lib.rt:186:1
 returns-3 : tie.Need-returns-3
 returns-3 c = put-some (c .before .before .before .before .before .before .before .before .args .m .now) _ (c .before .before .before .before .before .before .before .before .args .i) (c .before .before .before .before .before .before .before .before .args .w) _ (c .before .before .before .before .before .before .before .before .pre .1) (c .before .before .before .before .before .before .source-of .ensures) (c .before .before .before .before .before .before .before .before .pre .2) (c .before .before .before .before .before .if1 .left) (c .before .before .before .before .if2 .left) (c .before .before .put-four3 .ensures)
 
