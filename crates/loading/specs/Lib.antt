@@ -1,5 +1,6 @@
 pub mod Rounding
 pub mod Whole
+pub mod Parts
 pub mod RoundState
 pub mod RoundLaws
 pub mod RoundGive
