@@ -43,6 +43,7 @@ enum {
     LINTEL_ANSWER = 2,              /* words of an answer */
     LINTEL_SLOT = 32,               /* bytes of a site; a full set takes LINTEL_SITES of these: 32,768 bytes */
     LINTEL_STRIDE = 196,            /* words of a kept rule; a full set takes LINTEL_RULES of these: 12,544 words, 100,352 bytes */
+    LINTEL_ITEM = 4,                /* words of an item of a rule */
     LINTEL_REPORT_ROOM = 67456,     /* bytes that hold any report */
     LINTEL_ROW = 4,                 /* words of a row of marks */
     LINTEL_TABLE = 1024             /* words of the term table, LINTEL_TERMS rows: 8,192 bytes */
@@ -109,7 +110,7 @@ uint32_t lintel_add_site(uint8_t *sites, size_t sites_length, uint16_t count, co
                          uint64_t *answer, size_t answer_length);
 
 /* Writes the unfolding of a site to the start of `room`. answer: how many bytes. 2; 7 where it has over LINTEL_UNFOLDING bytes or `room` less.
- * The call with the deepest stack: up to 400,000 bytes on a set that the calls made, up to 2,800,000 on any bytes. (All others stay under 9,000.) */
+ * The call with the deepest stack: up to 400,000 bytes on a set that the calls made, up to 2,800,000 on any bytes. (lintel_load: 25,000. All others stay under 9,000.) */
 uint32_t lintel_unfold(const uint8_t *sites, size_t sites_length, uint16_t count, uint16_t site, uint8_t *room, size_t room_length,
                        uint64_t *answer, size_t answer_length);
 
@@ -118,6 +119,13 @@ uint32_t lintel_unfold(const uint8_t *sites, size_t sites_length, uint16_t count
  * constrained site, ascending: site, kind * 65536 + type (the name of a ConstPrim), and two words (Variant: variant, fields; Struct: fields, 0;
  * ConstBool: value, 0; ConstInt: high word, low word; others 0, 0); from word 132 on two words for each equal site, ascending: site, lowest
  * member of its class. LINTEL_SHORT where the words end before the rules that are asked for. */
+
+/* Loads a rule into the set of the first `count` sites and the first `kept` rules. answer: how many sites there are then, and `kept` is to grow by one.
+ * The sites that are new stand in their slots, the rule in stride `kept`. `items` has LINTEL_ITEM words for each of the `many` items: of a constraint
+ * the site and its three words as in a stride, of an equality 65536 + one site, then the other, 0, 0. 7, 8, 2, 4, 5 and 6 as 01 says; 7 too where
+ * `sites` or `words` has no room left. LINTEL_SHORT where `items` ends before its last item. */
+uint32_t lintel_load(uint8_t *sites, size_t sites_length, uint16_t count, uint64_t *words, size_t words_length, uint32_t kept, uint32_t place,
+                     int64_t priority, const uint64_t *items, size_t items_length, uint8_t many, uint64_t *answer, size_t answer_length);
 
 /* answer: LINTEL_NO, LINTEL_YES or LINTEL_SUBSET. */
 uint32_t lintel_may_overlap(const uint64_t *words, size_t words_length, uint32_t rule, uint32_t other, uint64_t *answer, size_t answer_length);

@@ -1,4 +1,4 @@
-//! Loading whole sets: sites added, rules loaded and normalised, the report. Feature `loads`: the archive has `lintel_load`.
+//! Loading whole sets: sites added, rules loaded and normalised, the report.
 
 use crate::lintelbox::*;
 use crate::sets::{argument, report_text};
@@ -76,7 +76,7 @@ impl Ours {
         }
         for (i, (priority, items)) in set.rules.iter().enumerate() {
             let place = 10 * (i as u32 + 1);
-            let number = load(&mut self.sites, self.count, &mut self.words, self.kept, place, *priority, items, &mut a);
+            let number = load(&mut self.sites, self.count, &mut self.words, self.kept, place, *priority, items, (items.len() / 4) as u8, &mut a);
             kept.push(number == 0);
             if number == 0 {
                 self.count = a[0] as u16;

@@ -4,7 +4,6 @@
 mod clock;
 #[path = "../../examples/rust/src/lintelbox.rs"]
 mod lintelbox;
-#[cfg(feature = "loads")]
 mod loads;
 mod sets;
 
@@ -313,7 +312,6 @@ fn edges(n: usize, each: usize) -> Vec<(u16, u16)> {
 
 // ---- loading
 
-#[cfg(feature = "loads")]
 fn loading(b: &mut Bench, name: &str, sets: &[loads::Written]) {
     let env = env();
     sets.iter().for_each(|w| loads::agree(w, &env));
@@ -332,7 +330,6 @@ fn loading(b: &mut Bench, name: &str, sets: &[loads::Written]) {
     );
 }
 
-#[cfg(feature = "loads")]
 fn loads(b: &mut Bench) {
     title("Whole sets: sites added, rules loaded, the report");
     loading(b, "64 sets of 4 to 8 rules of 3 items", &(0..64).map(loads::small).collect::<Vec<_>>());
@@ -349,9 +346,6 @@ fn loads(b: &mut Bench) {
         loading(b, &format!("16 rules, a chain of {n} fields under two equal sites, again"), &[loads::deep(n, 16)]);
     }
 }
-
-#[cfg(not(feature = "loads"))]
-fn loads(_: &mut Bench) {}
 
 fn all(b: &mut Bench) {
     title("Class calls");

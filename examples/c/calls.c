@@ -17,6 +17,8 @@ static uint64_t table[LINTEL_TABLE], recs[LINTEL_ROW];
 static uint16_t found[LINTEL_TERMS];
 static uint8_t room[LINTEL_REPORT_ROOM];
 static uint64_t answer[LINTEL_ANSWER];
+static uint16_t site_count;
+static uint32_t kept;
 static unsigned calls;
 
 /* A number and the words that go with it. */
@@ -68,29 +70,41 @@ static void set_of_sites(void) {
     for (uint64_t i = 0; i < answer[0]; i++) printf("%02X", room[i]);
     printf("\n");
     show("unfold 3", lintel_unfold(sites, sizeof sites, n, 3, room, sizeof room, answer, LINTEL_ANSWER));
+    site_count = n;
     show("unfold 2, room 3", lintel_unfold(sites, sizeof sites, n, 2, room, 3, answer, LINTEL_ANSWER));
 }
 
-/* A kept rule whose sites 0, 1 .. are the integers given, all of type 3. */
-static void rule(unsigned i, uint32_t place, int64_t priority, unsigned n, const uint64_t *values) {
-    uint64_t *w = words + i * LINTEL_STRIDE;
-    memset(w, 0, LINTEL_STRIDE * sizeof *w);
-    w[0] = place;
-    w[1] = (uint64_t)priority ^ UINT64_C(0x8000000000000000);
-    w[2] = n;
-    for (unsigned k = 0; k < n; k++) {
-        w[4 + 4 * k] = k;
-        w[5 + 4 * k] = 3 * 65536 + 3;
-        w[7 + 4 * k] = values[k];
-    }
+/* Loads a rule of `many` items; where it is kept, counts it. */
+static void rule(const char *name, uint32_t place, int64_t priority, uint8_t many, const uint64_t *items) {
+    uint32_t number = lintel_load(sites, sizeof sites, site_count, words, sizeof words / sizeof *words, kept, place, priority, items,
+                                  (size_t)many * LINTEL_ITEM, many, answer, LINTEL_ANSWER);
+    show(name, number);
+    if (number) return;
+    site_count = (uint16_t)answer[0];
+    kept++;
 }
 
+/* Sites 0 and 1 are the arguments. Items: site, kind * 65536 + type, two words; or 65536 + site, site, 0, 0. */
+#define INTEGER(site, n) (site), 3 * 65536 + 3, 0, (n)
+#define STRUCTURE(site, fields) (site), 1 * 65536 + 7, (fields), 0
+#define EQUAL(one, other) 65536 + (one), (other), 0, 0
+
 static void set_of_rules(void) {
-    static const uint64_t five[] = {5}, six[] = {6}, five_six[] = {5, 6};
-    rule(0, 10, 1, 1, five);
-    rule(1, 20, 0, 2, five_six);
-    rule(2, 30, 0, 1, five);
-    rule(3, 40, 0, 1, six);
+    static const uint64_t five[] = {INTEGER(0, 5)}, six[] = {INTEGER(0, 6)}, five_six[] = {INTEGER(0, 5), INTEGER(1, 6)};
+    static const uint64_t torn[] = {EQUAL(0, 1), INTEGER(0, 5), INTEGER(1, 6)}, round[] = {STRUCTURE(0, 1), EQUAL(0, 2)};
+    static const uint64_t hanging[] = {INTEGER(2, 1)}, unknown[] = {INTEGER(900, 1)}, two[] = {EQUAL(0, 1), STRUCTURE(0, 2)};
+    rule("load 10", 10, 1, 1, five);
+    rule("load 20", 20, 0, 2, five_six);
+    rule("load 30", 30, 0, 1, five);
+    rule("load 40", 40, -1, 1, six);
+    rule("load 40 again", 40, 0, 1, six);
+    rule("load 50, unreachable", 50, 0, 3, torn);
+    rule("load 60, in itself", 60, 0, 2, round);
+    rule("load 70, hanging", 70, 0, 1, hanging);
+    rule("load 80, unknown", 80, 0, 1, unknown);
+    rule("load 90, two fields", 90, 0, 2, two);
+    show("load, items torn", lintel_load(sites, sizeof sites, site_count, words, sizeof words / sizeof *words, kept, 95, 0, two, 7, 2, answer, LINTEL_ANSWER));
+    show("total of 90", lintel_total_constraints(words, sizeof words / sizeof *words, kept - 1, answer, LINTEL_ANSWER));
     size_t length = 4 * LINTEL_STRIDE;
     show("overlap 0 1", lintel_may_overlap(words, length, 0, 1, answer, LINTEL_ANSWER));
     show("overlap 2 3", lintel_may_overlap(words, length, 2, 3, answer, LINTEL_ANSWER));

@@ -10,6 +10,9 @@
 static uint16_t parents[LINTEL_SITES], count, members[LINTEL_SITES], found[LINTEL_TERMS];
 static uint8_t ranks[LINTEL_SITES], sites[LINTEL_SITES * LINTEL_SLOT], any[LINTEL_SITES * LINTEL_SLOT], room[LINTEL_REPORT_ROOM];
 static uint64_t words[LINTEL_RULES * LINTEL_STRIDE], table[LINTEL_TABLE], recs[LINTEL_ROW], answer[LINTEL_ANSWER];
+static uint8_t set[LINTEL_SITES * LINTEL_SLOT], flat[LINTEL_SITES * LINTEL_SLOT], many;
+static uint64_t kept[LINTEL_STRIDE], items[LINTEL_ITEMS * LINTEL_ITEM];
+static const uint64_t wide[] = {65536, 1, 0, 0, 65537, 2, 0, 0, 65538, 3, 0, 0, 1, 65543, 8, 0};
 static const uint8_t body[] = {9, 0, 1, 1, 0, 9};
 
 static void nothing(void) {}
@@ -24,6 +27,8 @@ static void is_empty(void) { lintel_is_empty(&count); }
 static void add(void) { lintel_add_site(sites, sizeof sites, 1023, body, sizeof body, 0, answer, LINTEL_ANSWER); }
 static void unfold(void) { lintel_unfold(sites, sizeof sites, LINTEL_SITES, LINTEL_SITES - 1, room, sizeof room, answer, LINTEL_ANSWER); }
 static void unfold_any(void) { lintel_unfold(any, sizeof any, LINTEL_SITES, LINTEL_SITES - 1, room, sizeof room, answer, LINTEL_ANSWER); }
+static void load(void) { lintel_load(set, sizeof set, 16, kept, sizeof kept / 8, 0, 1, 0, items, many * LINTEL_ITEM, many, answer, LINTEL_ANSWER); }
+static void load_wide(void) { lintel_load(flat, sizeof flat, 4, kept, sizeof kept / 8, 0, 1, 0, wide, 4 * LINTEL_ITEM, 4, answer, LINTEL_ANSWER); }
 static void overlap(void) { lintel_may_overlap(words, sizeof words / 8, 3, 60, answer, LINTEL_ANSWER); }
 static void total(void) { lintel_total_constraints(words, sizeof words / 8, 3, answer, LINTEL_ANSWER); }
 static void report(void) { lintel_report(words, sizeof words / 8, LINTEL_RULES, 0, room, sizeof room, answer, LINTEL_ANSWER); }
@@ -48,6 +53,8 @@ static const struct {
     {"lintel_add_site", add},
     {"lintel_unfold", unfold},
     {"lintel_unfold, of bytes that no call made", unfold_any},
+    {"lintel_load, a chain of 14 fields under two equal sites", load},
+    {"lintel_load, a class of 4 sites with 8 fields", load_wide},
     {"lintel_may_overlap", overlap},
     {"lintel_total_constraints", total},
     {"lintel_report", report},
@@ -114,9 +121,35 @@ static void fill(void) {
     for (unsigned t = 0; t < LINTEL_TERMS; t++) lintel_add_edge(table, (uint16_t)t, (uint16_t)((t + 1) % LINTEL_TERMS), answer, LINTEL_ANSWER);
 }
 
+static void item(uint64_t a, uint64_t b, uint64_t c) {
+    uint64_t *w = items + LINTEL_ITEM * many++;
+    w[0] = a;
+    w[1] = b;
+    w[2] = c;
+}
+
+/* Sites 0 and 1 are equal arguments; 2 is a field of 0, and each later one of the one before it: all structures of one field. */
+static void fill_set(void) {
+    uint8_t arguments[] = {2, 3, 0}, field[] = {4, 10, 0, 0, 0};
+    for (unsigned i = 0; i < 16; i++) {
+        arguments[2] = (uint8_t)i;
+        field[3] = (uint8_t)(i == 2 ? 0 : i - 1);
+        memcpy(flat + LINTEL_SLOT * i, arguments, sizeof arguments);
+        memcpy(set + LINTEL_SLOT * i, i < 2 ? arguments : field, i < 2 ? sizeof arguments : sizeof field);
+    }
+    item(65536, 1, 0);
+    item(0, 65536 + 9, 1);
+    for (unsigned i = 2; i < 15; i++) item(i, 65536 + i, 1);
+}
+
 int main(void) {
     fill();
+    fill_set();
     fill_any();
     for (size_t i = 0; i < sizeof calls / sizeof *calls; i++) printf("| %s | %zu |\n", calls[i].name, used(calls[i].call));
+    load();
+    if (answer[0] != 30) return 1;
+    load_wide();
+    if (answer[0] != 36) return 1;
     return 0;
 }

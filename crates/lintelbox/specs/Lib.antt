@@ -1,3 +1,4 @@
 -- The definitions that this crate's contracts cite.
 pub mod Border
 pub mod Telling
+pub mod Loads

@@ -9,6 +9,7 @@ use paper::Found;
 use paper::Refusal;
 
 pub mod joins;
+pub mod loads;
 pub mod rules;
 pub mod tables;
 pub mod terms;

@@ -39,7 +39,6 @@ mod c {
         pub fn lintel_may_overlap(words: *const u64, w: usize, rule: u32, other: u32, answer: *mut u64, n: usize) -> u32;
         pub fn lintel_total_constraints(words: *const u64, w: usize, rule: u32, answer: *mut u64, n: usize) -> u32;
         pub fn lintel_report(words: *const u64, w: usize, count: u32, flags: u8, room: *mut u8, r: usize, answer: *mut u64, n: usize) -> u32;
-        #[cfg(feature = "loads")]
         pub fn lintel_load(sites: *mut u8, s: usize, count: u16, words: *mut u64, w: usize, kept: u32, place: u32, priority: i64, items: *const u64, i: usize, many: u8, answer: *mut u64, n: usize) -> u32;
         pub fn lintel_terms_clear(table: *mut u64, recs: *mut u64);
         pub fn lintel_add_edge(table: *mut u64, from: u16, to: u16, answer: *mut u64, n: usize) -> u32;
@@ -115,11 +114,9 @@ pub fn report(words: &[u64], count: u32, flags: u8, room: &mut [u8], a: &mut [u6
 }
 
 /// The rule's items are four words each.
-#[cfg(feature = "loads")]
 #[allow(clippy::too_many_arguments)]
-pub fn load(sites: &mut [u8], count: u16, words: &mut [u64], kept: u32, place: u32, priority: i64, items: &[u64], a: &mut [u64]) -> u32 {
+pub fn load(sites: &mut [u8], count: u16, words: &mut [u64], kept: u32, place: u32, priority: i64, items: &[u64], many: u8, a: &mut [u64]) -> u32 {
     let (m, w, i) = (sites.as_mut_ptr(), words.as_mut_ptr(), items.as_ptr());
-    let many = (items.len() / 4) as u8;
     unsafe { c::lintel_load(m, sites.len(), count, w, words.len(), kept, place, priority, i, items.len(), many, a.as_mut_ptr(), a.len()) }
 }
 

@@ -44,7 +44,7 @@ fn list(numbers: &[u16]) {
     println!("{text}");
 }
 
-fn sites(calls: &mut Calls) {
+fn sites(calls: &mut Calls) -> Set {
     let mut m = vec![0; SITES * SLOT];
     let mut room = vec![0; REPORT_ROOM];
     let mut n = 0;
@@ -59,29 +59,68 @@ fn sites(calls: &mut Calls) {
     println!("{}", room[..calls.answer[0] as usize].iter().map(|b| format!("{b:02X}")).collect::<String>());
     calls.show("unfold 3", |a| unfold(&m, n, 3, &mut room, a));
     calls.show("unfold 2, room 3", |a| unfold(&m, n, 2, &mut room[..3], a));
+    Set { sites: m, words: vec![0; (RULES + 1) * STRIDE], count: n, kept: 0 }
 }
 
-fn rule(words: &mut [u64], place: u64, priority: i64, values: &[u64]) {
-    words[..3].copy_from_slice(&[place, priority as u64 ^ 1 << 63, values.len() as u64]);
-    for (k, value) in values.iter().enumerate() {
-        words[4 + 4 * k..8 + 4 * k].copy_from_slice(&[k as u64, 3 * 65536 + 3, 0, *value]);
+/// A set: its sites, its kept rules, and how many there are of each.
+struct Set {
+    sites: Vec<u8>,
+    words: Vec<u64>,
+    count: u16,
+    kept: u32,
+}
+
+impl Set {
+    /// Loads a rule; where it is kept, counts it.
+    fn load(&mut self, calls: &mut Calls, name: &str, place: u32, priority: i64, items: &[[u64; 4]]) {
+        let mut number = 0;
+        calls.show(name, |a| {
+            number = load(&mut self.sites, self.count, &mut self.words, self.kept, place, priority, items.as_flattened(), items.len() as u8, a);
+            number
+        });
+        if number == 0 {
+            self.count = calls.answer[0] as u16;
+            self.kept += 1;
+        }
     }
 }
 
-fn rules(calls: &mut Calls) {
-    let mut words = vec![0; (RULES + 1) * STRIDE];
-    let kept: [(u64, i64, &[u64]); 4] = [(10, 1, &[5]), (20, 0, &[5, 6]), (30, 0, &[5]), (40, 0, &[6])];
-    for (w, (place, priority, values)) in words.chunks_mut(STRIDE).zip(kept) {
-        rule(w, place, priority, values);
-    }
-    let four = &words[..4 * STRIDE];
+fn integer(site: u64, n: u64) -> [u64; 4] {
+    [site, 3 * 65536 + 3, 0, n]
+}
+
+fn structure(site: u64, fields: u64) -> [u64; 4] {
+    [site, 65536 + 7, fields, 0]
+}
+
+fn equal(one: u64, other: u64) -> [u64; 4] {
+    [65536 + one, other, 0, 0]
+}
+
+fn rules(calls: &mut Calls, set: &mut Set) {
+    set.load(calls, "load 10", 10, 1, &[integer(0, 5)]);
+    set.load(calls, "load 20", 20, 0, &[integer(0, 5), integer(1, 6)]);
+    set.load(calls, "load 30", 30, 0, &[integer(0, 5)]);
+    set.load(calls, "load 40", 40, -1, &[integer(0, 6)]);
+    set.load(calls, "load 40 again", 40, 0, &[integer(0, 6)]);
+    set.load(calls, "load 50, unreachable", 50, 0, &[equal(0, 1), integer(0, 5), integer(1, 6)]);
+    set.load(calls, "load 60, in itself", 60, 0, &[structure(0, 1), equal(0, 2)]);
+    set.load(calls, "load 70, hanging", 70, 0, &[integer(2, 1)]);
+    set.load(calls, "load 80, unknown", 80, 0, &[integer(900, 1)]);
+    let two = [equal(0, 1), structure(0, 2)];
+    set.load(calls, "load 90, two fields", 90, 0, &two);
+    calls.show("load, items torn", |a| {
+        load(&mut set.sites, set.count, &mut set.words, set.kept, 95, 0, &two.as_flattened()[..7], 2, a)
+    });
+    calls.show("total of 90", |a| total_constraints(&set.words, set.kept - 1, a));
+    let four = &set.words[..4 * STRIDE];
     let mut room = vec![0; REPORT_ROOM];
     calls.show("overlap 0 1", |a| may_overlap(four, 0, 1, a));
     calls.show("overlap 2 3", |a| may_overlap(four, 2, 3, a));
     calls.show("overlap 3 4", |a| may_overlap(four, 3, 4, a));
     calls.show("total 1", |a| total_constraints(four, 1, a));
     calls.show("report, room 80", |a| report(four, 4, 0, &mut room[..80], a));
-    calls.show("report of 65", |a| report(&words, 65, 0, &mut room, a));
+    calls.show("report of 65", |a| report(&set.words, 65, 0, &mut room, a));
     calls.show("report", |a| report(four, 4, 0, &mut room, a));
     print!("{}", String::from_utf8_lossy(&room[..calls.answer[0] as usize]));
 }
@@ -103,8 +142,8 @@ fn terms(calls: &mut Calls) {
 fn main() {
     let mut calls = Calls { made: 0, answer: [0; ANSWER] };
     classes(&mut calls);
-    sites(&mut calls);
-    rules(&mut calls);
+    let mut set = sites(&mut calls);
+    rules(&mut calls, &mut set);
     terms(&mut calls);
     println!("{} calls", calls.made);
 }
