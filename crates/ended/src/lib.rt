@@ -147,7 +147,8 @@ pub fn with_set(e: Ended, term: u16, flags: u8, rules: u32) -> Ended
     }
 }
 
-fn to_or(w: Room, at: usize) -> usize
+// The end of what was written; where the room was short, the start.
+pub fn to_or(w: Room, at: usize) -> usize
     ensures { λ r. ⌜ r ≡ to-or w at ⌝ }
 {
     match w {
