@@ -13,6 +13,7 @@ pub mod Uniting
 pub mod Removing
 pub mod Removal
 pub mod Laws
+pub mod Lending
 pub mod Reading
 pub mod Stepping
 pub mod Labelled

@@ -1,5 +1,6 @@
 // Disjoint sets of sites (the Rust's disjointsets.rs). A site's parent is SITES or more where it was never joined.
-// The functions whose name ends in `_in` work on lent parts and copy nothing; those on the struct by value stand on them.
+// The functions whose name ends in `_in` work on lent parts and copy nothing; those on the struct by value stand on them,
+// and those of `lent`, on the struct lent by reference.
 // Every one is total on any contents: a chain is followed for at most SITES links. specs/Answers.antt ties their answers to paper's outcomes.
 ghost use mathlib.Core.Path.{_≡_};
 ghost use mathlib.Core.List.{List};
@@ -13,6 +14,7 @@ use paper::Found;
 use paper::Refusal;
 use paper::SITES;
 
+pub mod lent;
 pub mod script;
 
 // The parent of a site that was never joined.

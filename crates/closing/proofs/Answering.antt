@@ -79,7 +79,7 @@ unfolding joined
 in-joined (ys ∷ xss) xs x (List·Memᴰ·head e) m = Memᴰ·append-left (joined xss) (rw e at m)
 in-joined (ys ∷ xss) xs x (List·Memᴰ·tail l) m = Memᴰ·append-right ys (in-joined xss xs x l m)
 
-of-joined : {A : Type 0} (xss : List (List A)) (x : A) → List·Memᴰ x (joined xss) → (xs : List A) × List·Memᴰ xs xss × List·Memᴰ x xs
+pub of-joined : {A : Type 0} (xss : List (List A)) (x : A) → List·Memᴰ x (joined xss) → (xs : List A) × List·Memᴰ xs xss × List·Memᴰ x xs
 unfolding joined
 of-joined [] x m = elim m [ ]
 of-joined {A} (ys ∷ xss) x m = go (λ q. of-joined xss x q) (List·Memᴰ·append-cases ys m)
@@ -158,7 +158,7 @@ not-returns es a h = go (returns es a) refl
     go true e = absurd (h (returns-is es a .0 e))
     go false e = refl
 
-endless-none : (es : Edges) → ((a : ℕ) → Walk es a a → ⊥) → endless es ≡ none
+pub endless-none : (es : Edges) → ((a : ℕ) → Walk es a a → ⊥) → endless es ≡ none
 unfolding endless least
 endless-none es h = rw (keep-no (returns es) (map (λ e. e .0) es) (λ a. not-returns es a (h a)))
 

@@ -6,5 +6,6 @@ pub mod Seating
 pub mod Settling
 pub mod Searching
 pub mod Answering
+pub mod Climbing
 pub mod Judging
 pub mod Agreeing

@@ -240,6 +240,14 @@ module _ (H : Held) (p boss : List ℕ) (l : ℕ) where
     (λ o w. path-marked H p boss l s q t (S .visited) (S .first) (λ k b. S .done k (omega arith)) Q w (eqb-true (getD s l 0) 0 (not-false (eqb (getD s l 0) 0) o))),
   )
 
+-- a class without a holder leads nowhere
+pub no-holder : (H : Held) (p boss : List ℕ) (l i : ℕ) → i ≡ l → max-sites ≤ getD boss i 0 → (false ≡ true → Path H p boss l l) × (false ≡ false → Path H p boss l l → ⊥)
+no-holder H p boss l i e h = (λ o. let z : _≡_ {A = ℕ} 0 1 = cc in absurd (omega arith), λ _ w. let k : max-sites ≤ getD boss l 0 = rw e at h in go k w)
+  where
+    go : {a b : ℕ} → max-sites ≤ getD boss a 0 → Path H p boss a b → ⊥
+    go k (edge e) = let t = e .there in omega arith
+    go k (then e w) = let t = e .there in omega arith
+
 -- the loop of endless
 pub lowest-at : (H : Held) (p boss : List ℕ) (z l : ℕ) (t : Bool) → l ≡ rep p z → ((k : ℕ) → k < z → Path H p boss (rep p k) (rep p k) → ⊥)
     → (t ≡ true → Path H p boss l l) × (t ≡ false → Path H p boss l l → ⊥) → t ≡ true → Lowest H p boss z

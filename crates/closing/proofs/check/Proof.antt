@@ -1,4 +1,6 @@
 -- `closing::check` meets its contract. Assumes nothing.
+use mathlib.Core.Path.{sym}
+use Rattle.closing.specs.declared.Verdict.the-variants.{Passes}
 use Rattle.closing.specs.Holding.{held}
 use Rattle.closing.proofs.Judging.{stray-eqs, stray-sites, stray-kids, all-inside, no-stray-at}
 use Rattle.closing.proofs.check.Statement.{statement}
@@ -25,13 +27,20 @@ returns-3 : tie.Need-returns-3
 returns-3 c =
     stray-kids (c .before .before .before .before .before .before .before .before .before .before .before .args .eqs .now) (held (c .before .before .before .before .before .before .before .before .before .before .before .args .sites .now) (c .before .before .before .before .before .before .before .before .before .before .before .args .rows .now) (c .before .before .before .before .before .before .before .before .before .before .before .args .words .now) (c .before .before .before .before .before .before .before .before .before .before .before .args .kids .now)) _ (c .before .before .before .before .before .first-stray .ensures) (c .before .before .before .before .if1 .left) _ (c .before .before .before .first-stray2 .ensures) (c .before .before .if2 .left) _ (c .before .first-stray3 .ensures) (c .if3 .taken)
 
-judge-requires : tie.Need-judge-requires
-judge-requires c κs =
-    all-inside (c .before .before .before .before .before .before .before .before .before .before .before .args .eqs .now) (held (c .before .before .before .before .before .before .before .before .before .before .before .args .sites .now) (c .before .before .before .before .before .before .before .before .before .before .before .args .rows .now) (c .before .before .before .before .before .before .before .before .before .before .before .args .words .now) (c .before .before .before .before .before .before .before .before .before .before .before .args .kids .now)) _ (c .before .before .before .before .before .first-stray .ensures) (c .before .before .before .before .if1 .left) _ (c .before .before .before .first-stray2 .ensures) (c .before .before .if2 .left) _ (c .before .first-stray3 .ensures) (c .if3 .left)
+climbs-requires : tie.Need-climbs-requires
+climbs-requires c κs = tt
 
 returns-4 : tie.Need-returns-4
 returns-4 c =
-    no-stray-at (c .before .before .before .before .before .before .before .before .before .before .before .before .args .eqs .now) (held (c .before .before .before .before .before .before .before .before .before .before .before .before .args .sites .now) (c .before .before .before .before .before .before .before .before .before .before .before .before .args .rows .now) (c .before .before .before .before .before .before .before .before .before .before .before .before .args .words .now) (c .before .before .before .before .before .before .before .before .before .before .before .before .args .kids .now)) _ (c .before .before .before .before .before .before .first-stray .ensures) (c .before .before .before .before .before .if1 .left) _ (c .before .before .before .before .first-stray2 .ensures) (c .before .before .before .if2 .left) _ (c .before .before .first-stray3 .ensures) (c .before .if3 .left) (c .judge .result) (c .judge .ensures)
+    no-stray-at (c .before .before .before .before .before .before .before .before .before .before .before .before .before .args .eqs .now) (held (c .before .before .before .before .before .before .before .before .before .before .before .before .before .args .sites .now) (c .before .before .before .before .before .before .before .before .before .before .before .before .before .args .rows .now) (c .before .before .before .before .before .before .before .before .before .before .before .before .before .args .words .now) (c .before .before .before .before .before .before .before .before .before .before .before .before .before .args .kids .now)) _ (c .before .before .before .before .before .before .before .first-stray .ensures) (c .before .before .before .before .before .before .if1 .left) _ (c .before .before .before .before .before .first-stray2 .ensures) (c .before .before .before .before .if2 .left) _ (c .before .before .before .first-stray3 .ensures) (c .before .before .if3 .left) Passes (sym (c .before .climbs .ensures (c .if4 .taken)))
+
+judge-requires : tie.Need-judge-requires
+judge-requires c κs =
+    all-inside (c .before .before .before .before .before .before .before .before .before .before .before .before .before .args .eqs .now) (held (c .before .before .before .before .before .before .before .before .before .before .before .before .before .args .sites .now) (c .before .before .before .before .before .before .before .before .before .before .before .before .before .args .rows .now) (c .before .before .before .before .before .before .before .before .before .before .before .before .before .args .words .now) (c .before .before .before .before .before .before .before .before .before .before .before .before .before .args .kids .now)) _ (c .before .before .before .before .before .before .before .first-stray .ensures) (c .before .before .before .before .before .before .if1 .left) _ (c .before .before .before .before .before .first-stray2 .ensures) (c .before .before .before .before .if2 .left) _ (c .before .before .before .first-stray3 .ensures) (c .before .before .if3 .left)
+
+returns-5 : tie.Need-returns-5
+returns-5 c =
+    no-stray-at (c .before .before .before .before .before .before .before .before .before .before .before .before .before .before .args .eqs .now) (held (c .before .before .before .before .before .before .before .before .before .before .before .before .before .before .args .sites .now) (c .before .before .before .before .before .before .before .before .before .before .before .before .before .before .args .rows .now) (c .before .before .before .before .before .before .before .before .before .before .before .before .before .before .args .words .now) (c .before .before .before .before .before .before .before .before .before .before .before .before .before .before .args .kids .now)) _ (c .before .before .before .before .before .before .before .before .first-stray .ensures) (c .before .before .before .before .before .before .before .if1 .left) _ (c .before .before .before .before .before .before .first-stray2 .ensures) (c .before .before .before .before .before .if2 .left) _ (c .before .before .before .before .first-stray3 .ensures) (c .before .before .before .if3 .left) (c .judge .result) (c .judge .ensures)
 
 pub check-spec : {M : Type 1} → statement M
 check-spec =
@@ -43,5 +52,7 @@ check-spec =
     returns-2
     first-stray-requires-3
     returns-3
+    climbs-requires
+    returns-4
     judge-requires
-    returns-4)
+    returns-5)

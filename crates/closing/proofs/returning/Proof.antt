@@ -5,7 +5,7 @@ use mathlib.Core.Path.{_≡_, refl, sym, ap, subst}
 use mathlib.Core.Logic.{inl, inr}
 use Prim.Native.Nat.{_≤_, _-_}
 use Rattle.closing.specs.Holding.{chart, kid-in}
-use Rattle.closing.proofs.Searching.{SearchTo, visited-none, tail-le, search-start, search-step, search-told}
+use Rattle.closing.proofs.Searching.{SearchTo, visited-none, tail-le, search-start, search-step, search-told, no-holder}
 use Rattle.closing.proofs.returning.Statement.{statement}
 use Rattle.closing.proofs.returning.Tie as tie
 
@@ -15,9 +15,24 @@ Inv-loop p boss rows words kids l seen₀ queue₀ tail₀ head₀ seen queue ta
 abbrev μ-loop : tie.MeasureT-loop
 μ-loop p boss rows words kids l seen₀ queue₀ tail₀ head₀ seen queue tail head = max-sites - head
 
+wide-requires : tie.Need-wide-requires Inv-loop μ-loop
+wide-requires c κs = tt
+
+mul-if1 : tie.Need-mul-if1 Inv-loop μ-loop
+mul-if1 c =
+    omega (arith, c .wide .ensures, c .before .before .before .before .pre .1)
+
+element-copy-out-if1 : tie.Need-element-copy-out-if1 Inv-loop μ-loop
+element-copy-out-if1 c =
+    omega (arith, c .wide .ensures, c .before .before .before .before .pre .1)
+
+returns : tie.Need-returns Inv-loop μ-loop
+returns c =
+    no-holder (chart (c .before .before .before .before .before .before .args .rows .now) (c .before .before .before .before .before .before .args .words .now) (c .before .before .before .before .before .before .args .kids .now)) _ _ _ _ (c .before .before .wide .ensures) (c .if1 .taken)
+
 visit-kids-requires : tie.Need-visit-kids-requires Inv-loop μ-loop
 visit-kids-requires c κs =
-    (c .before .before .before .before .before .pre .0, (visited-none _ _ _ _, (c .before .before .before .before .before .pre .1, inl refl)))
+    (c .before .before .before .before .before .before .before .before .pre .0, (visited-none _ _ _ _, (c .before .before .before .before .before .before .before .before .pre .1, inl refl)))
 
 loop-holds : tie.Need-loop-holds Inv-loop μ-loop
 loop-holds c =
@@ -35,7 +50,7 @@ visit-kids-requires-2 : tie.Need-visit-kids-requires-2 Inv-loop μ-loop
 visit-kids-requires-2 c κs =
     let l = c .before .before .before .loop in
     let t = c .before .before .loop-test .taken in
-    (c .before .before .before .before .before .before .before .before .before .before .pre .0, (l .inv .visited, (l .inv .visited .sites (l .head) t, inr (l .inv .visited .sound (l .head) t))))
+    (c .before .before .before .before .before .before .before .before .before .before .before .before .before .pre .0, (l .inv .visited, (l .inv .visited .sites (l .head) t, inr (l .inv .visited .sound (l .head) t))))
 
 add-head : tie.Need-add-head Inv-loop μ-loop
 add-head c =
@@ -49,18 +64,18 @@ loop-again : tie.Need-loop-again Inv-loop μ-loop
 loop-again c =
     search-step _ _ _ _ _ _ _ _ _ _ _ (c .before .before .before .before .loop .inv) (c .before .before .before .loop-test .taken) (c .visit-kids2 .ensures .0) (c .visit-kids2 .ensures .1 .0) (c .visit-kids2 .ensures .1 .1)
 
-wide-requires : tie.Need-wide-requires Inv-loop μ-loop
-wide-requires c κs = tt
+wide-requires-2 : tie.Need-wide-requires-2 Inv-loop μ-loop
+wide-requires-2 c κs = tt
 
 array-read-result : tie.Need-array-read-result Inv-loop μ-loop
 array-read-result c =
-    omega (arith, c .wide .ensures, c .before .before .before .before .before .before .before .before .before .pre .1)
+    omega (arith, c .wide2 .ensures, c .before .before .before .before .before .before .before .before .before .before .before .before .pre .1)
 
-returns : tie.Need-returns Inv-loop μ-loop
-returns c =
+returns-2 : tie.Need-returns-2 Inv-loop μ-loop
+returns-2 c =
     let t = c .before .loop-test .left in
     let w = c .before .before .loop .inv .within in
-    search-told (chart (c .before .before .before .before .before .before .before .before .before .args .rows .now) (c .before .before .before .before .before .before .before .before .before .args .words .now) (c .before .before .before .before .before .before .before .before .before .args .kids .now)) _ _ _ (c .before .before .before .before .before .before .before .before .before .pre .0) _ _ _ _ _ (c .before .before .loop .inv) (omega arith) (c .before .before .before .before .before .before .before .before .before .pre .1) (c .wide .ensures)
+    search-told (chart (c .before .before .before .before .before .before .before .before .before .before .before .before .args .rows .now) (c .before .before .before .before .before .before .before .before .before .before .before .before .args .words .now) (c .before .before .before .before .before .before .before .before .before .before .before .before .args .kids .now)) _ _ _ (c .before .before .before .before .before .before .before .before .before .before .before .before .pre .0) _ _ _ _ _ (c .before .before .loop .inv) (omega arith) (c .before .before .before .before .before .before .before .before .before .before .before .before .pre .1) (c .wide2 .ensures)
 
 pub returning-spec : {M : Type 1} → statement M
 returning-spec =
@@ -68,6 +83,10 @@ returning-spec =
     (tie.spec
     Inv-loop
     μ-loop
+    wide-requires
+    mul-if1
+    element-copy-out-if1
+    returns
     visit-kids-requires
     loop-holds
     mul-x
@@ -76,6 +95,6 @@ returning-spec =
     add-head
     loop-less
     loop-again
-    wide-requires
+    wide-requires-2
     array-read-result
-    returns)
+    returns-2)

@@ -1,0 +1,6 @@
+pub mod Parts
+pub mod Shapes
+pub mod Words
+pub mod Said
+pub mod Cases
+pub mod Told

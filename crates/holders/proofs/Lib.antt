@@ -1,0 +1,2 @@
+-- Laws of the constrained sites.
+pub mod Placing

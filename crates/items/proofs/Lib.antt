@@ -1,0 +1,9 @@
+-- Laws of the items.
+pub mod Ranges
+pub mod Rows
+pub mod Numbering
+pub mod Taking
+pub mod Stepping
+pub mod Walking
+pub mod Childless
+pub mod Telling

@@ -1,0 +1,109 @@
+-- The parts of loading, as the code goes through them.
+use mathlib.Core.Path.{_≡_}
+use mathlib.Core.Bool.{Bool, _&&_, not}
+use mathlib.Core.List.{List, []}
+use Prim.Native.Nat.{ℕ, suc, _+_, _*_, _/_, _%_, _<_, _≤_, min}
+use lib.ListN.{length, getD}
+use lib.Dec.{eqb, ltb, leb}
+use Rattle.paper.specs.declared.Rule.{Rule}
+use Rattle.paper.specs.declared.Refusal.the-variants.{TooManySites, TooManyRules, TooManyItems, TooManyConstrained, TooManyEqual, PlaceUsed}
+use Rattle.paper.specs.Words.{or-else, any, below}
+use Rattle.paper.specs.Numbers.{max-sites, max-rules, max-items, max-constrained, max-equal, most-rounds, Outcome, done, refused, _>>=_, demand}
+use Rattle.paper.specs.Sites.{Site, parent}
+use Rattle.paper.specs.Loading.{Kept, Solving, closure, holders, conflict, check-4, steps, endless, no-endless, rounds, started}
+use Rattle.kept.specs.Stored.{base, stride, kept-first}
+use Rattle.sites.specs.Slots.{slot, no-site}
+use Rattle.growth.specs.Tail.{site-of-word}
+use Rattle.closing.specs.Growing.{Inside}
+use Rattle.holders.specs.declared.Answer.{Answer}
+use Rattle.holders.specs.declared.Answer.the-variants as answer
+use Rattle.items.specs.declared.Progress.{Progress}
+use Rattle.items.specs.Shown.{items-in, Told}
+use Rattle.loading.specs.declared.Solved.{Solved}
+
+abbrev pub answer-as : {A : Type 0} → Outcome A → Answer
+answer-as (done a) = answer.Fine
+answer-as (refused e) = answer.Refused e
+
+-- a kept rule has the place
+unfoldable pub has-place : List ℕ → ℕ → ℕ → Bool
+has-place ws k place = any (λ (q : Kept). eqb (q .place) place) (kept-first ws k)
+
+-- the checks before the items
+unfoldable pub admitted : ℕ → List ℕ → ℕ → ℕ → ℕ → Outcome (Unit {0})
+admitted n ws k place count = do
+  _ ← demand (ltb k max-rules && leb (base k + stride) (length ws)) (TooManyRules (suc (min k max-rules)))
+  _ ← demand (leb n max-sites) (TooManySites n count)
+  _ ← demand (leb count max-items) (TooManyItems count)
+  demand (not (has-place ws k place)) (PlaceUsed place)
+
+-- items and 5, classes, rounds
+unfoldable pub worked : List ℕ → ℕ → Rule → Outcome Solving
+worked m n r = do
+  l ← items-in Bool.true m n r
+  _ ← (let k = closure l in check-4 k (holders l) (conflict k (holders l)))
+  _ ← (let k = closure l in no-endless (endless (steps k (holders l))))
+  rounds most-rounds (r .count) (started l)
+
+-- "Last, 7 if the result passes a number", or if the lent bytes can't hold its table
+unfoldable pub settled : ℕ → ℕ → ℕ → ℕ → ℕ → Outcome (Unit {0})
+settled total held equal room count = do
+  _ ← demand (leb held max-constrained) (TooManyConstrained held)
+  _ ← demand (leb equal max-equal) (TooManyEqual equal)
+  demand (leb (total * slot) room) (TooManySites total count)
+
+-- the lists that are lent for the items are long enough
+pub record Lent (n : ℕ) (tail sites rows shapes equal low : List ℕ) (r : Rule) : Type 0 where
+  pub few : n ≤ max-sites
+  pub items : r .count ≤ max-items
+  pub long-tail : max-sites ≤ length tail
+  pub long-sites : max-sites ≤ length sites
+  pub long-rows : max-sites ≤ length rows
+  pub long-shapes : 3 * max-items ≤ length shapes
+  pub long-equal : max-equal ≤ length equal
+  pub long-low : max-equal ≤ length low
+
+-- ---- what is written
+
+-- a word that tells a child whose source has two bytes
+pub record ChildWord (w : ℕ) : Type 0 where
+  pub real : site-of-word w ≡ no-site → ⊥
+  pub low : or-else (parent (site-of-word w)) 0 < 65536
+
+-- the sites that the tail tells
+unfoldable pub new-sites : List ℕ → ℕ → List Site
+new-sites tail t = below t (λ i. site-of-word (getD tail i 0))
+
+-- the words of the rows' constraints, three a row, k of them
+unfoldable pub gathered : List ℕ → List ℕ → ℕ → List ℕ
+gathered rows shapes k = below k (λ i. getD shapes (3 * getD rows (i / 3) 0 + i % 3) 0)
+
+-- what the items leave, where they are not refused
+pub record Left (m : List ℕ) (n : ℕ) (tail sites rows words kids eqs equal low : List ℕ) (x : Progress) (r : Rule) : Type 0 where
+  pub told : Told m n tail sites rows words kids eqs x (items-in Bool.true m n r)
+  pub fine : x .answer ≡ answer.Fine
+  pub inside : Inside kids
+  pub long-tail : max-sites ≤ length tail
+  pub long-sites : max-sites ≤ length sites
+  pub long-rows : max-sites ≤ length rows
+  pub long-equal : max-equal ≤ length equal
+  pub long-low : max-equal ≤ length low
+
+-- two lists begin alike
+abbrev pub SameTo : ℕ → List ℕ → List ℕ → Type 0
+SameTo k xs ys = (i : ℕ) → i < k → getD ys i 0 ≡ getD xs i 0
+
+-- what the rounds leave, where the rule is to be kept: all of it has room
+pub record Keepable (bytes n : ℕ) (tail sites rows shapes equal low : List ℕ) (x : Solved) : Type 0 where
+  pub fits : n + x .tail ≤ max-sites
+  pub room : (n + x .tail) * slot ≤ bytes
+  pub long-tail : x .tail ≤ length tail
+  pub children : (i : ℕ) → i < x .tail → ChildWord (getD tail i 0)
+  pub few : x .held ≤ max-constrained
+  pub long-sites : x .held ≤ length sites
+  pub long-rows : x .held ≤ length rows
+  pub long-shapes : 3 * max-items ≤ length shapes
+  pub items : (i : ℕ) → i < x .held → getD rows i 0 < max-items
+  pub few-equal : x .equal ≤ max-equal
+  pub long-equal : x .equal ≤ length equal
+  pub long-low : x .equal ≤ length low

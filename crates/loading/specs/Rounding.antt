@@ -1,0 +1,60 @@
+-- What the rounds need of the lent lists, and what they leave.
+use mathlib.Core.Path.{_≡_}
+use mathlib.Core.List.{List, []}
+use Prim.Native.Nat.{ℕ, _+_, _*_, _<_, _≤_}
+use lib.ListN.{length, getD}
+use Rattle.paper.specs.declared.Constraint.{Constraint}
+use Rattle.paper.specs.declared.Refusal.{Refusal}
+use Rattle.paper.specs.Numbers.{max-sites, max-fields, max-items, max-equal, most-rounds, Outcome, done, refused}
+use Rattle.paper.specs.Sites.{child-count}
+use Rattle.paper.specs.Tables.{Rising}
+use Rattle.paper.specs.Loading.{Solving, Labels, join-all, rounds}
+use Rattle.kept.specs.Packing.{InRange}
+use Rattle.growth.specs.Tail.{table}
+use Rattle.closing.specs.Holding.{shape-in, eqs-in}
+use Rattle.holders.specs.declared.Answer.{Answer}
+use Rattle.holders.specs.declared.Answer.the-variants as answer
+use Rattle.items.specs.Shown.{shown}
+use Rattle.loading.specs.declared.Solved.{Solved}
+
+-- the constraint of row i: one that the code's types hold, with few enough fields
+pub record GoodRow (words : List ℕ) (i : ℕ) : Type 0 where
+  pub item : i < max-items
+  pub range : InRange (shape-in words i)
+  pub few : child-count (shape-in words i) ≤ max-fields
+
+-- what the rounds start with
+pub record Proper (m : List ℕ) (n : ℕ) (tail : List ℕ) (t : ℕ) (sites rows words : List ℕ) (held : ℕ) (eqs : List ℕ) : Type 0 where
+  pub long : max-sites ≤ length tail
+  pub fits : n + t ≤ max-sites
+  pub long-sites : max-sites ≤ length sites
+  pub long-rows : max-sites ≤ length rows
+  pub rising : Rising 0 (shown sites rows words held)
+  pub inside : (i : ℕ) → i < held → getD sites i 0 < n + t
+  pub good : (i : ℕ) → i < held → GoodRow words (getD rows i 0)
+  pub equal : (i : ℕ) → getD eqs i 0 < max-sites
+  pub known : (i : ℕ) → i < length eqs → getD eqs i 0 < n + t
+
+-- "over the written equalities joined in item order"
+abbrev pub solving : List ℕ → ℕ → List ℕ → ℕ → List ℕ → List ℕ → List ℕ → ℕ → Labels → Solving
+solving m n tail t sites rows words held k = record { sites = table m n tail t; constraints = shown sites rows words held; classes = k }
+
+unfoldable pub solved : List ℕ → ℕ → List ℕ → ℕ → ℕ → List ℕ → List ℕ → List ℕ → ℕ → List ℕ → Outcome Solving
+solved m n tail t at sites rows words held eqs = rounds most-rounds at (solving m n tail t sites rows words held (join-all [] (eqs-in eqs)))
+
+-- the equal sites with their lowest members; past what the lists can hold they are only counted
+pub record Listed (equal low : List ℕ) (k : Labels) : Type 0 where
+  pub each : (i : ℕ) → i < length k → i < max-equal → (getD equal i 0, getD low i 0) ≡ getD k i (0, 0)
+
+pub record Solves (m : List ℕ) (n : ℕ) (tail sites rows words equal low : List ℕ) (x : Solved) (s : Solving) : Type 0 where
+  pub sites-are : table m n tail (x .tail) ≡ s .sites
+  pub fits : n + x .tail ≤ max-sites
+  pub constraints-are : shown sites rows words (x .held) ≡ s .constraints
+  pub good : (i : ℕ) → i < x .held → GoodRow words (getD rows i 0)
+  pub number : x .equal ≡ length (s .classes)
+  pub classes-are : Listed equal low (s .classes)
+  pub long-sites : x .held ≤ length sites
+
+abbrev pub Rounds : List ℕ → ℕ → List ℕ → List ℕ → List ℕ → List ℕ → List ℕ → List ℕ → Solved → Outcome Solving → Type 0
+Rounds m n tail sites rows words equal low x (done s) = (x .answer ≡ answer.Fine) × Solves m n tail sites rows words equal low x s
+Rounds m n tail sites rows words equal low x (refused e) = x .answer ≡ answer.Refused e
