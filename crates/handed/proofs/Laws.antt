@@ -1,15 +1,15 @@
 -- What was held is read back, and the rule that is handed over has the items in order.
 use mathlib.Core.Path.{_≡_, refl, sym, ap, _∙_}
-use mathlib.Core.Bool.{Bool, true, false}
-use mathlib.Core.List.{List, [], _∷_, _++_, map, append-assoc}
+use mathlib.Core.Bool.{Bool, true, false, _&&_}
+use mathlib.Core.List.{List, [], _∷_, _++_, map, append-assoc, List·Memᴰ, List·Memᴰ·not-nil, List·Memᴰ·cases-cons}
 use mathlib.Core.Logic.{_⊎_, inl, inr, ⊎-elim}
-use Prim.Native.Nat.{ℕ, zero, suc, _+_, _*_, _%_, _≤_, _<_, min}
+use Prim.Native.Nat.{ℕ, zero, suc, _+_, _*_, _/_, _%_, _≤_, _<_, min}
 use native.Mathlib.Omega.{arith}
 use native.Mathlib.Numerals.{add-one}
 use lib.ListN.{length, getD, set, take, replicate, length-set, length-replicate}
 use lib.Seq.{getD-set-same, getD-set-other}
-use lib.Dec.{leb, ltb}
-use borrow.Author.Tests.{le-leb, lt-leb, lt-ltb, le-ltb, leb-true, leb-false}
+use lib.Dec.{eqb, leb, ltb}
+use borrow.Author.Tests.{le-leb, lt-leb, lt-ltb, le-ltb, ltb-true, leb-true, leb-false}
 use Rattle.paper.specs.declared.Constraint.{Constraint}
 use Rattle.paper.specs.declared.Constraint.the-variants.{Variant, Struct, ConstBool, ConstInt, ConstPrim, Some}
 use Rattle.paper.specs.declared.Item.{Item}
@@ -215,3 +215,39 @@ is-held ws out k at i s c a b d e q p h r eb ed ee z o = rw q (o ∙ rw (z, p, e
 
 pub equal-held : (ws out : List ℕ) (k at : ℕ) (i : Item) (x y a b : ℕ) → i ≡ Equal x y → a ≡ x → a < 65536 → b ≡ y → b < 65536 → at ≡ 4 * k → out ≡ put-words ws at (65536 + a) b 0 0 → (out ≡ put-item ws k i) × Ranged i
 equal-held ws out k at i x y a b q p h r l z o = rw q (o ∙ rw (z, p, r), (rw p at h, rw r at l))
+
+-- ---- what is read is in range
+narrow-ranged : (a b c : ℕ) → InRange (narrow (unpack a b c))
+unfolding unpack
+narrow-ranged a b c = go (eqb (a / 65536) 1 && eqb c 0) (eqb (a / 65536) 2 && (ltb b 2 && eqb c 0)) (eqb (a / 65536) 3) (eqb (a / 65536) 4 && (eqb b 0 && eqb c 0)) (eqb (a / 65536) 5 && (eqb (a % 65536) 0 && (eqb b 0 && eqb c 0)))
+  where
+    go : (v w x y z : Bool) → InRange (narrow (if v then Struct (a % 65536) b else (if w then ConstBool (a % 65536) (eqb b 1) else (if x then ConstInt (a % 65536) b c else (if y then ConstPrim (a % 65536) else (if z then Some else Variant a b c))))))
+    go true w x y z = (omega arith, omega arith)
+    go false true x y z = omega arith
+    go false false true y z = omega arith
+    go false false false true z = omega arith
+    go false false false false true = tt
+    go false false false false false = (omega arith, (omega arith, omega arith))
+
+item-ranged : (a b c d : ℕ) → Ranged (item-of a b c d)
+unfolding item-of
+item-ranged a b c d = go (ltb a 65536) refl
+  where
+    go : (t : Bool) → ltb a 65536 ≡ t → Ranged (if t then Is a (narrow (unpack b c d)) else Equal (a % 65536) (b % 65536))
+    go true e = (ltb-true a 65536 e, narrow-ranged b c d)
+    go false e = (omega arith, omega arith)
+
+walk : (ws : List ℕ) (i : Item) → ((k : ℕ) → i ≡ item-at ws k → Ranged i) → (j n : ℕ) → List·Memᴰ i (run (item-at ws) j n) → Ranged i
+unfolding run
+walk ws i f j zero m = absurd (List·Memᴰ·not-nil m)
+walk ws i f j (suc n) m = ⊎-elim (λ e. f j e) (λ r. walk ws i f (suc j) n r) (List·Memᴰ·cases-cons m)
+
+pub items-ranged : (ws : List ℕ) (n : ℕ) (i : Item) → List·Memᴰ i (items-in ws n) → Ranged i
+unfolding items-in item-at
+items-ranged ws n i m = go 0 n m
+  where
+    at : (k : ℕ) → i ≡ item-at ws k → Ranged i
+    at k e = rw e (item-ranged (getD ws (4 * k) 0) (getD ws (4 * k + 1) 0) (getD ws (4 * k + 2) 0) (getD ws (4 * k + 3) 0))
+
+    go : (j n : ℕ) → List·Memᴰ i (run (item-at ws) j n) → Ranged i
+    go j n m = walk ws i at j n m

@@ -127,6 +127,7 @@ fn least(a: u8, b: u8) -> u8
 // The rule with its items. It announces `count`, which may pass the limit; the items past it are not kept.
 pub fn rule_of(words: &[u64], place: u32, priority: u64, count: u8) -> Rule
     ensures { λ r. ⌜ r ≡ rule-in (now (words .entry)) place priority count ⌝ }
+    ensures { λ _. ⌜ (place < 4294967296) × (priority < 18446744073709551616) ⌝ }
 {
     let mut entries = [Entry {
         item: Item::Equal { one: 0, other: 0 },

@@ -56,7 +56,7 @@ loop-again c = (omega arith, omega arith, entries-turn _ _ _ _ (c .before .befor
 
 -- src/lib.rt:86:1
 returns : tie.Need-returns Inv-loop μ-loop
-returns c = entries-done _ _ _ _ _ _ _ (c .before .before .least .ensures) (c .before .loop .inv .0) (c .loop-test .left) (c .before .loop .inv .2)
+returns c = (entries-done _ _ _ _ _ _ _ (c .before .before .least .ensures) (c .before .loop .inv .0) (c .loop-test .left) (c .before .loop .inv .2), (omega arith, omega arith))
 
 pub rule-of-spec : {M : Type 1} → statement M
 rule-of-spec =
