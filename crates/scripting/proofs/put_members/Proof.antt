@@ -1,14 +1,14 @@
--- `joins::put_members` is safe and ends. Assumes nothing.
+-- `scripting::put_members` is safe and ends. Assumes nothing.
 use borrow.Author.Needs.{needs}
 use mathlib.Core.Path.{_≡_}
 use Prim.Native.Nat.{_≤_, _-_}
 use native.Mathlib.Omega.{arith}
 use lib.ListN.{length}
-use Rattle.joins.proofs.put_members.Statement.{statement}
-use Rattle.joins.proofs.put_members.Tie as tie
-use Rattle.joins.proofs.put_members.Reads as reads
-use Rattle.joins.proofs.put_members.Lts as lts
-use Rattle.joins.proofs.put_member.Reads as put-member-reads
+use Rattle.scripting.proofs.put_members.Statement.{statement}
+use Rattle.scripting.proofs.put_members.Tie as tie
+use Rattle.scripting.proofs.put_members.Reads as reads
+use Rattle.scripting.proofs.put_members.Lts as lts
+use Rattle.scripting.proofs.put_member.Reads as put-member-reads
 
 abbrev Inv-loop : tie.InvT-loop
 Inv-loop out₀ n members k m₀ i₀ out m i = (i ≤ length members) × (length out ≡ length out₀)

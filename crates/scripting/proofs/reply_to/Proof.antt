@@ -1,12 +1,12 @@
--- `joins::reply_to` is safe and ends. Assumes nothing.
+-- `scripting::reply_to` is safe and ends. Assumes nothing.
 use borrow.Author.Needs.{needs}
 use mathlib.Core.Path.{sym}
 use native.Mathlib.Omega.{arith}
 use lib.Seq.{length-take-le}
-use Rattle.joins.proofs.reply_to.Statement.{statement}
-use Rattle.joins.proofs.reply_to.Tie as tie
-use Rattle.joins.proofs.reply_to.Reads as reads
-use Rattle.joins.proofs.reply_to.Lts as lts
+use Rattle.scripting.proofs.reply_to.Statement.{statement}
+use Rattle.scripting.proofs.reply_to.Tie as tie
+use Rattle.scripting.proofs.reply_to.Reads as reads
+use Rattle.scripting.proofs.reply_to.Lts as lts
 use Rattle.classes.proofs.script.step.Reads as step-reads
 
 returns : tie.Need-returns

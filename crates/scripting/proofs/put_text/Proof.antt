@@ -1,14 +1,14 @@
--- `joins::put_text` is safe and ends. Assumes nothing.
+-- `scripting::put_text` is safe and ends. Assumes nothing.
 use borrow.Author.Needs.{needs}
 use mathlib.Core.Path.{_≡_}
 use Prim.Native.Nat.{_≤_, _-_}
 use native.Mathlib.Omega.{arith}
 use lib.ListN.{length}
-use Rattle.joins.proofs.put_text.Statement.{statement}
-use Rattle.joins.proofs.put_text.Tie as tie
-use Rattle.joins.proofs.put_text.Reads as reads
-use Rattle.joins.proofs.put_text.Lts as lts
-use Rattle.joins.proofs.put.Reads as put-reads
+use Rattle.scripting.proofs.put_text.Statement.{statement}
+use Rattle.scripting.proofs.put_text.Tie as tie
+use Rattle.scripting.proofs.put_text.Reads as reads
+use Rattle.scripting.proofs.put_text.Lts as lts
+use Rattle.scripting.proofs.put.Reads as put-reads
 
 abbrev Inv-loop : tie.InvT-loop
 Inv-loop out₀ n text m₀ i₀ out m i = (i ≤ length text) × (length out ≡ length out₀)

@@ -1,14 +1,14 @@
--- `joins::feed` is safe and ends. Assumes nothing.
+-- `scripting::feed` is safe and ends. Assumes nothing.
 use borrow.Author.Needs.{needs}
 use mathlib.Core.Path.{_≡_}
 use Prim.Native.Nat.{_≤_, _-_}
 use native.Mathlib.Omega.{arith}
 use lib.ListN.{length}
-use Rattle.joins.proofs.feed.Statement.{statement}
-use Rattle.joins.proofs.feed.Tie as tie
-use Rattle.joins.proofs.feed.Reads as reads
-use Rattle.joins.proofs.feed.Lts as lts
-use Rattle.joins.proofs.take.Reads as take-reads
+use Rattle.scripting.proofs.feed.Statement.{statement}
+use Rattle.scripting.proofs.feed.Tie as tie
+use Rattle.scripting.proofs.feed.Reads as reads
+use Rattle.scripting.proofs.feed.Lts as lts
+use Rattle.scripting.proofs.take.Reads as take-reads
 
 abbrev Inv-loop : tie.InvT-loop
 Inv-loop parents₀ ranks₀ count₀ members₀ line₀ out₀ bytes q₀ i₀ parents ranks count members line out q i = (i ≤ length bytes) × (length members ≡ length members₀) × (length line ≡ length line₀) × (length out ≡ length out₀)

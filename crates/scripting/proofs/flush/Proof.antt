@@ -1,12 +1,12 @@
--- `joins::flush` is safe and ends. Assumes nothing.
+-- `scripting::flush` is safe and ends. Assumes nothing.
 use borrow.Author.Needs.{needs}
 use mathlib.Core.Path.{sym}
 use native.Mathlib.Omega.{arith}
 use lib.Seq.{length-take-le}
-use Rattle.joins.proofs.flush.Statement.{statement}
-use Rattle.joins.proofs.flush.Tie as tie
-use Rattle.joins.proofs.flush.Reads as reads
-use Rattle.joins.proofs.flush.Lts as lts
+use Rattle.scripting.proofs.flush.Statement.{statement}
+use Rattle.scripting.proofs.flush.Tie as tie
+use Rattle.scripting.proofs.flush.Reads as reads
+use Rattle.scripting.proofs.flush.Lts as lts
 use Rattle.io.proofs.write_all.Reads as write-all-reads
 
 slice-aggregate-write-all : tie.Need-slice-aggregate-write-all

@@ -1,19 +1,19 @@
--- `joins::run` is safe and ends. Assumes nothing.
+-- `scripting::run_all` is safe and ends. Assumes nothing.
 use borrow.Author.Needs.{needs}
 use mathlib.Core.Path.{_≡_}
 use native.Mathlib.Omega.{arith}
 use lib.ListN.{length}
-use Rattle.joins.proofs.run.Statement.{statement}
-use Rattle.joins.proofs.run.Tie as tie
-use Rattle.joins.proofs.run.Reads as reads
-use Rattle.joins.proofs.run.Lts as lts
-use Rattle.joins.proofs.read_some.Reads as read-some-reads
+use Rattle.scripting.proofs.run_all.Statement.{statement}
+use Rattle.scripting.proofs.run_all.Tie as tie
+use Rattle.scripting.proofs.run_all.Reads as reads
+use Rattle.scripting.proofs.run_all.Lts as lts
+use Rattle.scripting.proofs.read_some.Reads as read-some-reads
 
 abbrev Inv-loop : tie.InvT-loop
-Inv-loop parents₀ ranks₀ count₀ members₀ line₀ out₀ bytes₀ q₀ turns₀ parents ranks count members line out bytes q turns = (length members ≡ length members₀) × (length line ≡ length line₀) × (length out ≡ length out₀) × (length bytes ≡ length bytes₀)
+Inv-loop parents₀ ranks₀ count₀ members₀ line₀ out₀ bytes₀ fd q₀ turns₀ parents ranks count members line out bytes q turns = (length members ≡ length members₀) × (length line ≡ length line₀) × (length out ≡ length out₀) × (length bytes ≡ length bytes₀)
 
 abbrev μ-loop : tie.MeasureT-loop
-μ-loop parents₀ ranks₀ count₀ members₀ line₀ out₀ bytes₀ q₀ turns₀ parents ranks count members line out bytes q turns = turns
+μ-loop parents₀ ranks₀ count₀ members₀ line₀ out₀ bytes₀ fd q₀ turns₀ parents ranks count members line out bytes q turns = turns
 
 loop-holds : tie.Need-loop-holds Inv-loop μ-loop
 loop-holds c = omega arith
@@ -65,8 +65,8 @@ same-length-8 c = omega arith
 returns-2 : tie.Need-returns-2 Inv-loop μ-loop
 returns-2 c = search needs
 
-pub run-spec : {M : Type 1} → statement M
-run-spec =
+pub run-all-spec : {M : Type 1} → statement M
+run-all-spec =
     tie.close
     (tie.spec
     Inv-loop

@@ -1,0 +1,109 @@
+// The program: reads sheets, or a script of class calls, and writes what the library answers. Here are arguments, files and buffers alone.
+mod words;
+
+use running::How;
+use words::Verb;
+
+fn usage(fd: i32) {
+    io::write_all(
+        fd,
+        b"lintelmoth: checks a sheet of rules before it goes into a box\n\n",
+    );
+    io::write_all(
+        fd,
+        b"  lintelmoth [check] [FILE]      the findings, a line each, as the box writes them\n",
+    );
+    io::write_all(
+        fd,
+        b"  lintelmoth explain [FILE]      the findings in plain words, with what to do\n",
+    );
+    io::write_all(
+        fd,
+        b"  lintelmoth kept [FILE]         what is kept of each rule, and which rules overlap\n",
+    );
+    io::write_all(
+        fd,
+        b"  lintelmoth joins [FILE]        the answers to a script of class calls\n",
+    );
+    io::write_all(
+        fd,
+        b"  lintelmoth many VERB [FILE]    check, explain or kept on many sheets, a line ---- between two\n",
+    );
+    io::write_all(fd, b"  lintelmoth help                this text\n\n");
+    io::write_all(fd, b"Without FILE, or with -, it reads standard input.\n");
+}
+
+// Opens the file that argument i names: a descriptor, or -1 after one plain line on standard error. Without one it is standard input.
+fn open(i: usize) -> i32 {
+    if os::arg_count() <= i {
+        return libc::STDIN_FILENO;
+    }
+    let mut name = io::buffer();
+    let length = os::arg(i, &mut name);
+    if words::is_dash(&name[..length]) {
+        return libc::STDIN_FILENO;
+    }
+    let fd = os::open_read(&name[..length]);
+    if fd < 0 {
+        io::write_all(libc::STDERR_FILENO, b"lintelmoth: cannot read ");
+        os::fail(&name[..length]);
+    }
+    fd
+}
+
+// The verb that argument i is; check where there is none.
+fn verb_at(i: usize) -> Verb {
+    if os::arg_count() <= i {
+        return Verb::Check;
+    }
+    let mut word = io::buffer();
+    let length = os::arg(i, &mut word);
+    words::verb_of(&word[..length])
+}
+
+// Runs a verb on sheets from the file that argument i names.
+fn on_sheets(how: How, many: bool, i: usize) {
+    let fd = open(i);
+    if fd < 0 {
+        return;
+    }
+    running::run(fd, how, many);
+    libc::close(fd);
+}
+
+fn on_script(i: usize) {
+    let fd = open(i);
+    if fd < 0 {
+        return;
+    }
+    scripting::run(fd);
+    libc::close(fd);
+}
+
+// `many VERB FILE`
+fn on_many() {
+    let v = verb_at(2);
+    match v {
+        Verb::Check => on_sheets(How::Check, true, 3),
+        Verb::Kept => on_sheets(How::Kept, true, 3),
+        Verb::Explain => on_sheets(How::Explain, true, 3),
+        _ => usage(libc::STDERR_FILENO),
+    }
+}
+
+fn main() {
+    if 4 < os::arg_count() {
+        usage(libc::STDERR_FILENO);
+        return;
+    }
+    let v = verb_at(1);
+    match v {
+        Verb::Check => on_sheets(How::Check, false, 2),
+        Verb::Kept => on_sheets(How::Kept, false, 2),
+        Verb::Explain => on_sheets(How::Explain, false, 2),
+        Verb::Joins => on_script(2),
+        Verb::Many => on_many(),
+        Verb::Help => usage(libc::STDOUT_FILENO),
+        Verb::Other => on_sheets(How::Check, false, 1),
+    }
+}
