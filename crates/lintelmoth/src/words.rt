@@ -24,7 +24,7 @@ fn same(a: &[u8], b: &[u8]) -> bool {
 }
 
 // The verb that a word is.
-pub fn verb_of(word: &[u8]) -> Verb {
+pub(crate) fn verb_of(word: &[u8]) -> Verb {
     if same(word, b"check") {
         return Verb::Check;
     }
@@ -50,6 +50,6 @@ pub fn verb_of(word: &[u8]) -> Verb {
 }
 
 // Whether a word stands for standard input.
-pub fn is_dash(word: &[u8]) -> bool {
+pub(crate) fn is_dash(word: &[u8]) -> bool {
     same(word, b"-")
 }
