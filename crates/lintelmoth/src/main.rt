@@ -33,6 +33,15 @@ fn usage(fd: i32) {
     io::write_all(fd, b"Without FILE, or with -, it reads standard input.\n");
 }
 
+// Whether an open file can be read: a folder is opened like a file, and refuses even a read of nothing.
+fn is_readable(fd: i32) -> bool {
+    if fd < 0 {
+        return false;
+    }
+    let mut nothing = [0u8; 0];
+    0 <= libc::read(fd, &mut nothing)
+}
+
 // Opens the file that argument i names: a descriptor, or -1 after one plain line on standard error. Without one it is standard input.
 fn open(i: usize) -> i32 {
     if os::arg_count() <= i {
@@ -44,11 +53,12 @@ fn open(i: usize) -> i32 {
         return libc::STDIN_FILENO;
     }
     let fd = os::open_read(&name[..length]);
-    if fd < 0 {
-        io::write_all(libc::STDERR_FILENO, b"lintelmoth: cannot read ");
-        os::fail(&name[..length]);
+    if is_readable(fd) {
+        return fd;
     }
-    fd
+    io::write_all(libc::STDERR_FILENO, b"lintelmoth: cannot read ");
+    os::fail(&name[..length]);
+    -1
 }
 
 // The verb that argument i is; check where there is none.
@@ -82,6 +92,10 @@ fn on_script(i: usize) {
 
 // `many VERB FILE`
 fn on_many() {
+    if os::arg_count() < 3 {
+        usage(libc::STDERR_FILENO);
+        return;
+    }
     let v = verb_at(2);
     match v {
         Verb::Check => on_sheets(How::Check, true, 3),
@@ -91,12 +105,22 @@ fn on_many() {
     }
 }
 
+// Whether a call has more words than its verb takes.
+fn has_more(v: Verb, words: usize) -> bool {
+    match v {
+        Verb::Many => 4 < words,
+        Verb::Help => 2 < words,
+        Verb::Other => 2 < words,
+        _ => 3 < words,
+    }
+}
+
 fn main() {
-    if 4 < os::arg_count() {
+    let v = verb_at(1);
+    if has_more(v, os::arg_count()) {
         usage(libc::STDERR_FILENO);
         return;
     }
-    let v = verb_at(1);
     match v {
         Verb::Check => on_sheets(How::Check, false, 2),
         Verb::Kept => on_sheets(How::Kept, false, 2),
