@@ -9,6 +9,7 @@ ghost use Rattle.texts.specs.Decimal.{decimal};
 ghost use Rattle.findings.specs.Written.{room-said};
 ghost use Rattle.explain.specs.Parts.{two-at, four-at, separator, rest, places, plural, part, filled};
 ghost use Rattle.explain.specs.Shapes.{when, listed, shape-of};
+ghost use Rattle.explain.specs.Words.{calls-itself, not-known};
 ghost use Rattle.explain.specs.Said.{refused-words, stopped-words, ended-words, explained, said, line-end, line-room};
 use findings::Room;
 use texts::put;
@@ -210,6 +211,35 @@ fn shape_of(f: &[u8]) -> Shape
     when(kind == 31, when(n == 6, Shape::Stop))
 }
 
+// The numbers that `put_refused` leaves: a limit, a place already used, and all that have no words.
+fn put_refused_last(f: &[u8], n: u64, out: &mut [u8], at: usize) -> usize
+    requires { ⌜ (n ≡ 2 → ⊥) × ((n ≡ 4 → ⊥) × ((n ≡ 5 → ⊥) × (n ≡ 6 → ⊥))) ⌝ }
+    ensures { λ r. ⌜ (now (out .exit), r) ≡ wrote (now (out .entry), at) (filled (now (f .entry)) (refused-words n)) ⌝ }
+{
+    if n == 7 {
+        return fill(
+            b"Rule # is refused with number 7 (a limit is passed): its set has 64 kept rules already, or it has more than 32 items, a constraint of more than 8 fields, more than 32 constrained or 32 equal sites once it is worked out, or it brings its set above 1,024 sites. The box leaves it out, so what it should print stays missing. Make two shorter rules of it, or make room in its set.",
+            f,
+            out,
+            at,
+        );
+    }
+    if n == 8 {
+        return fill(
+            b"Rule # is refused with number 8 (place already used): an earlier rule of the same set has place #, and only that one is used. Give this rule a place of its own.",
+            f,
+            out,
+            at,
+        );
+    }
+    fill(
+        b"Rule # is refused with number ^, a reason that this program has no words for. Read it with the program that wrote it.",
+        f,
+        out,
+        at,
+    )
+}
+
 // A rule that is refused: the meaning of its number.
 fn put_refused(f: &[u8], out: &mut [u8], at: usize) -> usize
     ensures { λ r. ⌜ (now (out .exit), r) ≡ wrote (now (out .entry), at) (filled (now (f .entry)) (refused-words (getD (now (f .entry)) 5 0))) ⌝ }
@@ -247,28 +277,7 @@ fn put_refused(f: &[u8], out: &mut [u8], at: usize) -> usize
             at,
         );
     }
-    if n == 7 {
-        return fill(
-            b"Rule # is refused with number 7 (a limit is passed): its set has 64 kept rules already, or it has more than 32 items, a constraint of more than 8 fields, more than 32 constrained or 32 equal sites once it is worked out, or it brings its set above 1,024 sites. The box leaves it out, so what it should print stays missing. Make two shorter rules of it, or make room in its set.",
-            f,
-            out,
-            at,
-        );
-    }
-    if n == 8 {
-        return fill(
-            b"Rule # is refused with number 8 (place already used): an earlier rule of the same set has place #, and only that one is used. Give this rule a place of its own.",
-            f,
-            out,
-            at,
-        );
-    }
-    fill(
-        b"Rule # is refused with number ^, a reason that this program has no words for. Read it with the program that wrote it.",
-        f,
-        out,
-        at,
-    )
+    put_refused_last(f, n, out, at)
 }
 
 // A sheet that stops: the meaning of its number.
@@ -336,6 +345,30 @@ fn put_ended(f: &[u8], clean: bool, out: &mut [u8], at: usize) -> usize
     )
 }
 
+// A term that calls itself without rec.
+fn put_term(f: &[u8], out: &mut [u8], at: usize) -> usize
+    ensures { λ r. ⌜ (now (out .exit), r) ≡ wrote (now (out .entry), at) (filled (now (f .entry)) calls-itself) ⌝ }
+{
+    fill(
+        b"Term @ calls itself, directly or through other terms, and its set is not marked rec, so one page could keep the box going round without end. Break the circle, or mark the set rec (2 in the flags of its 01 line) if this is meant.",
+        f,
+        out,
+        at,
+    )
+}
+
+// A line that is no finding we know: only its first byte can be told.
+fn put_unknown(f: &[u8], out: &mut [u8], at: usize) -> usize
+    ensures { λ r. ⌜ (now (out .exit), r) ≡ wrote (now (out .entry), at) (filled (now (f .entry)) not-known) ⌝ }
+{
+    fill(
+        b"This line is not a finding that this program knows (its first byte is ~ in decimal). See that the line is whole and was written by a program of the same release.",
+        f,
+        out,
+        at,
+    )
+}
+
 fn put_explained(f: &[u8], clean: bool, out: &mut [u8], at: usize) -> usize
     ensures { λ r. ⌜ (now (out .exit), r) ≡ wrote (now (out .entry), at) (explained clean (now (f .entry))) ⌝ }
 {
@@ -366,21 +399,11 @@ fn put_explained(f: &[u8], clean: bool, out: &mut [u8], at: usize) -> usize
             out,
             at,
         ),
-        Shape::Term => fill(
-            b"Term @ calls itself, directly or through other terms, and its set is not marked rec, so one page could keep the box going round without end. Break the circle, or mark the set rec (2 in the flags of its 01 line) if this is meant.",
-            f,
-            out,
-            at,
-        ),
+        Shape::Term => put_term(f, out, at),
         Shape::End => put_ended(f, clean, out, at),
         Shape::Stop => put_stopped(f, out, at),
         Shape::Empty => fill(b"This line is empty, so it is no finding.", f, out, at),
-        Shape::Unknown => fill(
-            b"This line is not a finding that this program knows (its first byte is ~ in decimal). See that the line is whole and was written by a program of the same release.",
-            f,
-            out,
-            at,
-        ),
+        Shape::Unknown => put_unknown(f, out, at),
     }
 }
 

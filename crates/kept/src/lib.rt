@@ -33,6 +33,17 @@ fn wide8(x: u8) -> u64
     x as u64
 }
 
+// A constraint's words, in their order.
+fn three_words(a: u64, b: u64, c: u64) -> Packed
+    ensures { λ r. ⌜ (r .head ≡ a) × ((r .second ≡ b) × (r .third ≡ c)) ⌝ }
+{
+    Packed {
+        head: a,
+        second: b,
+        third: c,
+    }
+}
+
 // The three words of a constraint.
 pub fn pack(c: Constraint) -> Packed
     ensures { λ r. ⌜ r .head ≡ head c ⌝ }
@@ -44,45 +55,17 @@ pub fn pack(c: Constraint) -> Packed
             ty,
             variant,
             fields,
-        } => Packed {
-            head: wide(ty),
-            second: wide(variant),
-            third: wide8(fields),
-        },
-        Constraint::Struct { ty, fields } => Packed {
-            head: 65536 + wide(ty),
-            second: wide8(fields),
-            third: 0,
-        },
+        } => three_words(wide(ty), wide(variant), wide8(fields)),
+        Constraint::Struct { ty, fields } => three_words(65536 + wide(ty), wide8(fields), 0),
         Constraint::ConstBool { ty, val } => {
             if val {
-                return Packed {
-                    head: 131072 + wide(ty),
-                    second: 1,
-                    third: 0,
-                };
+                return three_words(131072 + wide(ty), 1, 0);
             }
-            Packed {
-                head: 131072 + wide(ty),
-                second: 0,
-                third: 0,
-            }
+            three_words(131072 + wide(ty), 0, 0)
         }
-        Constraint::ConstInt { ty, high, low } => Packed {
-            head: 196608 + wide(ty),
-            second: high,
-            third: low,
-        },
-        Constraint::ConstPrim { val } => Packed {
-            head: 262144 + wide(val),
-            second: 0,
-            third: 0,
-        },
-        Constraint::Some => Packed {
-            head: 327680,
-            second: 0,
-            third: 0,
-        },
+        Constraint::ConstInt { ty, high, low } => three_words(196608 + wide(ty), high, low),
+        Constraint::ConstPrim { val } => three_words(262144 + wide(val), 0, 0),
+        Constraint::Some => three_words(327680, 0, 0),
     }
 }
 
