@@ -96,6 +96,13 @@ module _ (m b : List ℕ) (from n : ℕ) (l : from ≤ n) (h : n * slot ≤ leng
   pub skip-none : Skips m from n b from
   skip-none = record { low = omega arith; high = l; none = λ i p q. absurd (omega arith) }
 
+  pub skip-more : (i : ℕ) → Skips m from n b i → i < n → same-list (slot-body m i) b ≡ false → Skips m from n b (i + 1)
+  skip-more i w q e = record {
+    low = let a = w .low in omega arith;
+    high = omega arith;
+    none = λ j x y. ⊎-elim (λ (z : j ≡ i). rw z e) (λ (z : j < i). w .none j x z) (eq-or-lt-of-le (omega arith));
+  }
+
   pub skip-to : (o key r : ℕ) → 3 ≤ length b → o ≡ length b - 3 → key ≡ four-at (length b ∷ b) (length b - 3) → Seeks m o from n key r → Skips m from n b r
   skip-to o key r k q e w = record {
     low = w .low l;

@@ -366,13 +366,28 @@ fn ending(b: &[u8]) -> u32
     slots::quad(b[n - 4], b[n - 3], b[n - 2], b[n - 1])
 }
 
+// The first slot from `from` on and below n that holds b.
+fn one_by_one(m: &[u8], from: u16, n: u16, b: &[u8]) -> u16
+    requires { ⌜ (from ≤ n) × (n * slot ≤ length (now m)) × (0 < length (now b)) × (length (now b) < slot) ⌝ }
+    ensures { λ r. ⌜ Skips (now (m .entry)) from n (now (b .entry)) r ⌝ }
+{
+    let mut i = from;
+    while i < n {
+        if holds(m, i, b) {
+            return i;
+        }
+        i += 1;
+    }
+    i
+}
+
 // The first slot from `from` on and below n that may hold b. The last four bytes tell most slots apart; an argument's body is too short for that.
 fn candidate(m: &[u8], from: u16, n: u16, b: &[u8]) -> u16
     requires { ⌜ (from ≤ n) × (n * slot ≤ length (now m)) × (0 < length (now b)) × (length (now b) < slot) ⌝ }
     ensures { λ r. ⌜ Skips (now (m .entry)) from n (now (b .entry)) r ⌝ }
 {
     if b.len() < 3 {
-        return from;
+        return one_by_one(m, from, n, b);
     }
     slots::seek(m, (b.len() - 3) as u8, from, n, ending(b))
 }
