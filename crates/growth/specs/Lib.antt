@@ -1,5 +1,6 @@
 pub mod Tail
 pub mod WordLaws
+pub mod NextLaws
 pub mod ScanLaws
 pub mod GrowLaws
 pub mod AnswerLaws

@@ -17,10 +17,13 @@ use Rattle.paper.specs.Words.{if_then_else_, or-else, below}
 use Rattle.paper.specs.Numbers.{max-fields}
 use Rattle.paper.specs.Sites.{Site, Sites, child-count, child, number-of}
 use Rattle.paper.specs.Laws.{same-site-refl, number-here, number-there, number-front, number-on, number-some, at-inside, plus, one-more}
+use Rattle.sites.specs.Back.{Bytes}
 use Rattle.sites.specs.Slots.{site-in, sites-in}
-use Rattle.growth.specs.Tail.{word-of, site-of-word, Spelt, site-there, table, Field, holes, Notes, Numbers, Sees}
+use Rattle.growth.specs.Tail.{word-of, site-of-word, Spelt, site-there, table, Field, Wants, Onward, holes, Notes, Numbers, Sees}
 use Rattle.growth.specs.WordLaws.{not-same, child-apart, site-is, site-none}
+use Rattle.growth.specs.NextLaws.{no-child}
 use Rattle.growth.specs.declared.Seen.{Seen}
+use Rattle.growth.specs.declared.Wanted.{Wanted}
 
 -- ---- the table, site by site
 
@@ -190,6 +193,17 @@ module _ (t : Sites) (s : ℕ) (c : Constraint) (of : List ℕ) (N : Numbers t s
 
 -- ---- the walk
 
+-- sites that are no children may be passed over
+past-all : (g : ℕ → Site) (s : ℕ) (c : Constraint) (few : child-count c ≤ max-fields) (of : List ℕ) (i r : ℕ) → i ≤ r → r < 65536 → ((j : ℕ) → i ≤ j → j < r → (f : ℕ) → f < child-count c → g j ≡ child s c f → ⊥) → Numbers (below i g) s c of → Numbers (below r g) s c of
+unfolding below
+past-all g s c few of i zero l h away N = let z : i ≡ 0 = omega arith in rw z at N
+past-all g s c few of i (suc r) l h away N =
+    ⊎-elim (λ (e : i ≡ suc r). rw e at N)
+    (λ (q : i < suc r).
+    let n = length-below r g in
+    one-past (below r g) s c of (past-all g s c few of i r (omega arith) (omega arith) (λ j p u. away j p (omega arith)) N) (omega arith) few (g r) (away r (omega arith) (omega arith)))
+    (eq-or-lt-of-le l)
+
 pub record Walked (m : List ℕ) (n : ℕ) (tail : List ℕ) (s : ℕ) (c : Constraint) (i missing : ℕ) (of : List ℕ) : Type 0 where
   pub numbers : Numbers (below i (site-there m n tail)) s c of
   pub left : missing ≡ holes of (child-count c)
@@ -217,6 +231,9 @@ module _ (m : List ℕ) (n : ℕ) (tail : List ℕ) (s : ℕ) (c : Constraint) (
             let y = is-some (below i (site-there m n tail)) (child s c f) (getD of f 0) (omega (arith, small)) (W .numbers .each f p) g in
             let u : number-of (table m n tail k) (child s c f) ≡ some (getD of f 0) = rw (table-is m n tail k, r .1) (number-front (below i (site-there m n tail)) (r .0) (child s c f) (getD of f 0) y) in
             sym (ap (λ o. or-else o 65535) u)
+
+    pub walk-past : (r : ℕ) → i ≤ r → r < 65536 → ((j : ℕ) → i ≤ j → j < r → (f : ℕ) → f < child-count c → site-there m n tail j ≡ child s c f → ⊥) → Walked m n tail s c r missing of
+    walk-past r l h away = record { numbers = past-all (site-there m n tail) s c few of i r l h away (W .numbers); left = W .left }
 
     pub walk-end : (k : ℕ) → i ≡ n + k → Numbers (table m n tail k) s c of
     walk-end k e = rw (table-is m n tail k, ← e) (W .numbers)
@@ -275,3 +292,23 @@ module _ (m : List ℕ) (n : ℕ) (tail : List ℕ) (s : ℕ) (c : Constraint) (
               let t = z .1 in
               let a = one-new (below i (site-there m n tail)) s c of (W .numbers) (omega (arith, small)) few (site-there m n tail i) f (omega arith) (site-is s c first count w f h k (omega arith) g (site-there m n tail i) x y) (eqb-true (getD of f 0) 65535 q) in
               rw (z .0) (record { numbers = rw small at a; left = omega arith })
+
+-- ---- the walk as the code has it: what is looked for, and over which sites it goes on
+
+module _ (m : List ℕ) (n : ℕ) (tail : List ℕ) (s : ℕ) (w : Wanted) where
+  abbrev pub Walking : ℕ → ℕ → List ℕ → Type 0
+  Walking i missing of = (c : Constraint) → Wants s c w → child-count c ≤ max-fields → Walked m n tail s c i missing of
+
+  pub walking-start : Walking 0 (w .count) (replicate 8 65535)
+  walking-start c W few = walk-start m n tail s c few (w .count) (W .count)
+
+  module _ (fm : Bytes m) (k : ℕ) (small : n + k < 65536) (i missing : ℕ) (of : List ℕ) (G : Walking i missing of) (x : ℕ) (O : Onward m n tail k i w x) where
+    pub walking-on : Walking x missing of
+    walking-on c W few = walk-past m n tail s c few i missing of (G c W few) x (O .low) (let h = O .high in omega arith) (no-child m n tail s c fm w W k i x O)
+
+    module _ (v f r : ℕ) (of′ : List ℕ) (h : x < n + k) (g : Field v (w .first) (w .count) f) (p : Spelt (site-there m n tail x) v) (o : Notes of of′ f (w .count) x r) where
+      pub walking-less : (c : Constraint) → Wants s c w → child-count c ≤ max-fields → r ≤ missing
+      walking-less c W few = walk-less m n tail s c few x missing of (walking-on c W few) (w .first) (w .count) v f r of′ (W .first) (W .count) g p o (omega arith)
+
+      pub walking-turn : Walking (x + 1) (missing - r) of′
+      walking-turn c W few = walk-turn m n tail s c few x missing of (walking-on c W few) (w .first) (w .count) v f r of′ (W .first) (W .count) g p o (omega arith)

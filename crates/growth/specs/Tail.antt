@@ -12,11 +12,13 @@ use Rattle.paper.specs.declared.Refusal.{Refusal}
 use Rattle.paper.specs.declared.Refusal.the-variants.{TooManySites, TooManyFields}
 use Rattle.paper.specs.Words.{if_then_else_, or-else, below}
 use Rattle.paper.specs.Numbers.{max-sites, max-fields, Outcome, done, refused, _>>=_, demand}
-use Rattle.paper.specs.Sites.{Site, constBool, constInt, constPrim, argument, extractor, constructor, iterator, makeVariant, matchVariant, makeStruct, extractStruct, makeSome, matchSome, matchTuple, Sites, child-count, child, children, number-of, add-all}
-use Rattle.sites.specs.Slots.{site-in, sites-in, no-site}
+use Rattle.paper.specs.Sites.{Site, constBool, constInt, constPrim, argument, extractor, constructor, iterator, makeVariant, matchVariant, makeStruct, extractStruct, makeSome, matchSome, matchTuple, body, Sites, child-count, child, children, number-of, add-all}
+use Rattle.slots.specs.Seeking.{four-at}
+use Rattle.sites.specs.Slots.{slot, site-in, sites-in, no-site}
 use Rattle.sites.specs.declared.Children.{Children}
 use Rattle.sites.specs.declared.Given.the-variants as given
 use Rattle.growth.specs.declared.Seen.{Seen}
+use Rattle.growth.specs.declared.Wanted.{Wanted}
 
 -- A site that can be a child, as a word: the kind lowest, then the field, the variant and the source, as the kind has them. Any other site is 0.
 unfoldable pub word-of : Site → ℕ
@@ -86,6 +88,29 @@ pub record Field (w first count r : ℕ) : Type 0 where
   pub is : r < count → w ≡ first + 256 * r
   pub none : count ≤ r → (f : ℕ) → f < count → w ≡ first + 256 * f → ⊥
 
+-- the four bytes with which the slot of a site begins
+unfoldable pub begins : Site → ℕ
+begins x = four-at (length (body x) ∷ body x) 0
+
+-- what the children of s under c have in common
+pub record Wants (s : ℕ) (c : Constraint) (w : Wanted) : Type 0 where
+  pub key : w .key ≡ begins (child s c 0)
+  pub first : Spelt (child s c 0) (w .first)
+  pub count : w .count ≡ child-count c
+
+-- none of the words from `from` on and below r is one of the `count` from `first` on
+pub record SeeksWord (tail : List ℕ) (from to first count r : ℕ) : Type 0 where
+  pub low : from ≤ to → from ≤ r
+  pub high : r ≤ to
+  pub none : (j : ℕ) → from ≤ j → j < r → j < length tail → (f : ℕ) → f < count → getD tail j 0 ≡ first + 256 * f → ⊥
+
+-- and none of the sites from i on and below r can be a child
+pub record Onward (m : List ℕ) (n : ℕ) (tail : List ℕ) (k i : ℕ) (w : Wanted) (r : ℕ) : Type 0 where
+  pub low : i ≤ r
+  pub high : r ≤ n + k
+  pub slots : (j : ℕ) → i ≤ j → j < r → j < n → j * slot + 4 ≤ length m → four-at m (j * slot) ≡ w .key → ⊥
+  pub words : (j : ℕ) → i ≤ j → j < r → n ≤ j → j - n < length tail → (f : ℕ) → f < w .count → getD tail (j - n) 0 ≡ w .first + 256 * f → ⊥
+
 -- how many of the first q are without a number
 unfoldable pub holes : List ℕ → ℕ → ℕ
 holes of zero = 0
@@ -112,6 +137,13 @@ pub record Sees (t : Sites) (s : ℕ) (c : Constraint) (r : Seen) : Type 0 where
 unfoldable pub news : Sites → ℕ → Constraint → ℕ → List Site
 news t s c zero = []
 news t s c (suc q) = elim (number-of t (child s c q)) [ none ↦ news t s c q ++ (child s c q ∷ []) | some i ↦ news t s c q ]
+
+-- what the search starts with
+pub record Growing (n k s : ℕ) (c : Constraint) (tail : List ℕ) : Type 0 where
+  pub long : max-sites ≤ length tail
+  pub small : n + k < 65536
+  pub few : child-count c ≤ max-fields
+  pub known : s < n + k
 
 -- what they are written with: the search is done, and there is room
 pub record Ready (t : Sites) (n k : ℕ) (s : ℕ) (c : Constraint) (of tail : List ℕ) : Type 0 where

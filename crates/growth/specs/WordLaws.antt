@@ -114,7 +114,7 @@ module _ (w : ℕ) where
   tail-none a b d = record { is = rw (ne-eqb (w % 256) 8 a, ne-eqb (w % 256) 10 b, ne-eqb (w % 256) 12 d); back = λ h. absurd (omega arith) }
 
 -- a word that tells a child is its word
-word-told : (w : ℕ) → 0 < word-of (site-of-word w) → w ≡ word-of (site-of-word w)
+pub word-told : (w : ℕ) → 0 < word-of (site-of-word w) → w ≡ word-of (site-of-word w)
 word-told w h = go (eqb (w % 256) 8) refl (eqb (w % 256) 10) refl (eqb (w % 256) 12) refl
   where
     go : (a : Bool) → eqb (w % 256) 8 ≡ a → (b : Bool) → eqb (w % 256) 10 ≡ b → (d : Bool) → eqb (w % 256) 12 ≡ d → w ≡ word-of (site-of-word w)
@@ -210,7 +210,7 @@ child-positive s (ConstInt t x y) f = omega arith
 child-positive s (ConstPrim v) f = omega arith
 child-positive s Some f = omega arith
 
-child-step : (s : ℕ) (c : Constraint) (f : ℕ) → f < child-count c → word-of (child s c f) ≡ word-of (child s c 0) + 256 * f
+pub child-step : (s : ℕ) (c : Constraint) (f : ℕ) → f < child-count c → word-of (child s c f) ≡ word-of (child s c 0) + 256 * f
 unfolding child word-of
 child-step s (Variant t v n) f h = omega arith
 child-step s (Struct t n) f h = omega arith

@@ -9,7 +9,7 @@ ghost use Rattle.paper.specs.Words.{any, or-else};
 ghost use Rattle.paper.specs.Numbers.{max-sites, max-fields};
 ghost use Rattle.paper.specs.Sites.{parent, child, children, child-count, same-site, matchVariant, extractStruct, matchSome};
 ghost use Rattle.sites.specs.Slots.{site-in, children-as};
-ghost use Rattle.growth.specs.Tail.{word-of, refused-as, site-of-word, Spelt, site-there, table, grown, after-grown, holds, Field, Notes, Sees, news, Ready, Placed};
+ghost use Rattle.growth.specs.Tail.{word-of, refused-as, site-of-word, Spelt, site-there, table, grown, after-grown, holds, Field, begins, Wants, SeeksWord, Onward, Notes, Sees, news, Ready, Growing, Placed};
 use paper::Constraint;
 use paper::FIELDS;
 use paper::Refusal;
@@ -20,6 +20,13 @@ use sites::Link;
 
 // No site: a number that no site has.
 const NONE: u16 = 65535;
+
+// What the children of a site under a constraint have in common: the four bytes with which their slots begin, the word of the first, how many there are.
+pub struct Wanted {
+    pub key: u32,
+    pub first: u64,
+    pub count: usize,
+}
 
 // The numbers of the children by field, NONE where it is missing, and how many are missing.
 pub struct Seen {
@@ -199,24 +206,91 @@ fn note(of: &mut [u16; FIELDS], f: usize, count: usize, i: u16) -> usize
     1
 }
 
+// The slot of a child begins with its length, its kind and its source, whatever its field.
+fn beginning(s: u16, c: Constraint) -> u32
+    ensures { λ r. ⌜ r ≡ begins (child s c 0) ⌝ }
+{
+    let high = (s / 256) as u8;
+    let low = (s % 256) as u8;
+    match c {
+        Constraint::Variant {
+            ty: _,
+            variant: _,
+            fields: _,
+        } => slots::quad(6, 8, high, low),
+        Constraint::Struct { ty: _, fields: _ } => slots::quad(4, 10, high, low),
+        Constraint::ConstBool { ty: _, val: _ } => slots::quad(3, 12, high, low),
+        Constraint::ConstInt {
+            ty: _,
+            high: _,
+            low: _,
+        } => slots::quad(3, 12, high, low),
+        Constraint::ConstPrim { val: _ } => slots::quad(3, 12, high, low),
+        Constraint::Some => slots::quad(3, 12, high, low),
+    }
+}
+
+fn want(s: u16, c: Constraint) -> Wanted
+    ensures { λ r. ⌜ Wants s c r ⌝ }
+{
+    Wanted {
+        key: beginning(s, c),
+        first: child_word(s, c, 0),
+        count: arity(c),
+    }
+}
+
+// The first word from `from` on and below `to` that is a child's; `to` where none is.
+fn seek_word(tail: &[u64], from: u16, to: u16, first: u64, count: usize) -> u16
+    ensures { λ r. ⌜ SeeksWord (now (tail .entry)) from to first count r ⌝ }
+{
+    let mut j = from;
+    while j < to {
+        let y = size(j);
+        if tail.len() <= y {
+            return to;
+        }
+        if field_of(tail[y], first, count) < count {
+            return j;
+        }
+        j += 1;
+    }
+    to
+}
+
+// The first site from i on that may be a child: in the memory its slot begins as theirs do, in the tail its word is one of theirs. n + k where none is.
+fn next_site(m: &[u8], n: u16, tail: &[u64], k: u16, i: u16, w: Wanted) -> u16
+    requires { ⌜ (n + k < 65536) × (i ≤ n + k) ⌝ }
+    ensures { λ r. ⌜ Onward (now (m .entry)) n (now (tail .entry)) k i w r ⌝ }
+{
+    if n <= i {
+        return n + seek_word(tail, i - n, k, w.first, w.count);
+    }
+    let x = slots::seek(m, 0, i, n, w.key);
+    if x < n {
+        return x;
+    }
+    n + seek_word(tail, 0, k, w.first, w.count)
+}
+
 // The children of s under c that are there: one walk over the table, which ends where all are found.
 fn scan(m: &[u8], n: u16, tail: &[u64], k: u16, s: u16, c: Constraint) -> Seen
     requires { ⌜ (child-count c ≤ max-fields) × (n + k < 65536) ⌝ }
     ensures { λ r. ⌜ Sees (table (now (m .entry)) n (now (tail .entry)) k) s c r ⌝ }
 {
-    let count = arity(c);
-    let total = n + k;
+    let w = want(s, c);
+    let count = w.count;
     let mut numbers = [NONE; FIELDS];
     let mut missing = count;
     let mut i: u16 = 0;
-    while i < total {
-        if missing == 0 {
+    while 0 < missing {
+        let x = next_site(m, n, tail, k, i, w);
+        if n + k <= x {
             return Seen { numbers, missing };
         }
-        let first = child_word(s, c, 0);
-        let f = field_of(word_of(m, n, tail, i), first, count);
-        missing -= note(&mut numbers, f, count, i);
-        i += 1;
+        let f = field_of(word_of(m, n, tail, x), w.first, count);
+        missing -= note(&mut numbers, f, count, x);
+        i = x + 1;
     }
     Seen { numbers, missing }
 }
@@ -263,6 +337,31 @@ fn refuse(r: Refusal) -> Children
     }
 }
 
+// The same where the numbers are in order: searched, then written if there is room.
+fn grow(m: &[u8], n: u16, tail: &mut [u64], k: u16, at: u32, s: u16, c: Constraint) -> Children
+    requires { ⌜ Growing n k s c (now tail) ⌝ }
+    ensures { λ r. ⌜ (r ≡ children-as s c (grown (now (m .entry)) n (now (tail .entry)) k at s c))
+        × (now (tail .exit) ≡ after-grown n (now (tail .entry)) k (grown (now (m .entry)) n (now (tail .entry)) k at s c))
+        × (holds (now (m .entry)) n (now (tail .exit)) (grown (now (m .entry)) n (now (tail .entry)) k at s c)) ⌝ }
+{
+    let total = size(n) + size(k);
+    let seen = scan(m, n, tail, k, s, c);
+    let room = left_of(total);
+    let missing = seen.missing;
+    if room < missing {
+        return refuse(Refusal::TooManySites {
+            asked: (total + room + 1) as u32,
+            at,
+        });
+    }
+    let of = seen.numbers;
+    let numbers = place(m, n, tail, k, s, c, of);
+    Children {
+        outcome: Given::To((total + missing) as u16),
+        numbers,
+    }
+}
+
 // Adds the children of s under c to the table: those that are missing go to the tail, all or none.
 pub fn add_children(
     m: &[u8],
@@ -306,21 +405,7 @@ pub fn add_children(
     if total <= size(s) {
         return refuse(Refusal::Unknown { site: s });
     }
-    let seen = scan(m, n, tail, k, s, c);
-    let room = left_of(total);
-    let missing = seen.missing;
-    if room < missing {
-        return refuse(Refusal::TooManySites {
-            asked: (total + room + 1) as u32,
-            at,
-        });
-    }
-    let of = seen.numbers;
-    let numbers = place(m, n, tail, k, s, c, of);
-    Children {
-        outcome: Given::To((total + missing) as u16),
-        numbers,
-    }
+    grow(m, n, tail, k, at, s, c)
 }
 
 // How many sites there can be yet.

@@ -22,7 +22,8 @@ use Rattle.paper.specs.Laws.{taken, next-is, There, Fresh, sound-empty, sound-a
 use Rattle.sites.specs.Kinds.{laid}
 use Rattle.sites.specs.Shape.{is-body}
 use Rattle.sites.specs.Slots.{slot, no-site, site-of, slot-body, site-in, sites-in, held-by, add-body, added-in, put, store, after-add, held-all, children-in, after-all, unfolded-in}
-use Rattle.sites.proofs.Places.{slot-is, slot-over, sites-length}
+use Rattle.sites.specs.Held.{slot-is, slot-over}
+use Rattle.sites.proofs.Places.{sites-length}
 use Rattle.sites.proofs.Put.{length-put}
 use Rattle.sites.proofs.Kids.{site-body, body-there}
 

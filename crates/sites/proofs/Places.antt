@@ -15,49 +15,20 @@ use borrow.Author.Tests.{lt-ltb, le-ltb, le-leb, lt-leb, eq-eqb, ne-eqb, eqb-tru
 use Rattle.paper.specs.Words.{if_then_else_, below, same-list}
 use Rattle.paper.specs.Sites.{Site, Sites, body, number-of, same-site}
 use Rattle.paper.specs.Laws.{same-list-true, same-list-refl, same-site-true, same-site-refl, number-here, number-there, number-front, number-on, plus, one-more}
+use Rattle.slots.specs.Seeking.{quad, four-at, Seeks}
 use Rattle.sites.specs.Kinds.{Laid}
 use Rattle.sites.specs.Shape.{is-body}
 use Rattle.sites.specs.Back.{Bytes}
 use Rattle.sites.specs.Alike.{same-body}
 use Rattle.sites.specs.Slots.{slot, no-site, site-of, slot-body, site-in, sites-in, Findable, found-as, put, store}
+use Rattle.sites.specs.Held.{slot-cut, slot-over, slot-is, slot-bytes, held, held-four, Skips}
 use Rattle.sites.proofs.Bodies.{laid-in, site-none}
 
 -- ---- what stands in a slot
-pub slot-cut : (m : List ℕ) (i : ℕ) → length m < i * slot + slot → slot-body m i ≡ []
-unfolding slot-body
-slot-cut m i h = rw (lt-leb (i * slot + slot) (length m) h)
-
-pub slot-over : (m : List ℕ) (i : ℕ) → i * slot + slot ≤ length m → slot ≤ getD m (i * slot) 0 → slot-body m i ≡ []
-unfolding slot-body
-slot-over m i h l = rw (le-leb (i * slot + slot) (length m) h, le-ltb (getD m (i * slot) 0) slot l)
-
-pub slot-is : (m : List ℕ) (i n : ℕ) → i * slot + slot ≤ length m → n ≡ getD m (i * slot) 0 → n < slot → slot-body m i ≡ take n (drop (i * slot + 1) m)
-unfolding slot-body
-slot-is m i n h e l = rw (e, le-leb (i * slot + slot) (length m) h, lt-ltb (getD m (i * slot) 0) slot (omega arith))
-
 pub slot-part : (m : List ℕ) (i n at : ℕ) → at ≡ i * slot → at + slot ≤ length m → n ≡ getD m at 0 → n < slot → take (at + 1 + n - (at + 1)) (drop (at + 1) m) ≡ slot-body m i
 slot-part m i n at p h e l =
     let k : at + 1 + n - (at + 1) ≡ n = omega arith in
     rw (k, p) (sym (slot-is m i n (omega arith) (e ∙ ap (λ j. getD m j 0) p) l))
-
--- a part of bytes is bytes
-pub part-bytes : (m : List ℕ) (n at : ℕ) → Bytes m → Bytes (take n (drop at m))
-part-bytes m n at f i = go (ltb i n) refl
-  where
-    go : (t : Bool) → ltb i n ≡ t → getD (take n (drop at m)) i 0 < 256
-    go true e = rw (getD-take n (drop at m) i 0 (ltb-true i n e), getD-drop at m i 0) (f (at + i))
-    go false e =
-        let h = ltb-false i n e in
-        let l : length (take n (drop at m)) ≤ i = simp length-take (omega arith) in
-        rw (List·getD-eq-default (take n (drop at m)) 0 l) (omega arith)
-
-pub slot-bytes : (m : List ℕ) (i : ℕ) → Bytes m → Bytes (slot-body m i)
-unfolding slot-body
-slot-bytes m i f = go (leb (i * slot + slot) (length m) && ltb (getD m (i * slot) 0) slot)
-  where
-    go : (t : Bool) → Bytes (if t then take (getD m (i * slot) 0) (drop (i * slot + 1) m) else [])
-    go true = part-bytes m (getD m (i * slot) 0) (i * slot + 1) f
-    go false = λ j. omega arith
 
 -- ---- comparing
 pub same-step : (m b : List ℕ) (at j : ℕ) → ((k : ℕ) → k < j → getD m (at + k) 0 ≡ getD b k 0) → getD m (at + j) 0 ≡ getD b j 0 → (k : ℕ) → k < j + 1 → getD m (at + k) 0 ≡ getD b k 0
@@ -100,15 +71,53 @@ module _ (m b : List ℕ) (i at n : ℕ) (p : at ≡ i * slot) (h : at + slot �
           let y = ap length x in
           omega arith
 
-  pub holds-kind : n ≡ length b → 0 < length b → length b < slot → (getD m (at + 1) 0 ≡ getD b 0 0 → ⊥) → false ≡ same-list (slot-body m i) b
-  holds-kind q l k f =
-      let z : at + 1 + 0 ≡ at + 1 = omega arith in
-      rw (here (omega arith), q) (same-differs m b (at + 1) 0 l (λ w. f (rw z at w)))
-
   pub holds-all : (r : Bool) → n ≡ length b → length b < slot → r ≡ same-list (take (length b) (drop (at + 1) m)) b → r ≡ same-list (slot-body m i) b
   holds-all r q k w = rw (here (omega arith), q) w
 
 -- ---- searching
+-- the last four bytes of the length and the body
+ending-at : (b : List ℕ) (x k j : ℕ) → k ≡ suc j → getD b j 0 ≡ getD (x ∷ b) k 0
+ending-at b x k j e = rw e
+
+pub ending-short : (b : List ℕ) (r : ℕ) → length b ≡ 3 → r ≡ quad 3 (getD b 0 0) (getD b 1 0) (getD b 2 0) → r ≡ four-at (length b ∷ b) (length b - 3)
+unfolding four-at
+ending-short b r e q = rw e q
+
+pub ending-long : (b : List ℕ) (r : ℕ) → 3 < length b → r ≡ quad (getD b (length b - 4) 0) (getD b (length b - 3) 0) (getD b (length b - 2) 0) (getD b (length b - 1) 0) → r ≡ four-at (length b ∷ b) (length b - 3)
+unfolding four-at
+ending-long b r h q =
+    let a0 = ending-at b (length b) (length b - 3) (length b - 4) (omega arith) in
+    let a1 = ending-at b (length b) (length b - 3 + 1) (length b - 3) (omega arith) in
+    let a2 = ending-at b (length b) (length b - 3 + 2) (length b - 2) (omega arith) in
+    let a3 = ending-at b (length b) (length b - 3 + 3) (length b - 1) (omega arith) in
+    q ∙ rw (a0, a1, a2, a3)
+
+module _ (m b : List ℕ) (from n : ℕ) (l : from ≤ n) (h : n * slot ≤ length m) where
+  pub skip-none : Skips m from n b from
+  skip-none = record { low = omega arith; high = l; none = λ i p q. absurd (omega arith) }
+
+  pub skip-more : (i : ℕ) → Skips m from n b i → i < n → same-list (slot-body m i) b ≡ false → Skips m from n b (i + 1)
+  skip-more i w q e = record {
+    low = let a = w .low in omega arith;
+    high = omega arith;
+    none = λ j x y. ⊎-elim (λ (z : j ≡ i). rw z e) (λ (z : j < i). w .none j x z) (eq-or-lt-of-le (omega arith));
+  }
+
+  pub skip-to : (o key r : ℕ) → 3 ≤ length b → o ≡ length b - 3 → key ≡ four-at (length b ∷ b) (length b - 3) → Seeks m o from n key r → Skips m from n b r
+  skip-to o key r k q e w = record {
+    low = w .low l;
+    high = w .high;
+    none = λ i x y. sym (same-false (slot-body m i) b (λ u. not-there i x y u));
+  }
+    where
+      not-there : (i : ℕ) → from ≤ i → i < r → slot-body m i ≡ b → ⊥
+      not-there i x y u =
+          let v = held m i b u (omega arith) in
+          let z = held-four m i b v (length b - 3) (omega arith) in
+          let a = v .inside in
+          let d = v .short in
+          w .none i x y (omega arith) (rw (q, e) z)
+
 pub same-site-false : (a b : Site) → (a ≡ b → ⊥) → same-site a b ≡ false
 same-site-false a b f = go (same-site a b) refl
   where
@@ -177,6 +186,13 @@ module _ (m b : List ℕ) (fm : Bytes m) (fb : Bytes b) (g : Findable b) where
   pub find-next : (i : ℕ) → number-of (sites-in m i) s ≡ none → same-list (slot-body m i) b ≡ false → number-of (sites-in m (i + 1)) s ≡ none
   unfolding sites-in below
   find-next i e q = rw (add-one i) (number-still (below i (site-in m)) (site-in m i) s e (slot-other i q))
+
+  pub find-skip : (i r : ℕ) → i ≤ r → number-of (sites-in m i) s ≡ none → ((j : ℕ) → i ≤ j → j < r → same-list (slot-body m j) b ≡ false) → number-of (sites-in m r) s ≡ none
+  find-skip i zero l e f = let z : i ≡ 0 = omega arith in rw z at e
+  find-skip i (suc r) l e f =
+      ⊎-elim (λ (q : i ≡ suc r). rw q at e)
+      (λ (q : i < suc r). rw (← add-one r) (find-next r (find-skip i r (omega arith) e (λ j k w. f j k (omega arith))) (f r (omega arith) (omega arith))))
+      (eq-or-lt-of-le l)
 
   pub find-here : (i n : ℕ) → i < n → number-of (sites-in m i) s ≡ none → same-list (slot-body m i) b ≡ true → number-of (sites-in m n) s ≡ some i
   unfolding sites-in below

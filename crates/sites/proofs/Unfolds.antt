@@ -23,7 +23,8 @@ use Rattle.sites.specs.declared.Unfolded.the-variants as unfolding′
 use Rattle.sites.specs.Slots.{no-site, site-of, slot-body, site-in, sites-in, put, Writes, unfolded-in, unfolded-as, after-unfold}
 use Rattle.sites.proofs.Turns.{words-cons}
 use Rattle.sites.proofs.Bodies.{laid-in, site-none}
-use Rattle.sites.proofs.Places.{length-below, sites-length, below-split, slot-bytes}
+use Rattle.sites.specs.Held.{slot-bytes}
+use Rattle.sites.proofs.Places.{length-below, sites-length, below-split}
 use Rattle.sites.proofs.Put.{rest-eq, writes-fits, writes-none, writes-then, writes-stop, end-full}
 
 -- the sites past s make no difference to it

@@ -4,3 +4,4 @@ pub mod Kinds
 pub mod Alike
 pub mod Back
 pub mod Shape
+pub mod Held

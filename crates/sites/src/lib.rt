@@ -10,6 +10,8 @@ ghost use Rattle.paper.specs.Sites.{sources, term-of, parent, number-of, child,
 ghost use Rattle.sites.specs.Kinds.{off-of, many-of, words, kind};
 ghost use Rattle.sites.specs.Shape.{is-body};
 ghost use Rattle.sites.specs.Slots.{slot, no-site, site-of, slot-body, site-in, sites-in, found-as, missing, admits-body, verdict-as, added-in, numbered-as, after-add, put, link-of, children-in, children-as, after-all, unfolded-as, after-unfold, Writes, Findable, unfolded-in, store, Spells};
+ghost use Rattle.slots.specs.Seeking.{four-at};
+ghost use Rattle.sites.specs.Held.{Skips};
 ghost use Rattle.paper.specs.Numbers.{max-fields, refused};
 ghost use Rattle.sites.specs.Family.{turn-as, fresh, Tallied, placed, Placing};
 use paper::Constraint;
@@ -21,7 +23,7 @@ use paper::SOURCES;
 use paper::TERMS;
 use paper::UNFOLDING;
 
-pub const SLOT: usize = 32;
+pub const SLOT: usize = slots::SLOT;
 
 const KINDS: usize = 14;
 
@@ -329,16 +331,13 @@ fn same_from(m: &[u8], at: usize, b: &[u8]) -> bool
     true
 }
 
-// Is b in slot i? The length and the kind tell most slots apart.
+// Is b in slot i?
 fn holds(m: &[u8], i: u16, b: &[u8]) -> bool
     requires { ⌜ (i * slot + slot ≤ length (now m)) × (0 < length (now b)) × (length (now b) < slot) ⌝ }
     ensures { λ r. ⌜ r ≡ same-list (slot-body (now (m .entry)) i) (now (b .entry)) ⌝ }
 {
     let at = i as usize * SLOT;
     if wide(m[at]) != b.len() {
-        return false;
-    }
-    if m[at + 1] != b[0] {
         return false;
     }
     same_from(m, at + 1, b)
@@ -355,18 +354,56 @@ fn whole_slots(m: &[u8], count: u16) -> u16
     count
 }
 
+// The four bytes with which the length and b end.
+fn ending(b: &[u8]) -> u32
+    requires { ⌜ 3 ≤ length (now b) ⌝ }
+    ensures { λ r. ⌜ r ≡ four-at (length (now (b .entry)) ∷ now (b .entry)) (length (now (b .entry)) - 3) ⌝ }
+{
+    let n = b.len();
+    if n == 3 {
+        return slots::quad(3, b[0], b[1], b[2]);
+    }
+    slots::quad(b[n - 4], b[n - 3], b[n - 2], b[n - 1])
+}
+
+// The first slot from `from` on and below n that holds b.
+fn one_by_one(m: &[u8], from: u16, n: u16, b: &[u8]) -> u16
+    requires { ⌜ (from ≤ n) × (n * slot ≤ length (now m)) × (0 < length (now b)) × (length (now b) < slot) ⌝ }
+    ensures { λ r. ⌜ Skips (now (m .entry)) from n (now (b .entry)) r ⌝ }
+{
+    let mut i = from;
+    while i < n {
+        if holds(m, i, b) {
+            return i;
+        }
+        i += 1;
+    }
+    i
+}
+
+// The first slot from `from` on and below n that may hold b. The last four bytes tell most slots apart; an argument's body is too short for that.
+fn candidate(m: &[u8], from: u16, n: u16, b: &[u8]) -> u16
+    requires { ⌜ (from ≤ n) × (n * slot ≤ length (now m)) × (0 < length (now b)) × (length (now b) < slot) ⌝ }
+    ensures { λ r. ⌜ Skips (now (m .entry)) from n (now (b .entry)) r ⌝ }
+{
+    if b.len() < 3 {
+        return one_by_one(m, from, n, b);
+    }
+    slots::seek(m, (b.len() - 3) as u8, from, n, ending(b))
+}
+
 // The number of the body b among the first sites.
 fn find(m: &[u8], count: u16, b: &[u8]) -> Found
     requires { ⌜ Findable (now b) ⌝ }
     ensures { λ r. ⌜ r ≡ found-as (number-of (sites-in (now (m .entry)) count) (site-of (now (b .entry)))) ⌝ }
 {
     let n = whole_slots(m, count);
-    let mut i: u16 = 0;
+    let mut i = candidate(m, 0, n, b);
     while i < n {
         if holds(m, i, b) {
             return Found::At(i);
         }
-        i += 1;
+        i = candidate(m, i + 1, n, b);
     }
     Found::Nothing
 }

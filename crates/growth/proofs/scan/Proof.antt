@@ -1,76 +1,75 @@
-use mathlib.Core.Path.{_≡_, refl, sym, ap, _∙_}
+use Prim.Native.Nat.{_+_, _-_, _≤_}
 use native.Mathlib.Omega.{arith}
-use Rattle.growth.specs.ScanLaws.{Walked, walk-start, walk-early, walk-end, walk-less, walk-turn}
 use denote.Ref.{now}
-use Prim.Native.Nat.{_-_, _≤_}
 use borrow.Author.Needs.{needs}
+use Rattle.growth.specs.ScanLaws.{walk-early, walk-end, Walking, walking-start, walking-on, walking-less, walking-turn}
 use Rattle.growth.proofs.scan.Statement.{statement}
 use Rattle.growth.proofs.scan.Tie as tie
 use Rattle.growth.proofs.scan.Reads as reads
 use Rattle.growth.proofs.scan.Lts as lts
-use Rattle.growth.proofs.arity.Reads as arity-reads
-use Rattle.growth.proofs.child_word.Reads as child-word-reads
 use Rattle.growth.proofs.field_of.Reads as field-of-reads
+use Rattle.growth.proofs.next_site.Reads as next-site-reads
 use Rattle.growth.proofs.note.Reads as note-reads
+use Rattle.growth.proofs.want.Reads as want-reads
 use Rattle.growth.proofs.word_of.Reads as word-of-reads
 
 abbrev Inv-loop : tie.InvT-loop
-Inv-loop m n tail k s c count total numbers₀ missing₀ i₀ numbers missing i = (i ≤ total) × Walked m n tail s c i missing numbers
+Inv-loop m n tail k s w count numbers₀ missing₀ i₀ numbers missing i = (i ≤ n + k) × Walking m n tail s w i missing numbers
 
 abbrev μ-loop : tie.MeasureT-loop
-μ-loop m n tail k s c count total numbers₀ missing₀ i₀ numbers missing i = total - i
+μ-loop m n tail k s w count numbers₀ missing₀ i₀ numbers missing i = n + k - i
 
--- src/lib.rt:190:9
-arity-requires : tie.Need-arity-requires Inv-loop μ-loop
-arity-requires c κs = search needs
+-- src/lib.rt:281:9
+want-requires : tie.Need-want-requires Inv-loop μ-loop
+want-requires c κs = search needs
 
--- src/lib.rt:191:17
-add-total : tie.Need-add-total Inv-loop μ-loop
-add-total c = omega (arith, c .before .before .before .pre .1)
-
--- src/lib.rt:195:5
+-- src/lib.rt:286:5
 loop-holds : tie.Need-loop-holds Inv-loop μ-loop
-loop-holds c = (omega arith, walk-start (now (c .before .before .before .args .m)) (c .before .before .before .args .n) (now (c .before .before .before .args .tail)) (c .before .before .before .args .s) (c .before .before .before .args .c) (c .before .before .before .pre .0) _ (c .arity .ensures .0))
+loop-holds c = (omega arith, walking-start (now (c .before .before .before .args .m)) (c .before .before .before .args .n) (now (c .before .before .before .args .tail)) (c .before .before .before .args .s) (c .want .result))
 
--- src/lib.rt:197:13
+-- src/lib.rt:287:13
+next-site-requires : tie.Need-next-site-requires Inv-loop μ-loop
+next-site-requires c κs = (c .before .before .before .before .before .pre .1, c .before .loop .inv .0)
+
+-- src/lib.rt:288:12
+add-if1 : tie.Need-add-if1 Inv-loop μ-loop
+add-if1 c = omega (arith, c .before .before .before .before .before .before .pre .1)
+
+-- src/lib.rt:289:13
 returns : tie.Need-returns Inv-loop μ-loop
-returns c = record { numbers = walk-early (now (c .before .before .before .before .before .before .args .m)) (c .before .before .before .before .before .before .args .n) (now (c .before .before .before .before .before .before .args .tail)) (c .before .before .before .before .before .before .args .s) (c .before .before .before .before .before .before .args .c) (c .before .before .before .before .before .before .pre .0) (c .before .before .loop .i) (c .before .before .loop .missing) _ (c .before .before .loop .inv .1) (c .before .before .before .before .before .before .args .k) (c .before .before .loop .inv .0) (c .if1 .taken) (c .before .before .before .before .before .before .pre .1); missing = c .before .before .loop .inv .1 .left }
+returns c = record { numbers = walk-end (now (c .before .before .before .before .before .before .before .args .m)) (c .before .before .before .before .before .before .before .args .n) (now (c .before .before .before .before .before .before .before .args .tail)) (c .before .before .before .before .before .before .before .args .s) (c .before .before .before .before .before .before .before .args .c) (c .before .before .before .before .before .before .before .pre .0) _ (c .before .before .before .loop .missing) _ (walking-on (now (c .before .before .before .before .before .before .before .args .m)) (c .before .before .before .before .before .before .before .args .n) (now (c .before .before .before .before .before .before .before .args .tail)) (c .before .before .before .before .before .before .before .args .s) (c .before .before .before .before .want .result) (λ i. omega (arith, c .before .before .before .before .before .before .shared-slice-known .given i)) (c .before .before .before .before .before .before .before .args .k) (c .before .before .before .before .before .before .before .pre .1) (c .before .before .before .loop .i) (c .before .before .before .loop .missing) _ (c .before .before .before .loop .inv .1) _ (c .before .next-site .ensures) (c .before .before .before .before .before .before .before .args .c) (c .before .before .before .before .want .ensures) (c .before .before .before .before .before .before .before .pre .0)) (c .before .before .before .before .before .before .before .args .k) (let x = c .before .next-site .ensures .high in let y = c .if1 .taken in omega arith); missing = c .before .before .before .loop .inv .1 (c .before .before .before .before .before .before .before .args .c) (c .before .before .before .before .want .ensures) (c .before .before .before .before .before .before .before .pre .0) .left }
 
--- src/lib.rt:199:13
-child-word-requires : tie.Need-child-word-requires Inv-loop μ-loop
-child-word-requires c κs = search needs
-
--- src/lib.rt:200:26
+-- src/lib.rt:291:26
 word-of-requires : tie.Need-word-of-requires Inv-loop μ-loop
 word-of-requires c κs = search needs
 
--- src/lib.rt:200:13
+-- src/lib.rt:291:13
 field-of-requires : tie.Need-field-of-requires Inv-loop μ-loop
 field-of-requires c κs = search needs
 
--- src/lib.rt:201:20
+-- src/lib.rt:292:20
 note-requires : tie.Need-note-requires Inv-loop μ-loop
-note-requires c κs = omega (arith, c .before .before .before .before .before .before .before .arity .ensures .0, c .before .before .before .before .before .before .before .before .before .before .pre .0)
+note-requires c κs = let e = c .before .before .before .before .before .before .before .want .ensures .count in omega (arith, c .before .before .before .before .before .before .before .before .before .before .pre .0)
 
--- src/lib.rt:201:9
+-- src/lib.rt:292:9
 sub-missing : tie.Need-sub-missing Inv-loop μ-loop
-sub-missing c = walk-less (now (c .before .before .before .before .before .before .before .before .before .before .before .args .m)) (c .before .before .before .before .before .before .before .before .before .before .before .args .n) (now (c .before .before .before .before .before .before .before .before .before .before .before .args .tail)) (c .before .before .before .before .before .before .before .before .before .before .before .args .s) (c .before .before .before .before .before .before .before .before .before .before .before .args .c) (c .before .before .before .before .before .before .before .before .before .before .before .pre .0) (c .before .before .before .before .before .before .before .loop .i) (c .before .before .before .before .before .before .before .loop .missing) _ (c .before .before .before .before .before .before .before .loop .inv .1) _ _ _ _ _ _ (c .before .before .before .before .child-word .ensures) (c .before .before .before .before .before .before .before .before .arity .ensures .0) (c .before .before .field-of .ensures) (c .before .before .before .word-of .ensures) (c .note .ensures) (omega (arith, c .before .before .before .before .before .before .before .before .before .before .before .pre .1, c .before .before .before .before .before .before .loop-test .taken))
+sub-missing c = walking-less (now (c .before .before .before .before .before .before .before .before .before .before .before .args .m)) (c .before .before .before .before .before .before .before .before .before .before .before .args .n) (now (c .before .before .before .before .before .before .before .before .before .before .before .args .tail)) (c .before .before .before .before .before .before .before .before .before .before .before .args .s) (c .before .before .before .before .before .before .before .before .want .result) (λ i. omega (arith, c .before .before .before .before .before .before .before .before .before .before .shared-slice-known .given i)) (c .before .before .before .before .before .before .before .before .before .before .before .args .k) (c .before .before .before .before .before .before .before .before .before .before .before .pre .1) (c .before .before .before .before .before .before .before .loop .i) (c .before .before .before .before .before .before .before .loop .missing) _ (c .before .before .before .before .before .before .before .loop .inv .1) _ (c .before .before .before .before .before .next-site .ensures) _ _ _ _ (c .before .before .before .before .if1 .left) (c .before .before .field-of .ensures) (c .before .before .before .word-of .ensures) (c .note .ensures) (c .before .before .before .before .before .before .before .before .before .before .before .args .c) (c .before .before .before .before .before .before .before .before .want .ensures) (c .before .before .before .before .before .before .before .before .before .before .before .pre .0)
 
--- src/lib.rt:202:9
+-- src/lib.rt:293:13
 add-i : tie.Need-add-i Inv-loop μ-loop
-add-i c = omega (arith, c .before .before .before .before .before .before .before .before .before .before .before .pre .1, c .before .before .before .before .before .before .loop-test .taken)
+add-i c = omega (arith, c .before .before .before .before .before .before .before .before .before .before .before .pre .1, c .before .before .before .before .if1 .left)
 
--- src/lib.rt:195:5
+-- src/lib.rt:286:5
 loop-less : tie.Need-loop-less Inv-loop μ-loop
-loop-less c = omega arith
+loop-less c = let l = c .before .before .before .before .before .next-site .ensures .low in omega (arith, c .before .before .before .before .if1 .left)
 
--- src/lib.rt:195:5
+-- src/lib.rt:286:5
 loop-again : tie.Need-loop-again Inv-loop μ-loop
-loop-again c = (omega (arith, c .before .before .before .before .before .before .loop-test .taken), walk-turn (now (c .before .before .before .before .before .before .before .before .before .before .before .args .m)) (c .before .before .before .before .before .before .before .before .before .before .before .args .n) (now (c .before .before .before .before .before .before .before .before .before .before .before .args .tail)) (c .before .before .before .before .before .before .before .before .before .before .before .args .s) (c .before .before .before .before .before .before .before .before .before .before .before .args .c) (c .before .before .before .before .before .before .before .before .before .before .before .pre .0) (c .before .before .before .before .before .before .before .loop .i) (c .before .before .before .before .before .before .before .loop .missing) _ (c .before .before .before .before .before .before .before .loop .inv .1) _ _ _ _ _ _ (c .before .before .before .before .child-word .ensures) (c .before .before .before .before .before .before .before .before .arity .ensures .0) (c .before .before .field-of .ensures) (c .before .before .before .word-of .ensures) (c .note .ensures) (omega (arith, c .before .before .before .before .before .before .before .before .before .before .before .pre .1, c .before .before .before .before .before .before .loop-test .taken)))
+loop-again c = (omega (arith, c .before .before .before .before .if1 .left), walking-turn (now (c .before .before .before .before .before .before .before .before .before .before .before .args .m)) (c .before .before .before .before .before .before .before .before .before .before .before .args .n) (now (c .before .before .before .before .before .before .before .before .before .before .before .args .tail)) (c .before .before .before .before .before .before .before .before .before .before .before .args .s) (c .before .before .before .before .before .before .before .before .want .result) (λ i. omega (arith, c .before .before .before .before .before .before .before .before .before .before .shared-slice-known .given i)) (c .before .before .before .before .before .before .before .before .before .before .before .args .k) (c .before .before .before .before .before .before .before .before .before .before .before .pre .1) (c .before .before .before .before .before .before .before .loop .i) (c .before .before .before .before .before .before .before .loop .missing) _ (c .before .before .before .before .before .before .before .loop .inv .1) _ (c .before .before .before .before .before .next-site .ensures) _ _ _ _ (c .before .before .before .before .if1 .left) (c .before .before .field-of .ensures) (c .before .before .before .word-of .ensures) (c .note .ensures))
 
--- src/lib.rt:186:1
+-- src/lib.rt:277:1
 returns-2 : tie.Need-returns-2 Inv-loop μ-loop
-returns-2 c = record { numbers = walk-end (now (c .before .before .before .before .before .args .m)) (c .before .before .before .before .before .args .n) (now (c .before .before .before .before .before .args .tail)) (c .before .before .before .before .before .args .s) (c .before .before .before .before .before .args .c) (c .before .before .before .before .before .pre .0) (c .before .loop .i) (c .before .loop .missing) _ (c .before .loop .inv .1) (c .before .before .before .before .before .args .k) (let x = c .before .loop .inv .0 in let y = c .loop-test .left in omega arith); missing = c .before .loop .inv .1 .left }
+returns-2 c = record { numbers = walk-early (now (c .before .before .before .before .before .args .m)) (c .before .before .before .before .before .args .n) (now (c .before .before .before .before .before .args .tail)) (c .before .before .before .before .before .args .s) (c .before .before .before .before .before .args .c) (c .before .before .before .before .before .pre .0) (c .before .loop .i) (c .before .loop .missing) _ (c .before .loop .inv .1 (c .before .before .before .before .before .args .c) (c .before .before .want .ensures) (c .before .before .before .before .before .pre .0)) (c .before .before .before .before .before .args .k) (c .before .loop .inv .0) (omega (arith, c .loop-test .left)) (c .before .before .before .before .before .pre .1); missing = c .before .loop .inv .1 (c .before .before .before .before .before .args .c) (c .before .before .want .ensures) (c .before .before .before .before .before .pre .0) .left }
 
 pub scan-spec : {M : Type 1} → statement M
 scan-spec =
@@ -78,11 +77,11 @@ scan-spec =
     (tie.spec
     Inv-loop
     μ-loop
-    arity-requires
-    add-total
+    want-requires
     loop-holds
+    next-site-requires
+    add-if1
     returns
-    child-word-requires
     word-of-requires
     field-of-requires
     note-requires

@@ -9,7 +9,7 @@ use lib.ListN.{length}
 use Rattle.sites.specs.Slots.{Writes, unfolded-in}
 use Rattle.sites.specs.Back.{Bytes}
 use Rattle.sites.proofs.Bodies.{sized}
-use Rattle.sites.proofs.Places.{slot-bytes}
+use Rattle.sites.specs.Held.{slot-bytes}
 use Rattle.sites.proofs.Unfolds.{unfolded-alone, head-fits, stop-head, stop-sources, all-three, end-inside, bytes-as, none-left, skip-source, stop-source, go-on}
 use Prim.Native.Nat.{ℕ, _+_, _*_, _<_}
 use borrow.Fn.Kinds.{In}

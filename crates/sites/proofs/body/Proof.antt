@@ -3,7 +3,8 @@ use Prim.Native.Nat.{ℕ, _+_, _-_, _*_, _≤_, _<_}
 use native.Mathlib.Omega.{arith}
 use borrow.Author.Tests.{not-true, not-false}
 use denote.Ref.{now}
-use Rattle.sites.proofs.Places.{slot-cut, slot-over, slot-part}
+use Rattle.sites.specs.Held.{slot-cut, slot-over}
+use Rattle.sites.proofs.Places.{slot-part}
 use borrow.Author.Needs.{needs}
 use Rattle.sites.proofs.body.Statement.{statement}
 use Rattle.sites.proofs.body.Tie as tie

@@ -1,0 +1,105 @@
+-- Slots: what stands in one, byte by byte, and how a search by four bytes goes with it.
+use mathlib.Core.Path.{_≡_, refl, sym, ap, _∙_}
+use mathlib.Core.Bool.{Bool, true, false, _&&_}
+use mathlib.Core.Option.{Option, none, some}
+use mathlib.Core.List.{List, [], _∷_}
+use Prim.Native.Nat.{ℕ, zero, suc, _+_, _-_, _*_, _≤_, _<_}
+use native.Mathlib.Omega.{arith}
+use lib.ListN.{length, getD, take, drop, length-take, length-drop, List·getD-eq-default}
+use lib.Seq.{getD-take, getD-drop}
+use lib.Dec.{ltb, leb}
+use borrow.Author.Tests.{lt-ltb, le-ltb, le-leb, lt-leb, ltb-true, ltb-false, leb-true, leb-false}
+use Rattle.slots.specs.Seeking.{four-at}
+use Rattle.paper.specs.Words.{if_then_else_, or-else, same-list}
+use Rattle.paper.specs.Layout.{whole, site-read}
+use Rattle.paper.specs.Sites.{Site, body}
+use Rattle.sites.specs.Back.{Bytes, back}
+use Rattle.sites.specs.Slots.{slot, no-site, site-of, slot-body, site-in}
+
+-- no slot from `from` on and below r, of those below `to`, holds b
+pub record Skips (m : List ℕ) (from to : ℕ) (b : List ℕ) (r : ℕ) : Type 0 where
+  pub low : from ≤ r
+  pub high : r ≤ to
+  pub none : (i : ℕ) → from ≤ i → i < r → same-list (slot-body m i) b ≡ false
+
+-- ---- the body in a slot
+pub slot-cut : (m : List ℕ) (i : ℕ) → length m < i * slot + slot → slot-body m i ≡ []
+unfolding slot-body
+slot-cut m i h = rw (lt-leb (i * slot + slot) (length m) h)
+
+pub slot-over : (m : List ℕ) (i : ℕ) → i * slot + slot ≤ length m → slot ≤ getD m (i * slot) 0 → slot-body m i ≡ []
+unfolding slot-body
+slot-over m i h l = rw (le-leb (i * slot + slot) (length m) h, le-ltb (getD m (i * slot) 0) slot l)
+
+pub slot-is : (m : List ℕ) (i n : ℕ) → i * slot + slot ≤ length m → n ≡ getD m (i * slot) 0 → n < slot → slot-body m i ≡ take n (drop (i * slot + 1) m)
+unfolding slot-body
+slot-is m i n h e l = rw (e, le-leb (i * slot + slot) (length m) h, lt-ltb (getD m (i * slot) 0) slot (omega arith))
+
+-- a part of bytes is bytes
+pub part-bytes : (m : List ℕ) (n at : ℕ) → Bytes m → Bytes (take n (drop at m))
+part-bytes m n at f i = go (ltb i n) refl
+  where
+    go : (t : Bool) → ltb i n ≡ t → getD (take n (drop at m)) i 0 < 256
+    go true e = rw (getD-take n (drop at m) i 0 (ltb-true i n e), getD-drop at m i 0) (f (at + i))
+    go false e =
+        let h = ltb-false i n e in
+        let l : length (take n (drop at m)) ≤ i = simp length-take (omega arith) in
+        rw (List·getD-eq-default (take n (drop at m)) 0 l) (omega arith)
+
+pub slot-bytes : (m : List ℕ) (i : ℕ) → Bytes m → Bytes (slot-body m i)
+unfolding slot-body
+slot-bytes m i f = go (leb (i * slot + slot) (length m) && ltb (getD m (i * slot) 0) slot)
+  where
+    go : (t : Bool) → Bytes (if t then take (getD m (i * slot) 0) (drop (i * slot + 1) m) else [])
+    go true = part-bytes m (getD m (i * slot) 0) (i * slot + 1) f
+    go false = λ j. omega arith
+
+-- ---- the bytes of a slot that holds b
+pub record Held (m : List ℕ) (i : ℕ) (b : List ℕ) : Type 0 where
+  pub inside : i * slot + slot ≤ length m
+  pub short : length b < slot
+  pub size : getD m (i * slot) 0 ≡ length b
+  pub each : (j : ℕ) → j < length b → getD m (i * slot + 1 + j) 0 ≡ getD b j 0
+
+part-at : (m : List ℕ) (n at : ℕ) (b : List ℕ) → take n (drop at m) ≡ b → (j : ℕ) → j < n → getD m (at + j) 0 ≡ getD b j 0
+part-at m n at b e j h = sym (getD-take n (drop at m) j 0 h ∙ getD-drop at m j 0) ∙ ap (λ r. getD r j 0) e
+
+pub held : (m : List ℕ) (i : ℕ) (b : List ℕ) → slot-body m i ≡ b → 0 < length b → Held m i b
+held m i b e s = go (leb (i * slot + slot) (length m)) refl (ltb (getD m (i * slot) 0) slot) refl
+  where
+    nothing : slot-body m i ≡ [] → Held m i b
+    nothing q = let z = ap length (sym q ∙ e) in absurd (omega arith)
+
+    go : (t : Bool) → leb (i * slot + slot) (length m) ≡ t → (u : Bool) → ltb (getD m (i * slot) 0) slot ≡ u → Held m i b
+    go false p u q = nothing (slot-cut m i (leb-false _ _ p))
+    go true p false q = nothing (slot-over m i (leb-true _ _ p) (ltb-false _ _ q))
+    go true p true q =
+        let h = leb-true (i * slot + slot) (length m) p in
+        let l = ltb-true (getD m (i * slot) 0) slot q in
+        let x : take (getD m (i * slot) 0) (drop (i * slot + 1) m) ≡ b = sym (slot-is m i (getD m (i * slot) 0) h refl l) ∙ e in
+        let y = simp (length-take, length-drop) at (ap length x) in
+        let n : getD m (i * slot) 0 ≡ length b = omega arith in
+        record { inside = h; short = omega arith; size = n; each = λ j k. part-at m (getD m (i * slot) 0) (i * slot + 1) b x j (omega arith) }
+
+-- the length byte and the body
+held-at : (m : List ℕ) (i : ℕ) (b : List ℕ) → Held m i b → (at k : ℕ) → at ≡ i * slot + k → k ≤ length b → getD m at 0 ≡ getD (length b ∷ b) k 0
+held-at m i b h at zero q l = let z : at ≡ i * slot = omega arith in ap (λ j. getD m j 0) z ∙ h .size
+held-at m i b h at (suc k) q l = let z : at ≡ i * slot + 1 + k = omega arith in ap (λ j. getD m j 0) z ∙ h .each k (omega arith)
+
+pub held-four : (m : List ℕ) (i : ℕ) (b : List ℕ) → Held m i b → (o : ℕ) → o + 3 ≤ length b → four-at m (i * slot + o) ≡ four-at (length b ∷ b) o
+unfolding four-at
+held-four m i b h o l =
+    let a0 = held-at m i b h (i * slot + o) o refl (omega arith) in
+    let a1 = held-at m i b h (i * slot + o + 1) (o + 1) (omega arith) (omega arith) in
+    let a2 = held-at m i b h (i * slot + o + 2) (o + 2) (omega arith) (omega arith) in
+    let a3 = held-at m i b h (i * slot + o + 3) (o + 3) (omega arith) (omega arith) in
+    rw (a0, a1, a2, a3)
+
+-- what is read as a site is its body
+pub site-held : (m : List ℕ) (i : ℕ) (x : Site) → Bytes m → site-in m i ≡ x → (x ≡ no-site → ⊥) → slot-body m i ≡ body x
+unfolding site-in site-of
+site-held m i x f e g = go (whole (site-read (slot-body m i))) refl e
+  where
+    go : (o : Option Site) → whole (site-read (slot-body m i)) ≡ o → or-else o no-site ≡ x → slot-body m i ≡ body x
+    go none p q = absurd (g (sym q))
+    go (some y) p q = sym (back (slot-body m i) (slot-bytes m i f) y p) ∙ ap body q
