@@ -114,11 +114,10 @@ any-run t f (suc k) i (suc x) h e = let z : suc i + x ≡ i + suc x = omega arit
 pub record Merged (f : ℕ → ℕ × Constraint) (n : ℕ) (g : ℕ → ℕ × Constraint) (m : ℕ) (all : Bool) (last x y : ℕ) : Type 0 where
   pub reached : y ≤ m
   pub risen : Risen (λ k. g k .0) y last
-  pub first : x ≡ 0 → (y ≡ 0) ⊎ (last < f x .0)
   pub sure : (all ≡ false → Ascends (λ k. g k .0) m) → Walked f n (run g 0 m) all x
 
 pub merged-none : (f : ℕ → ℕ × Constraint) (n : ℕ) (g : ℕ → ℕ × Constraint) (m : ℕ) → Merged f n g m true 0 0 0
-merged-none f n g m = record { reached = omega arith; risen = risen-none _ _; first = λ _. inl refl; sure = λ _. walked-none f n (run g 0 m) }
+merged-none f n g m = record { reached = omega arith; risen = risen-none _ _; sure = λ _. walked-none f n (run g 0 m) }
 
 module _ (f : ℕ → ℕ × Constraint) (n : ℕ) (g : ℕ → ℕ × Constraint) (m : ℕ) (all : Bool) (last x y site : ℕ) (w : Merged f n g m all last x y) (here : site ≡ f x .0) (l : x < n) (ahead : (y ≡ 0) ⊎ (last < site)) where
   passed : (k : ℕ) → k < y → g k .0 < site
@@ -132,7 +131,6 @@ module _ (f : ℕ → ℕ × Constraint) (n : ℕ) (g : ℕ → ℕ × Constrain
   merged-end h = record {
     reached = w .reached;
     risen = w .risen;
-    first = λ z. absurd (omega arith);
     sure = λ u. walked-missing f n (run g 0 m) all x l (w .sure (λ _. u refl)) (at-site none (look-none g m site (λ k j e. let z = passed k (omega arith) in omega arith)));
   }
 
@@ -142,7 +140,6 @@ module _ (f : ℕ → ℕ × Constraint) (n : ℕ) (g : ℕ → ℕ × Constrain
     merged-missing s = record {
       reached = w .reached;
       risen = w .risen;
-      first = λ z. absurd (omega arith);
       sure = λ u. walked-missing f n (run g 0 m) all x l (w .sure (λ _. u refl)) (at-site none (look-none g m site (λ k j d. apart (u refl) k j d (leb y k) refl)));
     }
       where
@@ -158,7 +155,6 @@ module _ (f : ℕ → ℕ × Constraint) (n : ℕ) (g : ℕ → ℕ × Constrain
     merged-same s d = record {
       reached = omega arith;
       risen = risen-more _ y last site (w .risen) (λ k j. let z = passed k j in omega arith) (sym e ∙ sym s);
-      first = λ z. absurd (omega arith);
       sure = λ u. walked-same f n (run g 0 m) all x l (w .sure u) (g y .1) (found s) d;
     }
 
@@ -167,11 +163,10 @@ module _ (f : ℕ → ℕ × Constraint) (n : ℕ) (g : ℕ → ℕ × Constrain
     merged-no s d = any-run (λ p. other-there (look (run g 0 m) (p .0)) (p .1)) f n 0 x l (let z : 0 + x ≡ x = omega arith in rw (z, found s, d))
 
     -- it is lower
-    pub merged-pass : there < site → last ≤ there → Merged f n g m all there x (y + 1)
-    merged-pass t s = record {
+    pub merged-pass : last ≤ there → Merged f n g m all there x (y + 1)
+    merged-pass s = record {
       reached = omega arith;
       risen = risen-more _ y last there (w .risen) (λ k j. omega (arith, w .risen .under k j)) (sym e);
-      first = λ _. inr (omega arith);
       sure = w .sure;
     }
 
@@ -187,7 +182,7 @@ pub beside-none : (ws : List ℕ) (a n b m : ℕ) → Beside ws a n b m true 0 (
 beside-none ws a n b m = record { x = 0; y = 0; at-p = omega arith; at-q = omega arith; merged = merged-none _ _ _ _ }
 
 module _ (ws : List ℕ) (a n b m : ℕ) (all : Bool) (last p q : ℕ) (w : Beside ws a n b m all last p q) where
-  module _ (l : p < a + 4 + 4 * n) (ahead : (p ≤ a + 4) ⊎ (last < getD ws p 0)) where
+  module _ (l : p < a + 4 + 4 * n) (ahead : (q ≤ b + 4) ⊎ (last < getD ws p 0)) where
     here : getD ws p 0 ≡ constrained-at ws a (w .x) .0
     here = site-here ws a (w .x) p (w .at-p)
 
@@ -195,7 +190,7 @@ module _ (ws : List ℕ) (a n b m : ℕ) (all : Bool) (last p q : ℕ) (w : Besi
     less = omega (arith, w .at-p)
 
     begun : (w .y ≡ 0) ⊎ (last < getD ws p 0)
-    begun = ⊎-elim (λ z. ⊎-elim (λ y. inl y) (λ y. inr (omega (arith, here))) (w .merged .first (omega (arith, w .at-p)))) (λ z. inr z) ahead
+    begun = ⊎-elim (λ z. inl (omega (arith, w .at-q))) (λ z. inr z) ahead
 
     next-p : p + 4 ≡ a + 4 + 4 * (w .x + 1)
     next-p = omega (arith, w .at-p)
@@ -203,7 +198,7 @@ module _ (ws : List ℕ) (a n b m : ℕ) (all : Bool) (last p q : ℕ) (w : Besi
     next-q : q + 4 ≡ b + 4 + 4 * (w .y + 1)
     next-q = omega (arith, w .at-q)
 
-    pub beside-end : b + 4 + 4 * m ≤ q → Beside ws a n b m false last (p + 4) q
+    beside-end : b + 4 + 4 * m ≤ q → Beside ws a n b m false last (p + 4) q
     beside-end h = record { x = w .x + 1; y = w .y; at-p = next-p; at-q = w .at-q; merged = merged-end _ _ _ _ _ _ _ _ _ (w .merged) here less begun (omega (arith, w .at-q)) }
 
     module _ (h : q < b + 4 + 4 * m) where
@@ -213,20 +208,20 @@ module _ (ws : List ℕ) (a n b m : ℕ) (all : Bool) (last p q : ℕ) (w : Besi
       room : w .y < m
       room = omega (arith, w .at-q)
 
-      pub beside-missing : getD ws p 0 < getD ws q 0 → Beside ws a n b m false last (p + 4) q
+      beside-missing : getD ws p 0 < getD ws q 0 → Beside ws a n b m false last (p + 4) q
       beside-missing s = record { x = w .x + 1; y = w .y; at-p = next-p; at-q = w .at-q; merged = merged-missing _ _ _ _ _ _ _ _ _ (w .merged) here less begun _ room there-q s }
 
-      pub beside-pass : getD ws q 0 < getD ws p 0 → last ≤ getD ws q 0 → Beside ws a n b m all (getD ws q 0) p (q + 4)
-      beside-pass t s = record { x = w .x; y = w .y + 1; at-p = w .at-p; at-q = next-q; merged = merged-pass _ _ _ _ _ _ _ _ _ (w .merged) here less begun _ room there-q t s }
+      beside-pass : last ≤ getD ws q 0 → Beside ws a n b m all (getD ws q 0) p (q + 4)
+      beside-pass s = record { x = w .x; y = w .y + 1; at-p = w .at-p; at-q = next-q; merged = merged-pass _ _ _ _ _ _ _ _ _ (w .merged) here less begun _ room there-q s }
 
       module _ (s : getD ws p 0 ≡ getD ws q 0) (r : Bool) (i : r ≡ same-constraint (constraint-at ws (p + 1)) (constraint-at ws (q + 1))) where
         compared : same-constraint (constrained-at ws a (w .x) .1) (constrained-at ws b (w .y) .1) ≡ r
         compared = sym (same-here ws a (w .x) p b (w .y) q (w .at-p) (w .at-q) r i)
 
-        pub beside-same : r ≡ true → Beside ws a n b m all (getD ws p 0) (p + 4) (q + 4)
+        beside-same : r ≡ true → Beside ws a n b m all (getD ws p 0) (p + 4) (q + 4)
         beside-same t = record { x = w .x + 1; y = w .y + 1; at-p = next-p; at-q = next-q; merged = merged-same _ _ _ _ _ _ _ _ _ (w .merged) here less begun _ room there-q s (compared ∙ t) }
 
-        pub beside-no : r ≡ false → differ (run (constrained-at ws a) 0 n) (run (constrained-at ws b) 0 m) ≡ true
+        beside-no : r ≡ false → differ (run (constrained-at ws a) 0 n) (run (constrained-at ws b) 0 m) ≡ true
         beside-no t = merged-no _ _ _ _ _ _ _ _ _ (w .merged) here less begun _ room there-q s (compared ∙ t)
 
   module _ (h : a + 4 + 4 * n ≤ p) (c : n ≡ count-at ws (a + 2)) (d : m ≡ count-at ws (b + 2)) where
@@ -250,3 +245,43 @@ module _ (ws : List ℕ) (a n b m : ℕ) (all : Bool) (last p q : ℕ) (w : Besi
         go : (t : Bool) → all ≡ t → o ≡ compare-with (kept-at ws a) (kept-at ws b)
         go true t = beside-all t o (f o e t)
         go false t = g o e t .0 ∙ beside-part t (g o e t .1)
+
+-- ---- the outer walk: before its first turn nothing is passed
+pub record Outer (ws : List ℕ) (a n b m : ℕ) (all : Bool) (last p q : ℕ) : Type 0 where
+  pub beside : Beside ws a n b m all last p q
+  pub fresh : p ≤ a + 4 → q ≤ b + 4
+
+pub outer-none : (ws : List ℕ) (a n b m : ℕ) → Outer ws a n b m true 0 (a + 4) (b + 4)
+outer-none ws a n b m = record { beside = beside-none ws a n b m; fresh = λ _. omega arith }
+
+-- ---- the inner walk: the site at p is looked for from q on
+pub record Inner (ws : List ℕ) (a n b m : ℕ) (all : Bool) (last p site q : ℕ) : Type 0 where
+  pub beside : Beside ws a n b m all last p q
+  pub less : p < a + 4 + 4 * n
+  pub here : site ≡ getD ws p 0
+  pub ahead : (q ≤ b + 4) ⊎ (last < getD ws p 0)
+
+module _ (ws : List ℕ) (a n b m : ℕ) (all : Bool) (last p q : ℕ) where
+  pub inner-start : Outer ws a n b m all last p q → p < a + 4 + 4 * n → (p ≤ a + 4) ⊎ (last < getD ws p 0) → Inner ws a n b m all last p (getD ws p 0) q
+  inner-start w l d = record { beside = w .beside; less = l; here = refl; ahead = ⊎-elim (λ z. inl (w .fresh z)) (λ z. inr z) d }
+
+  module _ (site : ℕ) (w : Inner ws a n b m all last p site q) where
+    onward : {t : Bool} {v r : ℕ} → Beside ws a n b m t v (p + 4) r → Outer ws a n b m t v (p + 4) r
+    onward v = record { beside = v; fresh = λ z. absurd (omega (arith, w .beside .at-p)) }
+
+    pub inner-end : b + 4 + 4 * m ≤ q → Outer ws a n b m false last (p + 4) q
+    inner-end h = onward (beside-end _ _ _ _ _ _ _ _ _ (w .beside) (w .less) (w .ahead) h)
+
+    module _ (h : q < b + 4 + 4 * m) where
+      pub inner-missing : site < getD ws q 0 → Outer ws a n b m false last (p + 4) q
+      inner-missing s = onward (beside-missing _ _ _ _ _ _ _ _ _ (w .beside) (w .less) (w .ahead) h (omega (arith, w .here)))
+
+      pub inner-pass : getD ws q 0 < site → last ≤ getD ws q 0 → Inner ws a n b m all (getD ws q 0) p site (q + 4)
+      inner-pass s l = record { beside = beside-pass _ _ _ _ _ _ _ _ _ (w .beside) (w .less) (w .ahead) h l; less = w .less; here = w .here; ahead = inr (omega (arith, w .here)) }
+
+      module _ (s : site ≡ getD ws q 0) (r : Bool) (i : r ≡ same-constraint (constraint-at ws (p + 1)) (constraint-at ws (q + 1))) where
+        pub inner-same : r ≡ true → Outer ws a n b m all site (p + 4) (q + 4)
+        inner-same t = onward (rw (w .here) (beside-same _ _ _ _ _ _ _ _ _ (w .beside) (w .less) (w .ahead) h (sym (w .here) ∙ s) r i t))
+
+        pub inner-no : r ≡ false → differ (run (constrained-at ws a) 0 n) (run (constrained-at ws b) 0 m) ≡ true
+        inner-no t = beside-no _ _ _ _ _ _ _ _ _ (w .beside) (w .less) (w .ahead) h (sym (w .here) ∙ s) r i t
