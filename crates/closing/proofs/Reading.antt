@@ -7,10 +7,11 @@ use Prim.Native.Nat.{ℕ, zero, suc, _+_, _*_, _/_, _%_, _≤_, _<_, min}
 use native.Mathlib.Omega.{arith}
 use native.Mathlib.Numerals.{add-one}
 use native.Mathlib.Decide.{ℕ-discrete}
-use lib.ListN.{length, getD, drop}
+use lib.ListN.{length, getD, drop, List·getD-eq-default}
 use lib.Seq.{drop-cons, drop-length}
 use lib.Dec.{eqb, ltb, leb}
-use borrow.Author.Tests.{eqb-true, eqb-false, ltb-true, leb-true, leb-false, eq-eqb, ne-eqb, lt-ltb, le-ltb, le-leb, lt-leb}
+use borrow.Author.Count.{below-more}
+use borrow.Author.Tests.{eqb-true, eqb-false, ltb-true, ltb-false, leb-true, leb-false, eq-eqb, ne-eqb, lt-ltb, le-ltb, le-leb, lt-leb}
 use Rattle.paper.specs.declared.Constraint.{Constraint}
 use Rattle.paper.specs.declared.Constraint.the-variants.{Variant, Struct, ConstBool, ConstInt, ConstPrim, Some}
 use Rattle.paper.specs.Words.{if_then_else_, or-else, first}
@@ -142,6 +143,25 @@ stray-in x xs h = stray-cons x xs ∙ rw (lt-leb max-sites x h)
 stray-none : stray [] ≡ none
 unfolding stray first
 stray-none = refl
+
+-- ---- where all numbers are low
+
+pub low-step : (xs : List ℕ) (i top r : ℕ) → ((k : ℕ) → k < i → getD xs k 0 ≤ top) → top ≤ r → getD xs i 0 ≤ r → (k : ℕ) → k < i + 1 → getD xs k 0 ≤ r
+low-step xs i top r h l m = below-more (λ k. getD xs k 0 ≤ r) i (λ k q. let z = h k q in omega arith) m
+
+pub low-all : (xs : List ℕ) (i r : ℕ) → length xs ≤ i → ((k : ℕ) → k < i → getD xs k 0 ≤ r) → (k : ℕ) → getD xs k 0 ≤ r
+low-all xs i r l h k = go (ltb k i) refl
+  where
+    go : (t : Bool) → ltb k i ≡ t → getD xs k 0 ≤ r
+    go true e = h k (ltb-true k i e)
+    go false e = let z = ltb-false k i e in let w = List·getD-eq-default xs 0 (let v : length xs ≤ k = omega arith in v) in omega arith
+
+low-clean : (xs : List ℕ) (r : ℕ) → ((k : ℕ) → getD xs k 0 ≤ r) → r < max-sites → stray xs ≡ none
+low-clean [] r h l = stray-none
+low-clean (x ∷ xs) r h l = let a = h 0 in stray-in x xs (omega arith) ∙ low-clean xs r (λ k. h (suc k)) l
+
+pub stray-low : (xs : List ℕ) (r : ℕ) → ((k : ℕ) → getD xs k 0 ≤ r) → r < max-sites → 0 ≡ or-else (stray xs) 0
+stray-low xs r h l = sym (ap (λ o. or-else o 0) (low-clean xs r h l))
 
 -- the loop: nothing stray before k
 pub stray-step : (xs : List ℕ) (k : ℕ) → k < length xs → getD xs k 0 < max-sites → stray xs ≡ stray (drop k xs) → stray xs ≡ stray (drop (k + 1) xs)

@@ -568,10 +568,30 @@ fn most(n: usize) -> u16
     if n < SITES { n as u16 } else { NEVER }
 }
 
-// The first number that is no site, or 0.
+fn greater(x: u16, y: u16) -> u16
+    ensures { λ r. ⌜ (x ≤ r) × (y ≤ r) ⌝ }
+{
+    if x < y { y } else { x }
+}
+
+// No number is above it. The loop looks at all of them, so that many are looked at at once.
+fn highest(xs: &[u16]) -> u16
+    ensures { λ r. ⌜ ((k : ℕ) → getD (now (xs .entry)) k 0 ≤ r) ⌝ }
+{
+    let mut top: u16 = 0;
+    for k in 0..xs.len() {
+        top = greater(top, xs[k]);
+    }
+    top
+}
+
+// The first number that is no site, or 0. There is hardly ever one.
 fn first_stray(xs: &[u16]) -> u16
     ensures { λ r. ⌜ r ≡ or-else (stray (now (xs .entry))) 0 ⌝ }
 {
+    if highest(xs) < NEVER {
+        return 0;
+    }
     for k in 0..xs.len() {
         let x = xs[k];
         if NEVER <= x {

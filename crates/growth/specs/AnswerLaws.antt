@@ -3,7 +3,7 @@ use mathlib.Core.Path.{_≡_, refl, sym, ap, _∙_}
 use mathlib.Core.Bool.{Bool, true, false}
 use mathlib.Core.Option.{Option, none, some}
 use mathlib.Core.List.{List, [], _∷_, _++_, map, append-nil}
-use Prim.Native.Nat.{ℕ, zero, suc, _+_, _-_, _*_, _<_, _≤_}
+use Prim.Native.Nat.{ℕ, zero, suc, _+_, _-_, _*_, _<_, _≤_, min}
 use native.Mathlib.Omega.{arith}
 use lib.ListN.{length, getD, drop, replicate, length-append, List·getD-append}
 use lib.Seq.{sets, ext-getD, drop-at, getD-at}
@@ -70,25 +70,25 @@ module _ (m : List ℕ) (n : ℕ) (tail : List ℕ) (k at s : ℕ) (c : Constrai
   answer-refused : (x : Children) (r : Refusal) → x ≡ refused-as r → grown m n tail k at s c ≡ refused r → Answer x tail
   answer-refused x r e g = (e ∙ ap (children-as s c) (sym g), ap (after-grown n tail k) (sym g), rw g tt)
 
-  pub answer-short : (x : Children) (a : ℕ) → x ≡ refused-as (TooManySites a at) → a ≡ n + k → length tail < max-sites → Answer x tail
+  pub answer-short : (x : Children) (a : ℕ) → x ≡ refused-as (TooManySites a at) → a ≡ n + k → length tail < min max-sites (k + max-fields) → Answer x tail
   unfolding grown
-  answer-short x a e q l = answer-refused x (TooManySites a at) e (rw (lt-leb max-sites (length tail) l, q))
+  answer-short x a e q l = answer-refused x (TooManySites a at) e (rw (lt-leb (min max-sites (k + max-fields)) (length tail) l, q))
 
-  module _ (l : max-sites ≤ length tail) where
+  module _ (l : min max-sites (k + max-fields) ≤ length tail) where
     pub answer-high : (x : Children) (a : ℕ) → x ≡ refused-as (TooManySites a at) → a ≡ n + k → 65536 ≤ a → Answer x tail
     unfolding grown
-    answer-high x a e q h = answer-refused x (TooManySites a at) e (rw (le-leb max-sites (length tail) l, ← q, le-ltb a 65536 h))
+    answer-high x a e q h = answer-refused x (TooManySites a at) e (rw (le-leb (min max-sites (k + max-fields)) (length tail) l, ← q, le-ltb a 65536 h))
 
     module _ (h : n + k < 65536) where
       pub answer-fields : (x : Children) (q : ℕ) → x ≡ refused-as (TooManyFields q at) → q ≡ child-count c → max-fields < q → Answer x tail
       unfolding grown
-      answer-fields x q e f g = answer-refused x (TooManyFields q at) e (rw (le-leb max-sites (length tail) l, lt-ltb (n + k) 65536 h, ← f, lt-leb q max-fields g))
+      answer-fields x q e f g = answer-refused x (TooManyFields q at) e (rw (le-leb (min max-sites (k + max-fields)) (length tail) l, lt-ltb (n + k) 65536 h, ← f, lt-leb q max-fields g))
 
       module _ (f : child-count c ≤ max-fields) where
         -- where the tail is long enough it is what paper's adding says
         pub grown-adds : grown m n tail k at s c ≡ add-all t at (children s c)
         unfolding grown
-        grown-adds = rw (le-leb max-sites (length tail) l, lt-ltb (n + k) 65536 h, le-leb (child-count c) max-fields f)
+        grown-adds = rw (le-leb (min max-sites (k + max-fields)) (length tail) l, lt-ltb (n + k) 65536 h, le-leb (child-count c) max-fields f)
 
         pub grown-length : (u : Sites) → grown m n tail k at s c ≡ done u → (n + k ≤ length u) × (length u < 65536)
         grown-length u e = let z = all-length t s c at u (sym grown-adds ∙ e) in let a = z .0 in let b = z .1 in (omega (arith, size), omega (arith, size))

@@ -104,6 +104,15 @@ module _ (t : Sites) (s : ℕ) (c : Constraint) where
       go none e = let z = news-longer q e in omega arith
       go (some i) e = let z = ap length (news-some q i e) in omega arith
 
+  news-few : (q : ℕ) → length (news t s c q) ≤ q
+  unfolding news
+  news-few zero = omega arith
+  news-few (suc q) = go (number-of t (child s c q)) refl (news-few q)
+    where
+      go : (o : Option ℕ) → number-of t (child s c q) ≡ o → length (news t s c q) ≤ q → length (news t s c (suc q)) ≤ suc q
+      go none e h = let z = news-longer q e in omega arith
+      go (some i) e h = let z = ap length (news-some q i e) in omega arith
+
   pub news-most : (q d : ℕ) → length (news t s c q) ≤ length (news t s c (q + d))
   news-most q zero = let e : q + 0 ≡ q = omega arith in rw e (omega arith)
   news-most q (suc d) = let e : q + suc d ≡ suc (q + d) = omega arith in let a = news-most q d in let b = news-more (q + d) in rw e (omega arith)
@@ -403,7 +412,14 @@ module _ (t : Sites) (n k s : ℕ) (c : Constraint) (of tail : List ℕ) (R : Re
                 go false e = let w = ltb-false f q e in absurd (z (let i : f ≡ q = omega arith in i))
 
     pub place-inside : getD of q 0 ≡ 65535 → j < length tail′
-    place-inside e = let a = place-room e in let b = R .long in let d = place-length t k s c tail tail′ now j q P in omega arith
+    place-inside e =
+        let a = place-room e in
+        let b = R .long in
+        let d = place-length t k s c tail tail′ now j q P in
+        let few = R .few in
+        let x = P .next in
+        let y = news-few t s c q in
+        omega arith
 
     pub next-new : (w : ℕ) (tail″ now′ : List ℕ) (j′ : ℕ) → getD of q 0 ≡ 65535 → Spelt (child s c q) w → tail″ ≡ set tail′ j w → now′ ≡ set now q (n + j) → j′ ≡ j + 1 → Placing t k s c tail tail″ now′ j′ (q + 1)
     next-new w tail″ now′ j′ e x a b d = rw (a, b, d) (place-new w e x)

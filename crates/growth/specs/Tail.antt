@@ -3,7 +3,7 @@ use mathlib.Core.Path.{_≡_}
 use mathlib.Core.Bool.{Bool, true, false, _&&_}
 use mathlib.Core.Option.{Option, none, some}
 use mathlib.Core.List.{List, [], _∷_, _++_, map}
-use Prim.Native.Nat.{ℕ, zero, suc, _+_, _-_, _*_, _/_, _%_, _<_, _≤_}
+use Prim.Native.Nat.{ℕ, zero, suc, _+_, _-_, _*_, _/_, _%_, _<_, _≤_, min}
 use lib.ListN.{length, getD, drop, set}
 use lib.Seq.{sets}
 use lib.Dec.{eqb, ltb, leb}
@@ -57,11 +57,11 @@ site-there m n tail x = if ltb x n then site-in m x else site-of-word (getD tail
 unfoldable pub table : List ℕ → ℕ → List ℕ → ℕ → Sites
 table m n tail k = sites-in m n ++ below k (λ i. site-of-word (getD tail i 0))
 
--- A tail without room for as many sites as a set may have, and a table that two bytes can't number, are refused as one that is full (a caller
--- that lends an array of that length and keeps to the limits meets neither). 7 for fields. Then the children of s under c are added, all or none.
+-- A tail without room for eight words more, or for as many sites as a set may have, and a table that two bytes can't number, are refused as one that
+-- is full (a caller that lends such an array and keeps to the limits meets neither). 7 for fields. Then the children of s under c are added, all or none.
 unfoldable pub grown : List ℕ → ℕ → List ℕ → ℕ → ℕ → ℕ → Constraint → Outcome Sites
 grown m n tail k at s c = do
-  _ ← demand (leb max-sites (length tail)) (TooManySites (n + k) at)
+  _ ← demand (leb (min max-sites (k + max-fields)) (length tail)) (TooManySites (n + k) at)
   _ ← demand (ltb (n + k) 65536) (TooManySites (n + k) at)
   _ ← demand (leb (child-count c) max-fields) (TooManyFields (child-count c) at)
   add-all (table m n tail k) at (children s c)
@@ -140,7 +140,7 @@ news t s c (suc q) = elim (number-of t (child s c q)) [ none ↦ news t s c q ++
 
 -- what the search starts with
 pub record Growing (n k s : ℕ) (c : Constraint) (tail : List ℕ) : Type 0 where
-  pub long : max-sites ≤ length tail
+  pub long : min max-sites (k + max-fields) ≤ length tail
   pub small : n + k < 65536
   pub few : child-count c ≤ max-fields
   pub known : s < n + k
@@ -152,7 +152,7 @@ pub record Ready (t : Sites) (n k : ℕ) (s : ℕ) (c : Constraint) (of tail : L
   pub size : length t ≡ n + k
   pub small : n + k < 65536
   pub room : length (news t s c (child-count c)) ≤ max-sites - (n + k)
-  pub long : max-sites ≤ length tail
+  pub long : min max-sites (k + max-fields) ≤ length tail
 
 -- the numbers by field, in the table with the first q, and 0 past them
 pub record Placed (t : Sites) (s : ℕ) (c : Constraint) (q : ℕ) (of : List ℕ) : Type 0 where

@@ -2,7 +2,7 @@
 // The lent memory is only read, so that a refused rule leaves it as it was.
 ghost use mathlib.Core.Path.{_≡_};
 ghost use mathlib.Core.List.{_++_, map};
-ghost use Prim.Native.Nat.{_+_, _-_, _≤_, _<_};
+ghost use Prim.Native.Nat.{_+_, _-_, _≤_, _<_, min};
 ghost use lib.ListN.{length};
 ghost use lib.Seq.{sets};
 ghost use Rattle.paper.specs.Words.{any, or-else};
@@ -377,7 +377,7 @@ pub fn add_children(
         × (holds (now (m .entry)) n (now (tail .exit)) (grown (now (m .entry)) n (now (tail .entry)) k at s c)) ⌝ }
 {
     let total = size(n) + size(k);
-    if tail.len() < SITES {
+    if tail.len() < needed(k) {
         return refuse(Refusal::TooManySites {
             asked: total as u32,
             at,
@@ -406,6 +406,17 @@ pub fn add_children(
         return refuse(Refusal::Unknown { site: s });
     }
     grow(m, n, tail, k, at, s, c)
+}
+
+// How long a tail with k words in use has to be: eight more may be added, and never more than a set has sites.
+fn needed(k: u16) -> usize
+    ensures { λ r. ⌜ r ≡ min max-sites (k + max-fields) ⌝ }
+{
+    let room = size(k) + FIELDS;
+    if SITES < room {
+        return SITES;
+    }
+    room
 }
 
 // How many sites there can be yet.

@@ -113,6 +113,25 @@ pub item-length : (ws : List ℕ) (k : ℕ) (i : Item) → length (put-item ws k
 item-length ws k (Is s c) = words-length ws (4 * k) s (head c) (second c) (third c)
 item-length ws k (Equal a b) = words-length ws (4 * k) (65536 + a) b 0 0
 
+run-length : {A : Type 0} (f : ℕ → A) (i n : ℕ) → length (run f i n) ≡ n
+unfolding run
+run-length f i zero = refl
+run-length f i (suc n) = ap suc (run-length f (suc i) n)
+
+run-at : {A : Type 0} (f : ℕ → A) (i n j : ℕ) (d : A) → j < n → getD (run f i n) j d ≡ f (i + j)
+unfolding run
+run-at f i zero j d h = absurd (omega arith)
+run-at f i (suc n) zero d h = let e : i + 0 ≡ i = omega arith in rw e
+run-at f i (suc n) (suc j) d h = let e : i + suc j ≡ suc i + j = omega arith in rw e (run-at f (suc i) n j d (omega arith))
+
+pub items-length : (ws : List ℕ) (n : ℕ) → length (items-in ws n) ≡ n
+unfolding items-in
+items-length ws n = run-length (item-at ws) 0 n
+
+pub items-read : (ws : List ℕ) (n i : ℕ) (d : Item) → i < n → getD (items-in ws n) i d ≡ item-at ws i
+unfolding items-in
+items-read ws n i d h = let e : 0 + i ≡ i = omega arith in rw e at (run-at (item-at ws) 0 n i d h)
+
 pub no-items : (ws : List ℕ) → items-in ws 0 ≡ []
 unfolding items-in run
 no-items ws = refl

@@ -2,9 +2,9 @@
 use mathlib.Core.Path.{_≡_, refl, ap}
 use mathlib.Core.Option.{Option, none, some}
 use mathlib.Core.List.{List, [], _∷_}
-use Prim.Native.Nat.{ℕ, _<_}
+use Prim.Native.Nat.{ℕ, _+_, _≤_, _<_}
 use native.Mathlib.Omega.{arith}
-use lib.ListN.{length}
+use lib.ListN.{length, length-append}
 use Rattle.paper.specs.declared.Constraint.{Constraint}
 use Rattle.paper.specs.declared.Refusal.{Refusal}
 use Rattle.paper.specs.Words.{or-else}
@@ -28,6 +28,23 @@ pub number-all : (t : Sites) (at : ℕ) (l : List Site) (u : Sites) → add-all 
 unfolding add-all
 number-all t at [] u e x n q = let z = done-once e in rw (← z) q
 number-all t at (s ∷ l) u e x n q = let y = bind-done (add t at s) (λ a. add-all (a .sites) at l) u e in number-all (y .0 .sites) at l u (y .2) x n (number-add t at s (y .0) (y .1) x n q)
+
+length-add : (t : Sites) (at : ℕ) (s : Site) (a : Added) → add t at s ≡ done a → length (a .sites) ≤ length t + 1
+length-add t at s a e = go (add-done t at s a e .how)
+  where
+    go : {u : Sites} {k : ℕ} → Placed t s u k → length u ≤ length t + 1
+    go (present h) = omega arith
+    go (next r h) = let z = length-append t (s ∷ []) in omega arith
+
+-- each adds one site at the most
+pub length-all : (t : Sites) (at : ℕ) (l : List Site) (u : Sites) → add-all t at l ≡ done u → length u ≤ length t + length l
+unfolding add-all
+length-all t at [] u e = let z = ap length (done-once e) in omega arith
+length-all t at (s ∷ l) u e =
+    let y = bind-done (add t at s) (λ a. add-all (a .sites) at l) u e in
+    let z = length-all (y .0 .sites) at l u (y .2) in
+    let w = length-add t at s (y .0) (y .1) in
+    omega arith
 
 number-has : (t : Sites) (s : Site) → Has t s → number-of t s ≡ some (or-else (number-of t s) 0)
 number-has t s h = go (number-of t s) (numbered t s)

@@ -164,6 +164,7 @@ module _ (m : List ℕ) (n : ℕ) (tail : List ℕ) (t : ℕ) (sites rows words 
             let q = long2 in
             let hf = W .few in
             let tw = W .twice in
+            let sh = W .short in
             let ev = X .even in
             let la = length-append (l .equalities) ((a, b) ∷ []) in
             rw (lt-ltb a (length (l .sites)) (omega arith), lt-ltb b (length (l .sites)) (omega arith)) (
@@ -181,6 +182,7 @@ module _ (m : List ℕ) (n : ℕ) (tail : List ℕ) (t : ℕ) (sites rows words 
                 };
                 few = omega arith;
                 twice = omega arith;
+                short = omega arith;
                 older = λ k g. let w = W .older k g in omega arith;
                 numbered = W .numbered;
                 named = λ x g. named x g;

@@ -34,7 +34,7 @@ use Rattle.items.specs.Showing.{put-shown, puts-entry, puts-few, StandsA
 use Rattle.items.specs.Way.{Way, Room, Turn, Worded, Filled}
 use Rattle.items.specs.declared.Progress.{Progress}
 use Rattle.items.proofs.Rows.{worded-shape, worded-older}
-use Rattle.items.proofs.Numbering.{number-all, number-child, children-refused, children-to}
+use Rattle.items.proofs.Numbering.{length-all, number-all, number-child, children-refused, children-to}
 
 -- ---- what holds of a constrained site and its row
 
@@ -64,12 +64,13 @@ module _ (m : List ℕ) (n : ℕ) (tail : List ℕ) (t : ℕ) (sites rows words 
 
   way-made : i ≤ max-items → table m n tail t ≡ l .sites → n + t ≤ max-sites → shown sites rows words held ≡ l .constraints
       → ((k : ℕ) → k < held → Good i (l .sites) words kids (getD sites k 0) (getD rows k 0)) → eqs-in (take equal eqs) ≡ l .equalities → equal ≡ 2 * length (l .equalities) → equal ≤ length eqs
-      → ((k : ℕ) → k < equal → getD eqs k 0 < length (l .sites)) → held ≤ i → equal ≤ 2 * i → ((x : ℕ) → List·Memᴰ x (l .named) → x < length (l .sites))
+      → ((k : ℕ) → k < equal → getD eqs k 0 < length (l .sites)) → held ≤ i → equal ≤ 2 * i → t ≤ max-fields * i → ((x : ℕ) → List·Memᴰ x (l .named) → x < length (l .sites))
       → Way m n tail t sites rows words kids held eqs equal i l
-  way-made h a b d g e f j k p q r = record {
+  way-made h a b d g e f j k p q w r = record {
     shown = record { sites-are = a; fits = b; constraints-are = d; row = λ x y. row-from h x (g x y); equalities-are = e; even = f; equal-fits = j; equal-known = k };
     few = p;
     twice = q;
+    short = w;
     older = λ x y. g x y .older;
     numbered = λ x y. g x y .numbers;
     named = r;
@@ -88,10 +89,12 @@ module _ (m : List ℕ) (n : ℕ) (tail : List ℕ) (t : ℕ) (sites rows words 
         let S = W .shown in
         let a = W .few in
         let b = W .twice in
+        let d = W .short in
         record {
           shown = record { sites-are = S .sites-are; fits = S .fits; constraints-are = S .constraints-are; row = λ k p. let R = S .row k p in record { item = R .item; range = R .range; few = R .few; known = R .known; child = R .child; below = R .below }; equalities-are = S .equalities-are; even = S .even; equal-fits = S .equal-fits; equal-known = S .equal-known };
           few = omega arith;
           twice = omega arith;
+          short = omega arith;
           older = λ k p. let z = W .older k p in omega arith;
           numbered = W .numbered;
           named = λ x p. go x p;
@@ -105,7 +108,7 @@ module _ (m : List ℕ) (n : ℕ) (tail : List ℕ) (t : ℕ) (sites rows words 
 
 module _ (m : List ℕ) (n : ℕ) (tail : List ℕ) (t : ℕ) (sites rows : List ℕ) (held : ℕ) (words kids : List ℕ) (equal i s : ℕ) (c : Constraint) (R : Room n t held i tail sites rows words kids) (few : child-count c ≤ max-fields) where
   adds : grown m n tail t i s c ≡ add-all (table m n tail t) i (children s c)
-  adds = let a = R .fits in grown-adds m n tail t i s c (R .tail-long) (omega arith) few
+  adds = let a = R .fits in let b = R .short in let d = R .item in let e = R .tail-long in grown-adds m n tail t i s c (omega arith) (omega arith) few
 
   -- refused: a table that can't grow
   pub constrain-refused : (g : Children) (why : Refusal) (r : Progress) → g ≡ children-as s c (grown m n tail t i s c) → g .outcome ≡ given.Refused why → r .answer ≡ answer.Refused why
@@ -127,6 +130,11 @@ module _ (m : List ℕ) (n : ℕ) (tail : List ℕ) (t : ℕ) (sites rows : List
 
     lengths : (n + t ≤ length u) × (length u ≤ max-sites)
     lengths = let z = all-length (table m n tail t) s c i u added in let a = z .0 in let b = z .1 in let d = table-length m n tail t in let e = R .fits in (omega arith, omega arith)
+
+    -- eight more at the most
+    eight-more : length u ≤ n + t + max-fields
+    unfolding children
+    eight-more = let z = length-all (table m n tail t) i (children s c) u added in let y = length-below (child-count c) (child s c) in let d = table-length m n tail t in omega arith
 
     pub total-low : n ≤ total
     total-low = let z = lengths .0 in let e = grew .2 in omega arith
@@ -205,6 +213,8 @@ module _ (m : List ℕ) (n : ℕ) (tail : List ℕ) (t : ℕ) (sites rows : List
           let item = R .item in
           let held-few = W .few in
           let eq-few = W .twice in
+          let short = W .short in
+          let eight = eight-more in
           let lo = lengths .0 in
           let hi = lengths .1 in
           let pf = puts-few sites rows held s i sites′ rows′ more P in
@@ -217,7 +227,7 @@ module _ (m : List ℕ) (n : ℕ) (tail : List ℕ) (t : ℕ) (sites rows : List
                 (λ k h. goods eqs l W k (puts-entry sites rows held s i sites′ rows′ more P k h))
                 (S .equalities-are) (S .even) (S .equal-fits)
                 (λ k h. let z = S .equal-known k h in omega arith)
-                (omega arith) (omega arith) (λ x p. named eqs l W x p)),
+                (omega arith) (omega arith) (omega arith) (λ x p. named eqs l W x p)),
           )
         where
           goods : (eqs : List ℕ) (l : Loading) → Way m n tail t sites rows words kids held eqs equal i l → (k : ℕ) → ((getD sites′ k 0 ≡ s) × (getD rows′ k 0 ≡ i)) ⊎ StandsAt sites rows held (getD sites′ k 0) (getD rows′ k 0) → Good (i + 1) u words′ kids′ (getD sites′ k 0) (getD rows′ k 0)

@@ -2,32 +2,32 @@
 use mathlib.Core.Path.{_≡_, refl, sym, _∙_, ap}
 use mathlib.Core.Bool.{Bool, true, false, _&&_}
 use mathlib.Core.Option.{Option, none, some}
-use mathlib.Core.List.{List, [], _∷_, _++_, map, append-nil, List·Memᴰ, List·Memᴰ·tail}
-use Prim.Native.Nat.{ℕ, suc, _+_, _*_, _≤_, _<_}
+use mathlib.Core.List.{List, [], _∷_, _++_, append-nil, List·Memᴰ, List·Memᴰ·tail}
+use Prim.Native.Nat.{ℕ, suc, _+_, _*_, _≤_, _<_, min}
 use native.Mathlib.Omega.{arith}
 use native.Mathlib.Numerals.{add-one}
-use lib.ListN.{length, getD, take, drop, length-take, length-map, List·getD-map, drop-of-length-le, take-append-drop}
-use lib.Seq.{take-suc, drop-cons, take-all, getD-take}
+use lib.ListN.{length, getD, take, drop, drop-of-length-le, take-append-drop}
+use lib.Seq.{take-suc, drop-cons, take-all}
 use lib.Dec.{leb}
 use borrow.Author.Tests.{leb-true}
 use Rattle.paper.specs.declared.Constraint.{Constraint}
 use Rattle.paper.specs.declared.Constraint.the-variants.{Variant}
-use Rattle.paper.specs.declared.Entry.{Entry}
 use Rattle.paper.specs.declared.Item.{Item}
 use Rattle.paper.specs.declared.Item.the-variants.{Is, Equal}
 use Rattle.paper.specs.declared.Refusal.{Refusal}
 use Rattle.paper.specs.declared.Refusal.the-variants.{Unknown, Unreachable, TooManyFields}
-use Rattle.paper.specs.declared.Rule.{Rule}
 use Rattle.paper.specs.Words.{below, look}
 use Rattle.paper.specs.Numbers.{max-sites, max-fields, max-items, Outcome, done, refused, _>>=_}
 use Rattle.paper.specs.Outcomes.{done-once, bind-done, demand-done}
 use Rattle.paper.specs.Sites.{fields, known, same-constraint, children, add-all}
-use Rattle.paper.specs.Loading.{Loading, written, constrain, load-item, load-items}
+use Rattle.paper.specs.Loading.{Loading, constrain, load-item, load-items}
 use Rattle.paper.specs.Fair.{no-items}
 use Rattle.sites.specs.Slots.{sites-in}
 use Rattle.growth.specs.Tail.{table}
 use Rattle.closing.specs.Holding.{eqs-in}
 use Rattle.closing.specs.Growing.{Inside}
+use Rattle.handed.specs.Items.{item-at, items-in as held-items}
+use Rattle.handed.proofs.Laws.{items-length, items-read}
 use Rattle.holders.specs.declared.Answer.the-variants as answer
 use Rattle.items.specs.Shown.{shown, roomy, AsLong}
 use Rattle.items.specs.Way.{names, Way, Room, Space, Turn, Walk}
@@ -35,14 +35,11 @@ use Rattle.items.specs.declared.Progress.{Progress}
 
 -- ---- the items of a rule
 
-abbrev no-entry : Entry
-no-entry = record { item = Is 0 (Variant 0 0 0) }
+pub items-long : (ws : List ℕ) (n : ℕ) → n ≤ max-items → length (held-items ws (min n max-items)) ≡ n
+items-long ws n h = let a = items-length ws (min n max-items) in omega arith
 
-pub items-long : (r : Rule) → length (r .entries) ≡ max-items → r .count ≤ max-items → length (written r .items) ≡ r .count
-items-long r e h = let a = length-take (r .count) (map (λ x. x .item) (r .entries)) in let b = length-map (r .entries) (λ x. x .item) in omega arith
-
-pub item-is : (r : Rule) (i : ℕ) → i < r .count → getD (written r .items) i (Is 0 (Variant 0 0 0)) ≡ getD (r .entries) i no-entry .item
-item-is r i h = getD-take (r .count) (map (λ x. x .item) (r .entries)) i (Is 0 (Variant 0 0 0)) h ∙ List·getD-map (λ x. x .item) (r .entries) i no-entry
+pub item-is : (ws : List ℕ) (n i : ℕ) (it : Item) → n ≤ max-items → i < n → it ≡ item-at ws i → getD (held-items ws (min n max-items)) i (Is 0 (Variant 0 0 0)) ≡ it
+item-is ws n i it h l e = items-read ws (min n max-items) i (Is 0 (Variant 0 0 0)) (omega arith) ∙ sym e
 
 -- ---- names
 
@@ -84,7 +81,7 @@ item-named l i (Equal a b) l′ e =
 -- ---- room
 
 pub record Long (tail sites rows words kids eqs : List ℕ) : Type 0 where
-  pub tail-long : max-sites ≤ length tail
+  pub tail-long : 8 * max-items ≤ length tail
   pub sites-long : max-items ≤ length sites
   pub rows-long : max-items ≤ length rows
   pub words-long : 3 * max-items ≤ length words
@@ -98,13 +95,13 @@ both false t e = let z : _≡_ {A = ℕ} 0 1 = cc in absurd (omega arith)
 pub long-of : (tail sites rows words kids eqs : List ℕ) → roomy tail sites rows words kids eqs ≡ true → Long tail sites rows words kids eqs
 unfolding roomy
 long-of tail sites rows words kids eqs e =
-    let a = both (leb max-sites (length tail)) _ e in
+    let a = both (leb (8 * max-items) (length tail)) _ e in
     let b = both (leb max-items (length sites)) _ (a .1) in
     let d = both (leb max-items (length rows)) _ (b .1) in
     let f = both (leb (3 * max-items) (length words)) _ (d .1) in
     let g = both (leb (8 * max-items) (length kids)) _ (f .1) in
     record {
-      tail-long = leb-true max-sites (length tail) (a .0);
+      tail-long = leb-true (8 * max-items) (length tail) (a .0);
       sites-long = leb-true max-items (length sites) (b .0);
       rows-long = leb-true max-items (length rows) (d .0);
       words-long = leb-true (3 * max-items) (length words) (f .0);
@@ -128,6 +125,7 @@ walking-none m n items tail sites rows words kids eqs h = record {
     shown = record { sites-are = append-nil (sites-in m n); fits = omega arith; constraints-are = refl; row = λ k q. absurd (omega arith); equalities-are = refl; even = refl; equal-fits = omega arith; equal-known = λ k q. absurd (omega arith) };
     few = omega arith;
     twice = omega arith;
+    short = omega arith;
     older = λ k q. absurd (omega arith);
     numbered = λ k q. absurd (omega arith);
     named = λ x q. elim q [ ];
@@ -139,20 +137,21 @@ walking-none m n items tail sites rows words kids eqs h = record {
 module _ (m : List ℕ) (n : ℕ) (items : List Item) (tail : List ℕ) (t : ℕ) (sites rows words kids : List ℕ) (held : ℕ) (eqs : List ℕ) (equal i : ℕ) (X : Walking m n items tail t sites rows words kids held eqs equal i) where
   pub room-of : Long tail sites rows words kids eqs → i < max-items → Room n t held i tail sites rows words kids × Space equal i eqs
   room-of L h = (
-    record { item = h; few = X .way .few; fits = X .way .shown .fits; tail-long = L .tail-long; sites-long = L .sites-long; rows-long = L .rows-long; words-long = L .words-long; kids-long = L .kids-long },
+    record { item = h; few = X .way .few; fits = X .way .shown .fits; short = X .way .short; tail-long = L .tail-long; sites-long = L .sites-long; rows-long = L .rows-long; words-long = L .words-long; kids-long = L .kids-long },
     record { item = h; twice = X .way .twice; eqs-long = L .eqs-long },
   )
 
   -- all items are taken
-  pub walking-done : (r : Progress) → length items ≤ i → i ≤ max-items → r .answer ≡ answer.Fine → r .tail ≡ t → r .held ≡ held → r .equal ≡ equal
-      → Walk m n tail sites rows words kids eqs r items (load-items (no-items (sites-in m n)) 0 items)
+  pub walking-done : (r : Progress) (count : ℕ) → length items ≤ i → i ≤ count → r .answer ≡ answer.Fine → r .tail ≡ t → r .held ≡ held → r .equal ≡ equal
+      → Walk m n tail sites rows words kids eqs r count items (load-items (no-items (sites-in m n)) 0 items)
   unfolding load-items
-  walking-done r h k e1 e2 e3 e4 =
+  walking-done r count h k e1 e2 e3 e4 =
       let W = X .way in
       let a = W .few in
       let b = W .twice in
+      let f = W .short in
       let d : load-items (no-items (sites-in m n)) 0 items ≡ done (X .l) = sym (X .left) ∙ ap (load-items (X .l) i) (drop-of-length-le items h) in
-      rw d (e1, (rw (e2, e3, e4) (record { shown = W .shown; few = omega arith; twice = omega arith; older = λ x q. let z = W .older x q in omega arith; numbered = W .numbered; named = W .named }), X .so-far ∙ ap (λ x. names x []) (take-all i items h)))
+      rw d (e1, (rw (e2, e3, e4) (record { shown = W .shown; few = omega arith; twice = omega arith; short = omega arith; older = λ x q. let z = W .older x q in omega arith; numbered = W .numbered; named = W .named }), X .so-far ∙ ap (λ x. names x []) (take-all i items h)))
 
   module _ (it : Item) (h : i < length items) (ei : getD items i (Is 0 (Variant 0 0 0)) ≡ it) (tail′ sites′ rows′ words′ kids′ eqs′ : List ℕ) (r : Progress)
       (T : (l : Loading) → Way m n tail t sites rows words kids held eqs equal i l → Turn m n tail′ sites′ rows′ words′ kids′ eqs′ r i (load-item l i it)) where
@@ -161,10 +160,10 @@ module _ (m : List ℕ) (n : ℕ) (items : List Item) (tail : List ℕ) (t : ℕ
     next = sym (X .left) ∙ ap (load-items (X .l) i) (drop-cons items i (Is 0 (Variant 0 0 0)) h) ∙ ap (λ x. load-item (X .l) i x >>= λ l′. load-items l′ (suc i) (drop (suc i) items)) ei
 
     -- one is refused
-    pub walking-stop : (why : Refusal) → r .answer ≡ answer.Refused why → Walk m n tail′ sites′ rows′ words′ kids′ eqs′ r items (load-items (no-items (sites-in m n)) 0 items)
-    walking-stop why e = rw next (go (load-item (X .l) i it) (T (X .l) (X .way)))
+    pub walking-stop : (why : Refusal) (count : ℕ) → r .answer ≡ answer.Refused why → Walk m n tail′ sites′ rows′ words′ kids′ eqs′ r count items (load-items (no-items (sites-in m n)) 0 items)
+    walking-stop why count e = rw next (go (load-item (X .l) i it) (T (X .l) (X .way)))
       where
-        go : (o : Outcome Loading) → Turn m n tail′ sites′ rows′ words′ kids′ eqs′ r i o → Walk m n tail′ sites′ rows′ words′ kids′ eqs′ r items (o >>= λ l′. load-items l′ (suc i) (drop (suc i) items))
+        go : (o : Outcome Loading) → Turn m n tail′ sites′ rows′ words′ kids′ eqs′ r i o → Walk m n tail′ sites′ rows′ words′ kids′ eqs′ r count items (o >>= λ l′. load-items l′ (suc i) (drop (suc i) items))
         go (done l′) q = let a = q .0 in let z : _≡_ {A = ℕ} 0 1 = cc in absurd (omega arith)
         go (refused w) q = q
 
@@ -182,10 +181,9 @@ module _ (m : List ℕ) (n : ℕ) (items : List Item) (tail : List ℕ) (t : ℕ
 
 -- ---- its invariant
 
-pub record WalkTo (m : List ℕ) (n : ℕ) (tail₀ sites₀ rows₀ words₀ kids₀ eqs₀ : List ℕ) (rule : Rule) (count : ℕ) (tail sites rows words kids eqs : List ℕ) (t held equal i : ℕ) : Type 0 where
+pub record WalkTo (m : List ℕ) (n : ℕ) (tail₀ sites₀ rows₀ words₀ kids₀ eqs₀ : List ℕ) (ws : List ℕ) (count : ℕ) (tail sites rows words kids eqs : List ℕ) (t held equal i : ℕ) : Type 0 where
   pub within : i ≤ count
-  pub count-is : count ≡ rule .count
-  pub walking : Walking m n (written rule .items) tail t sites rows words kids held eqs equal i
+  pub walking : Walking m n (held-items ws (min count max-items)) tail t sites rows words kids held eqs equal i
   pub long : AsLong tail₀ sites₀ rows₀ words₀ kids₀ eqs₀ tail sites rows words kids eqs
   pub inside : Inside kids₀ → Inside kids
 

@@ -6,12 +6,12 @@ use Prim.Native.Nat.{ℕ, _+_, _*_, _<_, _≤_}
 use lib.ListN.{length, getD, take}
 use lib.Dec.{leb}
 use Rattle.paper.specs.declared.Constraint.{Constraint}
-use Rattle.paper.specs.declared.Rule.{Rule}
+use Rattle.paper.specs.declared.Item.{Item}
 use Rattle.paper.specs.declared.Refusal.the-variants.{TooManySites, TooManyItems}
 use Rattle.paper.specs.Words.{below}
 use Rattle.paper.specs.Numbers.{max-sites, max-fields, max-items, Outcome, done, refused, _>>=_, demand}
 use Rattle.paper.specs.Sites.{child-count, child-number}
-use Rattle.paper.specs.Loading.{Written, written, Constraints, Loading, load-items, hanging, no-hanging}
+use Rattle.paper.specs.Loading.{Constraints, Loading, load-items, hanging, no-hanging}
 use Rattle.paper.specs.Fair.{no-items}
 use Rattle.kept.specs.Packing.{InRange}
 use Rattle.sites.specs.Slots.{sites-in}
@@ -45,17 +45,17 @@ pub record Shown (m : List ℕ) (n : ℕ) (tail : List ℕ) (t : ℕ) (sites row
   pub equal-fits : equal ≤ length eqs
   pub equal-known : (i : ℕ) → i < equal → getD eqs i 0 < length (l .sites)
 
--- Lent lists of these lengths are never too short.
+-- Lent lists of these lengths are never too short: an item adds eight children at the most.
 unfoldable pub roomy : List ℕ → List ℕ → List ℕ → List ℕ → List ℕ → List ℕ → Bool
 roomy tail sites rows words kids eqs =
-    leb max-sites (length tail) && (leb max-items (length sites) && (leb max-items (length rows) && (leb (3 * max-items) (length words) && (leb (8 * max-items) (length kids) && leb (2 * max-items) (length eqs)))))
+    leb (8 * max-items) (length tail) && (leb max-items (length sites) && (leb max-items (length rows) && (leb (3 * max-items) (length words) && (leb (8 * max-items) (length kids) && leb (2 * max-items) (length eqs)))))
 
 -- "items as written .. Then 5": a table that passes the numbers, or lists that are too short, are refused first
-unfoldable pub items-in : Bool → List ℕ → ℕ → Rule → Outcome Loading
-items-in room m n r = do
-  _ ← demand (leb n max-sites) (TooManySites n (r .count))
-  _ ← demand (room && leb (r .count) max-items) (TooManyItems (r .count))
-  l ← load-items (no-items (sites-in m n)) 0 (written r .items)
+unfoldable pub items-in : Bool → List ℕ → ℕ → ℕ → List Item → Outcome Loading
+items-in room m n count items = do
+  _ ← demand (leb n max-sites) (TooManySites n count)
+  _ ← demand (room && leb count max-items) (TooManyItems count)
+  l ← load-items (no-items (sites-in m n)) 0 items
   _ ← no-hanging (hanging l)
   done l
 
@@ -63,6 +63,10 @@ items-in room m n r = do
 abbrev pub Told : List ℕ → ℕ → List ℕ → List ℕ → List ℕ → List ℕ → List ℕ → List ℕ → Progress → Outcome Loading → Type 0
 Told m n tail sites rows words kids eqs r (done l) = (r .answer ≡ answer.Fine) × Shown m n tail (r .tail) sites rows words kids (r .held) eqs (r .equal) l
 Told m n tail sites rows words kids eqs r (refused e) = r .answer ≡ answer.Refused e
+
+-- where the answer is fine, the row of each constrained site is that of one of `count` items
+pub record Rowed (rows : List ℕ) (count : ℕ) (r : Progress) : Type 0 where
+  pub low : r .answer ≡ answer.Fine → (i : ℕ) → i < r .held → getD rows i 0 < count
 
 -- the lent lists are as long as before
 pub record AsLong (tail sites rows words kids eqs tail′ sites′ rows′ words′ kids′ eqs′ : List ℕ) : Type 0 where

@@ -28,6 +28,7 @@ pub record Way (m : List ℕ) (n : ℕ) (tail : List ℕ) (t : ℕ) (sites rows 
   pub shown : Shown m n tail t sites rows words kids held eqs equal l
   pub few : held ≤ i
   pub twice : equal ≤ 2 * i
+  pub short : t ≤ max-fields * i
   pub older : (k : ℕ) → k < held → getD rows k 0 < i
   pub numbered : (k : ℕ) → k < held → (f : ℕ) → f < child-count (shape-in words (getD rows k 0)) → number-of (l .sites) (child (getD sites k 0) (shape-in words (getD rows k 0)) f) ≡ some (kid-in kids (getD rows k 0) f)
   pub named : (x : ℕ) → List·Memᴰ x (l .named) → x < length (l .sites)
@@ -37,7 +38,8 @@ pub record Room (n t held i : ℕ) (tail sites rows words kids : List ℕ) : Typ
   pub item : i < max-items
   pub few : held ≤ i
   pub fits : n + t ≤ max-sites
-  pub tail-long : max-sites ≤ length tail
+  pub short : t ≤ max-fields * i
+  pub tail-long : 8 * max-items ≤ length tail
   pub sites-long : max-items ≤ length sites
   pub rows-long : max-items ≤ length rows
   pub words-long : 3 * max-items ≤ length words
@@ -54,10 +56,10 @@ abbrev pub Turn : List ℕ → ℕ → List ℕ → List ℕ → List ℕ → Li
 Turn m n tail sites rows words kids eqs r i (done l) = (r .answer ≡ answer.Fine) × Way m n tail (r .tail) sites rows words kids (r .held) eqs (r .equal) (i + 1) l
 Turn m n tail sites rows words kids eqs r i (refused e) = r .answer ≡ answer.Refused e
 
--- all items were taken, and l names what they name; or one was refused
-abbrev pub Walk : List ℕ → ℕ → List ℕ → List ℕ → List ℕ → List ℕ → List ℕ → List ℕ → Progress → List Item → Outcome Loading → Type 0
-Walk m n tail sites rows words kids eqs r items (done l) = (r .answer ≡ answer.Fine) × (Way m n tail (r .tail) sites rows words kids (r .held) eqs (r .equal) max-items l × (l .named ≡ names items []))
-Walk m n tail sites rows words kids eqs r items (refused e) = r .answer ≡ answer.Refused e
+-- all `count` items were taken, and l names what they name; or one was refused
+abbrev pub Walk : List ℕ → ℕ → List ℕ → List ℕ → List ℕ → List ℕ → List ℕ → List ℕ → Progress → ℕ → List Item → Outcome Loading → Type 0
+Walk m n tail sites rows words kids eqs r count items (done l) = (r .answer ≡ answer.Fine) × (Way m n tail (r .tail) sites rows words kids (r .held) eqs (r .equal) count l × (l .named ≡ names items []))
+Walk m n tail sites rows words kids eqs r count items (refused e) = r .answer ≡ answer.Refused e
 
 -- what check 5 reads
 pub record Sees (m : List ℕ) (n : ℕ) (tail sites rows words : List ℕ) (held : ℕ) (l : Loading) : Type 0 where

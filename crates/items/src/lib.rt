@@ -5,19 +5,20 @@ ghost use mathlib.Core.Path.{_≡_};
 ghost use mathlib.Core.Bool.{Bool, true};
 ghost use mathlib.Core.Option.{none};
 ghost use mathlib.Core.List.{List, [], _∷_};
-ghost use Prim.Native.Nat.{ℕ, _+_, _*_, _≤_, _<_};
+ghost use Prim.Native.Nat.{ℕ, _+_, _*_, _≤_, _<_, min};
 ghost use lib.ListN.{length};
 ghost use Rattle.paper.specs.declared.Item.the-variants.{Is, Equal};
 ghost use Rattle.paper.specs.Words.{keep, least};
 ghost use Rattle.paper.specs.Numbers.{max-sites, max-items, max-fields};
 ghost use Rattle.paper.specs.Sites.{fields, same-constraint, child-count};
-ghost use Rattle.paper.specs.Loading.{Loading, written, load-item, load-items, hangs, hanging, constrain};
+ghost use Rattle.paper.specs.Loading.{Loading, load-item, load-items, hangs, hanging, constrain};
 ghost use Rattle.paper.specs.Fair.{no-items};
 ghost use Rattle.sites.specs.Slots.{sites-in};
 ghost use Rattle.closing.specs.Holding.{shape-in};
 ghost use Rattle.closing.specs.Growing.{Inside};
 ghost use Rattle.holders.specs.Entries.{found-as};
-ghost use Rattle.items.specs.Shown.{Told, AsLong, roomy, items-in};
+ghost use Rattle.handed.specs.Items.{items-in as held-items};
+ghost use Rattle.items.specs.Shown.{Told, AsLong, Rowed, roomy, items-in};
 ghost use Rattle.items.specs.Way.{names, Way, Room, Space, Turn, Walk, Sees, Known, Worded, Filled};
 use growth::source_of;
 use growth::word_of;
@@ -30,7 +31,6 @@ use paper::Found;
 use paper::ITEMS;
 use paper::Item;
 use paper::Refusal;
-use paper::Rule;
 use paper::SITES;
 use sites::Given;
 
@@ -305,21 +305,20 @@ fn walk(
     words: &mut [u64],
     kids: &mut [u16],
     eqs: &mut [u16],
-    rule: Rule,
+    items: &[u64],
+    count: u8,
 ) -> Progress
-    requires { ⌜ (n ≤ max-sites) × (rule .count ≤ max-items) ⌝ }
+    requires { ⌜ (n ≤ max-sites) × (count ≤ max-items) ⌝ }
     requires { ⌜ roomy (now tail) (now sites) (now rows) (now words) (now kids) (now eqs) ≡ true ⌝ }
-    ensures walk { λ r. ⌜ Walk (now (m .entry)) n (now (tail .exit)) (now (sites .exit)) (now (rows .exit)) (now (words .exit)) (now (kids .exit)) (now (eqs .exit)) r (written rule .items) (load-items (no-items (sites-in (now (m .entry)) n)) 0 (written rule .items)) ⌝ }
+    ensures walk { λ r. ⌜ Walk (now (m .entry)) n (now (tail .exit)) (now (sites .exit)) (now (rows .exit)) (now (words .exit)) (now (kids .exit)) (now (eqs .exit)) r count (held-items (now (items .entry)) (min count max-items)) (load-items (no-items (sites-in (now (m .entry)) n)) 0 (held-items (now (items .entry)) (min count max-items))) ⌝ }
     ensures inside { λ r. ⌜ (Inside (now (kids .entry)) → Inside (now (kids .exit))) ⌝ }
 {
-    let count = rule.count as usize;
     let mut t: u16 = 0;
     let mut held: usize = 0;
     let mut equal: usize = 0;
-    let mut i = 0;
+    let mut i: u8 = 0;
     while i < count {
-        let e = rule.entries[i];
-        let it = e.item;
+        let it = handed::item_at(items, i);
         let p = take_item(
             m,
             n,
@@ -332,7 +331,7 @@ fn walk(
             kids,
             eqs,
             equal,
-            i,
+            i as usize,
             it,
         );
         let a = p.answer;
@@ -448,17 +447,16 @@ fn hanging(
     rows: &[u16],
     held: usize,
     words: &[u64],
-    rule: Rule,
+    items: &[u64],
+    count: u8,
 ) -> Found
-    requires { ⌜ rule .count ≤ max-items ⌝ }
-    ensures { λ r. ⌜ ((l : Loading) → Sees (now (m .entry)) n (now (tail .entry)) (now (sites .entry)) (now (rows .entry)) (now (words .entry)) held l → Known l (names (written rule .items) []) → r ≡ found-as (least (keep (hangs l) (names (written rule .items) [])))) ⌝ }
+    requires { ⌜ count ≤ max-items ⌝ }
+    ensures { λ r. ⌜ ((l : Loading) → Sees (now (m .entry)) n (now (tail .entry)) (now (sites .entry)) (now (rows .entry)) (now (words .entry)) held l → Known l (names (held-items (now (items .entry)) (min count max-items)) []) → r ≡ found-as (least (keep (hangs l) (names (held-items (now (items .entry)) (min count max-items)) [])))) ⌝ }
 {
-    let count = rule.count as usize;
     let mut best = Found::Nothing;
-    let mut i = 0;
+    let mut i: u8 = 0;
     while i < count {
-        let e = rule.entries[i];
-        let it = e.item;
+        let it = handed::item_at(items, i);
         let next = lower_item(m, n, tail, sites, rows, held, words, best, it);
         best = next;
         i += 1;
@@ -478,7 +476,7 @@ fn has_room(
 ) -> bool
     ensures { λ r. ⌜ r ≡ roomy (now (tail .entry)) (now (sites .entry)) (now (rows .entry)) (now (words .entry)) (now (kids .entry)) (now (eqs .entry)) ⌝ }
 {
-    if tail.len() < SITES {
+    if tail.len() < FIELDS * ITEMS {
         return false;
     }
     if sites.len() < ITEMS {
@@ -490,13 +488,13 @@ fn has_room(
     if words.len() < 3 * ITEMS {
         return false;
     }
-    if kids.len() < 8 * ITEMS {
+    if kids.len() < FIELDS * ITEMS {
         return false;
     }
     2 * ITEMS <= eqs.len()
 }
 
-// Takes the items of a rule as written, then asks whether a named site hangs.
+// Takes the `count` items of a rule as written, from words as they are handed over, then asks whether a named site hangs.
 pub fn load_items(
     m: &[u8],
     n: u16,
@@ -506,13 +504,14 @@ pub fn load_items(
     words: &mut [u64],
     kids: &mut [u16],
     eqs: &mut [u16],
-    rule: Rule,
+    items: &[u64],
+    count: u8,
 ) -> Progress
-    ensures told { λ r. ⌜ Told (now (m .entry)) n (now (tail .exit)) (now (sites .exit)) (now (rows .exit)) (now (words .exit)) (now (kids .exit)) (now (eqs .exit)) r (items-in (roomy (now (tail .entry)) (now (sites .entry)) (now (rows .entry)) (now (words .entry)) (now (kids .entry)) (now (eqs .entry))) (now (m .entry)) n rule) ⌝ }
+    ensures told { λ r. ⌜ Told (now (m .entry)) n (now (tail .exit)) (now (sites .exit)) (now (rows .exit)) (now (words .exit)) (now (kids .exit)) (now (eqs .exit)) r (items-in (roomy (now (tail .entry)) (now (sites .entry)) (now (rows .entry)) (now (words .entry)) (now (kids .entry)) (now (eqs .entry))) (now (m .entry)) n count (held-items (now (items .entry)) (min count max-items))) ⌝ }
     ensures long { λ r. ⌜ AsLong (now (tail .entry)) (now (sites .entry)) (now (rows .entry)) (now (words .entry)) (now (kids .entry)) (now (eqs .entry)) (now (tail .exit)) (now (sites .exit)) (now (rows .exit)) (now (words .exit)) (now (kids .exit)) (now (eqs .exit)) ⌝ }
     ensures inside { λ r. ⌜ (Inside (now (kids .entry)) → Inside (now (kids .exit))) ⌝ }
+    ensures rowed { λ r. ⌜ Rowed (now (rows .exit)) count r ⌝ }
 {
-    let count = rule.count;
     if SITES < size(n) {
         return refuse(Refusal::TooManySites {
             asked: n as u32,
@@ -529,13 +528,13 @@ pub fn load_items(
             asked: count as u32,
         });
     }
-    let p = walk(m, n, tail, sites, rows, words, kids, eqs, rule);
+    let p = walk(m, n, tail, sites, rows, words, kids, eqs, items, count);
     let a = p.answer;
     let Answer::Fine = a else {
         return p;
     };
     let held = p.held;
-    let found = hanging(m, n, tail, sites, rows, held, words, rule);
+    let found = hanging(m, n, tail, sites, rows, held, words, items, count);
     let Found::At(s) = found else {
         return p;
     };

@@ -4,7 +4,7 @@ use Prim.Native.Nat.{_≤_, _-_}
 use native.Mathlib.Omega.{arith}
 use lib.ListN.{length, drop}
 use Rattle.closing.specs.Holding.{stray}
-use Rattle.closing.proofs.Reading.{stray-step, stray-found, stray-end}
+use Rattle.closing.proofs.Reading.{stray-low, stray-step, stray-found, stray-end}
 use Rattle.closing.proofs.first_stray.Statement.{statement}
 use Rattle.closing.proofs.first_stray.Tie as tie
 
@@ -13,6 +13,14 @@ Inv-loop xs k₀ k-end k = (k ≤ length xs) × (stray xs ≡ stray (drop k xs))
 
 abbrev μ-loop : tie.MeasureT-loop
 μ-loop xs k₀ k-end k = length xs - k
+
+highest-requires : tie.Need-highest-requires Inv-loop μ-loop
+highest-requires c κs =
+    tt
+
+returns : tie.Need-returns Inv-loop μ-loop
+returns c =
+    stray-low _ _ (c .before .highest .ensures) (c .if1 .taken)
 
 loop-holds : tie.Need-loop-holds Inv-loop μ-loop
 loop-holds c =
@@ -26,9 +34,9 @@ shared-slice-read-x : tie.Need-shared-slice-read-x Inv-loop μ-loop
 shared-slice-read-x c =
     omega arith
 
-returns : tie.Need-returns Inv-loop μ-loop
-returns c =
-    stray-found _ _ (c .before .before .loop-test .taken) (c .if1 .taken) (c .before .before .before .loop .inv .1)
+returns-2 : tie.Need-returns-2 Inv-loop μ-loop
+returns-2 c =
+    stray-found _ _ (c .before .before .loop-test .taken) (c .if2 .taken) (c .before .before .before .loop .inv .1)
 
 add-k : tie.Need-add-k Inv-loop μ-loop
 add-k c =
@@ -40,11 +48,11 @@ loop-less c =
 
 loop-again : tie.Need-loop-again Inv-loop μ-loop
 loop-again c =
-    (omega arith, stray-step _ _ (c .before .before .loop-test .taken) (c .if1 .left) (c .before .before .before .loop .inv .1))
+    (omega arith, stray-step _ _ (c .before .before .loop-test .taken) (c .if2 .left) (c .before .before .before .loop .inv .1))
 
-returns-2 : tie.Need-returns-2 Inv-loop μ-loop
-returns-2 c =
-    let e : c .before .loop .k ≡ length (c .before .before .args .xs .now) = let h = c .before .loop .inv .0 in let t = c .loop-test .left in omega arith in
+returns-3 : tie.Need-returns-3 Inv-loop μ-loop
+returns-3 c =
+    let e : c .before .loop .k ≡ length (c .before .before .before .before .before .args .xs .now) = let h = c .before .loop .inv .0 in let t = c .loop-test .left in omega arith in
     stray-end _ _ e (c .before .loop .inv .1)
 
 pub first-stray-spec : {M : Type 1} → statement M
@@ -53,11 +61,13 @@ first-stray-spec =
     (tie.spec
     Inv-loop
     μ-loop
+    highest-requires
+    returns
     loop-holds
     mul-x
     shared-slice-read-x
-    returns
+    returns-2
     add-k
     loop-less
     loop-again
-    returns-2)
+    returns-3)

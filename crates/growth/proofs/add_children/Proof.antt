@@ -8,6 +8,7 @@ use Rattle.growth.proofs.add_children.Reads as reads
 use Rattle.growth.proofs.add_children.Lts as lts
 use Rattle.growth.proofs.arity.Reads as arity-reads
 use Rattle.growth.proofs.grow.Reads as grow-reads
+use Rattle.growth.proofs.needed.Reads as needed-reads
 use Rattle.growth.proofs.refuse.Reads as refuse-reads
 use Rattle.growth.proofs.size.Reads as size-reads
 
@@ -23,6 +24,9 @@ size-requires-2 c κs = search needs
 add-total : tie.Need-add-total
 add-total c = search needs
 
+needed-requires : tie.Need-needed-requires
+needed-requires c κs = search needs
+
 -- src/lib.rt:382:20
 cast-t13 : tie.Need-cast-t13
 cast-t13 c = search needs
@@ -33,7 +37,7 @@ refuse-requires c κs = search needs
 
 -- src/lib.rt:381:9
 returns : tie.Need-returns
-returns c = answer-short (now (c .before .before .before .before .before .before .args .m)) (c .before .before .before .before .before .before .args .n) (now (c .before .before .before .before .before .before .args .tail)) (c .before .before .before .before .before .before .args .k) (c .before .before .before .before .before .before .args .at) (c .before .before .before .before .before .before .args .s) (c .before .before .before .before .before .before .args .c) _ _ (c .refuse .ensures) (omega (arith, c .before .before .before .size .ensures .0, c .before .before .size2 .ensures .0)) (c .before .if1 .taken)
+returns c = answer-short (now (c .before .before .before .before .before .before .before .args .m)) (c .before .before .before .before .before .before .before .args .n) (now (c .before .before .before .before .before .before .before .args .tail)) (c .before .before .before .before .before .before .before .args .k) (c .before .before .before .before .before .before .before .args .at) (c .before .before .before .before .before .before .before .args .s) (c .before .before .before .before .before .before .before .args .c) _ _ (c .refuse .ensures) (omega (arith, c .before .before .before .before .size .ensures .0, c .before .before .before .size2 .ensures .0)) (omega (arith, c .before .if1 .taken, c .before .before .needed .ensures))
 
 -- src/lib.rt:388:20
 cast-t15 : tie.Need-cast-t15
@@ -45,7 +49,7 @@ refuse-requires-2 c κs = search needs
 
 -- src/lib.rt:387:9
 returns-2 : tie.Need-returns-2
-returns-2 c = answer-high (now (c .before .before .before .before .before .before .before .args .m)) (c .before .before .before .before .before .before .before .args .n) (now (c .before .before .before .before .before .before .before .args .tail)) (c .before .before .before .before .before .before .before .args .k) (c .before .before .before .before .before .before .before .args .at) (c .before .before .before .before .before .before .before .args .s) (c .before .before .before .before .before .before .before .args .c) (omega (arith, c .before .before .if1 .left)) _ _ (c .refuse2 .ensures) (omega (arith, c .before .before .before .before .size .ensures .0, c .before .before .before .size2 .ensures .0)) (c .before .if2 .taken)
+returns-2 c = answer-high (now (c .before .before .before .before .before .before .before .before .args .m)) (c .before .before .before .before .before .before .before .before .args .n) (now (c .before .before .before .before .before .before .before .before .args .tail)) (c .before .before .before .before .before .before .before .before .args .k) (c .before .before .before .before .before .before .before .before .args .at) (c .before .before .before .before .before .before .before .before .args .s) (c .before .before .before .before .before .before .before .before .args .c) (omega (arith, c .before .before .if1 .left, c .before .before .before .needed .ensures)) _ _ (c .refuse2 .ensures) (omega (arith, c .before .before .before .before .before .size .ensures .0, c .before .before .before .before .size2 .ensures .0)) (c .before .if2 .taken)
 
 -- src/lib.rt:392:9
 arity-requires : tie.Need-arity-requires
@@ -61,7 +65,7 @@ refuse-requires-3 c κs = search needs
 
 -- src/lib.rt:394:9
 returns-3 : tie.Need-returns-3
-returns-3 c = answer-fields (now (c .before .before .before .before .before .before .before .before .before .args .m)) (c .before .before .before .before .before .before .before .before .before .args .n) (now (c .before .before .before .before .before .before .before .before .before .args .tail)) (c .before .before .before .before .before .before .before .before .before .args .k) (c .before .before .before .before .before .before .before .before .before .args .at) (c .before .before .before .before .before .before .before .before .before .args .s) (c .before .before .before .before .before .before .before .before .before .args .c) (omega (arith, c .before .before .before .before .if1 .left)) (omega (arith, c .before .before .before .before .before .before .size .ensures .0, c .before .before .before .before .before .size2 .ensures .0, c .before .before .before .if2 .left)) _ _ (c .refuse3 .ensures) (c .before .before .arity .ensures .0) (omega (arith, c .before .if3 .taken))
+returns-3 c = answer-fields (now (c .before .before .before .before .before .before .before .before .before .before .args .m)) (c .before .before .before .before .before .before .before .before .before .before .args .n) (now (c .before .before .before .before .before .before .before .before .before .before .args .tail)) (c .before .before .before .before .before .before .before .before .before .before .args .k) (c .before .before .before .before .before .before .before .before .before .before .args .at) (c .before .before .before .before .before .before .before .before .before .before .args .s) (c .before .before .before .before .before .before .before .before .before .before .args .c) (omega (arith, c .before .before .before .before .if1 .left, c .before .before .before .before .before .needed .ensures)) (omega (arith, c .before .before .before .before .before .before .before .size .ensures .0, c .before .before .before .before .before .before .size2 .ensures .0, c .before .before .before .if2 .left)) _ _ (c .refuse3 .ensures) (c .before .before .arity .ensures .0) (omega (arith, c .before .if3 .taken))
 
 -- src/lib.rt:401:32
 cast-t19 : tie.Need-cast-t19
@@ -69,7 +73,7 @@ cast-t19 c = search needs
 
 -- src/lib.rt:400:9
 returns-4 : tie.Need-returns-4
-returns-4 c = answer-none (now (c .before .before .before .before .before .before .before .before .before .args .m)) (c .before .before .before .before .before .before .before .before .before .args .n) (now (c .before .before .before .before .before .before .before .before .before .args .tail)) (c .before .before .before .before .before .before .before .before .before .args .k) (c .before .before .before .before .before .before .before .before .before .args .at) (c .before .before .before .before .before .before .before .before .before .args .s) (c .before .before .before .before .before .before .before .before .before .args .c) (omega (arith, c .before .before .before .before .if1 .left)) (omega (arith, c .before .before .before .before .before .before .size .ensures .0, c .before .before .before .before .before .size2 .ensures .0, c .before .before .before .if2 .left)) (omega (arith, c .before .before .arity .ensures .0, c .before .if3 .left)) _ (omega (arith, c .before .before .before .before .before .before .size .ensures .0, c .before .before .before .before .before .size2 .ensures .0)) (omega (arith, c .before .before .arity .ensures .0, c .if4 .taken))
+returns-4 c = answer-none (now (c .before .before .before .before .before .before .before .before .before .before .args .m)) (c .before .before .before .before .before .before .before .before .before .before .args .n) (now (c .before .before .before .before .before .before .before .before .before .before .args .tail)) (c .before .before .before .before .before .before .before .before .before .before .args .k) (c .before .before .before .before .before .before .before .before .before .before .args .at) (c .before .before .before .before .before .before .before .before .before .before .args .s) (c .before .before .before .before .before .before .before .before .before .before .args .c) (omega (arith, c .before .before .before .before .if1 .left, c .before .before .before .before .before .needed .ensures)) (omega (arith, c .before .before .before .before .before .before .before .size .ensures .0, c .before .before .before .before .before .before .size2 .ensures .0, c .before .before .before .if2 .left)) (omega (arith, c .before .before .arity .ensures .0, c .before .if3 .left)) _ (omega (arith, c .before .before .before .before .before .before .before .size .ensures .0, c .before .before .before .before .before .before .size2 .ensures .0)) (omega (arith, c .before .before .arity .ensures .0, c .if4 .taken))
 
 -- src/lib.rt:405:17
 size-requires-3 : tie.Need-size-requires-3
@@ -81,7 +85,7 @@ refuse-requires-4 c κs = search needs
 
 -- src/lib.rt:406:9
 returns-5 : tie.Need-returns-5
-returns-5 c = answer-unknown (now (c .before .before .before .before .before .before .before .before .before .before .before .before .args .m)) (c .before .before .before .before .before .before .before .before .before .before .before .before .args .n) (now (c .before .before .before .before .before .before .before .before .before .before .before .before .args .tail)) (c .before .before .before .before .before .before .before .before .before .before .before .before .args .k) (c .before .before .before .before .before .before .before .before .before .before .before .before .args .at) (c .before .before .before .before .before .before .before .before .before .before .before .before .args .s) (c .before .before .before .before .before .before .before .before .before .before .before .before .args .c) (omega (arith, c .before .before .before .before .before .before .before .if1 .left)) (omega (arith, c .before .before .before .before .before .before .before .before .before .size .ensures .0, c .before .before .before .before .before .before .before .before .size2 .ensures .0, c .before .before .before .before .before .before .if2 .left)) (omega (arith, c .before .before .before .before .before .arity .ensures .0, c .before .before .before .before .if3 .left)) _ (c .refuse4 .ensures) (λ z. c .before .before .before .if4 .left (omega (arith, c .before .before .before .before .before .arity .ensures .0))) (omega (arith, c .before .before .before .before .before .before .before .before .before .size .ensures .0, c .before .before .before .before .before .before .before .before .size2 .ensures .0, c .before .before .size3 .ensures .0, c .before .if5 .taken))
+returns-5 c = answer-unknown (now (c .before .before .before .before .before .before .before .before .before .before .before .before .before .args .m)) (c .before .before .before .before .before .before .before .before .before .before .before .before .before .args .n) (now (c .before .before .before .before .before .before .before .before .before .before .before .before .before .args .tail)) (c .before .before .before .before .before .before .before .before .before .before .before .before .before .args .k) (c .before .before .before .before .before .before .before .before .before .before .before .before .before .args .at) (c .before .before .before .before .before .before .before .before .before .before .before .before .before .args .s) (c .before .before .before .before .before .before .before .before .before .before .before .before .before .args .c) (omega (arith, c .before .before .before .before .before .before .before .if1 .left, c .before .before .before .before .before .before .before .before .needed .ensures)) (omega (arith, c .before .before .before .before .before .before .before .before .before .before .size .ensures .0, c .before .before .before .before .before .before .before .before .before .size2 .ensures .0, c .before .before .before .before .before .before .if2 .left)) (omega (arith, c .before .before .before .before .before .arity .ensures .0, c .before .before .before .before .if3 .left)) _ (c .refuse4 .ensures) (λ z. c .before .before .before .if4 .left (omega (arith, c .before .before .before .before .before .arity .ensures .0))) (omega (arith, c .before .before .before .before .before .before .before .before .before .before .size .ensures .0, c .before .before .before .before .before .before .before .before .before .size2 .ensures .0, c .before .before .size3 .ensures .0, c .before .if5 .taken))
 
 -- src/lib.rt:408:5
 grow-requires : tie.Need-grow-requires
@@ -102,6 +106,7 @@ add-children-spec =
     size-requires
     size-requires-2
     add-total
+    needed-requires
     cast-t13
     refuse-requires
     returns

@@ -1,39 +1,32 @@
 -- `items::hanging` meets its contract. Assumes nothing.
-use Rattle.items.proofs.Ranges.{rule-long}
--- `items::hanging` meets its contract. Assumes nothing.
 use borrow.Author.Needs.{needs}
--- `items::hanging` meets its contract. Assumes nothing.
 use Rattle.items.proofs.Childless.{lowest-none, lowest-step, lowest-all}
 use Rattle.items.proofs.Walking.{items-long, item-is}
 use Rattle.items.specs.Way.{names, Sees, Known}
+use Rattle.handed.specs.Items.{items-in as held-items}
 use Rattle.holders.specs.Entries.{found-as}
-use Rattle.paper.specs.Loading.{Loading, written, hangs}
+use Rattle.paper.specs.Loading.{Loading, hangs}
+use Rattle.paper.specs.Numbers.{max-items}
 use Rattle.paper.specs.Words.{keep, least}
 use lib.ListN.{take}
 use native.Mathlib.Omega.{arith}
-use Prim.Native.Nat.{_≤_, _-_}
+use Prim.Native.Nat.{_≤_, _-_, min}
 use mathlib.Core.List.{[]}
 use mathlib.Core.Path.{_≡_, refl}
 use Rattle.items.proofs.hanging.Statement.{statement}
 use Rattle.items.proofs.hanging.Tie as tie
 
 abbrev Inv-loop : tie.InvT-loop
-Inv-loop m n tail sites rows held words rule count best₀ i₀ best i = (i ≤ count) × ((count ≡ rule .count) × ((l : Loading) → Sees m n tail sites rows words held l → Known l (names (written rule .items) []) → best ≡ found-as (least (keep (hangs l) (names (take i (written rule .items)) [])))))
+Inv-loop m n tail sites rows held words items count best₀ i₀ best i = (i ≤ count) × ((l : Loading) → Sees m n tail sites rows words held l → Known l (names (held-items items (min count max-items)) []) → best ≡ found-as (least (keep (hangs l) (names (take i (held-items items (min count max-items))) []))))
 
 abbrev μ-loop : tie.MeasureT-loop
-μ-loop m n tail sites rows held words rule count best₀ i₀ best i = count - i
-
-cast-count : tie.Need-cast-count Inv-loop μ-loop
-cast-count c = search needs
+μ-loop m n tail sites rows held words items count best₀ i₀ best i = count - i
 
 loop-holds : tie.Need-loop-holds Inv-loop μ-loop
-loop-holds c = (omega arith, (refl, λ l X K. lowest-none (written (c .before .before .before .before .before .args .t8) .items) l))
+loop-holds c = (omega arith, λ l X K. lowest-none (held-items (c .before .before .before .before .before .before .args .items .now) (min (c .before .before .before .before .before .before .args .count) max-items)) l)
 
-mul-e : tie.Need-mul-e Inv-loop μ-loop
-mul-e c = let p = c .before .before .before .before .before .before .before .pre in let a = c .before .loop .inv .1 .0 in let b = c .loop-test .taken in omega arith
-
-element-copy-out-e : tie.Need-element-copy-out-e Inv-loop μ-loop
-element-copy-out-e c = let p = c .before .before .before .before .before .before .before .pre in let a = c .before .loop .inv .1 .0 in let b = c .loop-test .taken in omega arith
+item-at-requires : tie.Need-item-at-requires Inv-loop μ-loop
+item-at-requires c κs = search needs
 
 lower-item-requires : tie.Need-lower-item-requires Inv-loop μ-loop
 lower-item-requires c κs = tt
@@ -45,10 +38,10 @@ loop-less : tie.Need-loop-less Inv-loop μ-loop
 loop-less c = omega arith
 
 loop-again : tie.Need-loop-again Inv-loop μ-loop
-loop-again c = (omega arith, (c .before .before .before .loop .inv .1 .0, λ l X K. lowest-step (written (c .before .before .before .before .before .before .before .before .before .args .t8) .items) _ _ l _ _ (let z = items-long (c .before .before .before .before .before .before .before .before .before .args .t8) (rule-long (c .before .before .before .before .before .before .before .before .before .args .t8) _ (c .before .before .before .before .before .before .before .before .before .good .1 .1 .1 .1 .1 .1 .1 .0)) (c .before .before .before .before .before .before .before .before .before .pre) in let a = c .before .before .before .loop .inv .1 .0 in let b = c .before .before .loop-test .taken in omega arith) (item-is (c .before .before .before .before .before .before .before .before .before .args .t8) _ (let a = c .before .before .before .loop .inv .1 .0 in let b = c .before .before .loop-test .taken in omega arith)) K (c .before .before .before .loop .inv .1 .1 l X K) (c .lower-item .ensures l X)))
+loop-again c = (omega arith, λ l X K. lowest-step (held-items (c .before .before .before .before .before .before .before .before .before .before .args .items .now) (min (c .before .before .before .before .before .before .before .before .before .before .args .count) max-items)) _ _ l _ _ (let z = items-long (c .before .before .before .before .before .before .before .before .before .before .args .items .now) (c .before .before .before .before .before .before .before .before .before .before .args .count) (c .before .before .before .before .before .before .before .before .before .before .pre) in let b = c .before .before .loop-test .taken in omega arith) (item-is (c .before .before .before .before .before .before .before .before .before .before .args .items .now) (c .before .before .before .before .before .before .before .before .before .before .args .count) _ _ (c .before .before .before .before .before .before .before .before .before .before .pre) (c .before .before .loop-test .taken) (c .before .item-at .ensures)) K (c .before .before .before .loop .inv .1 l X K) (c .lower-item .ensures l X))
 
 returns : tie.Need-returns Inv-loop μ-loop
-returns c = λ l X K. lowest-all (written (c .before .before .before .before .before .before .before .args .t8) .items) (c .before .loop .i) l _ (let z = items-long (c .before .before .before .before .before .before .before .args .t8) (rule-long (c .before .before .before .before .before .before .before .args .t8) _ (c .before .before .before .before .before .before .before .good .1 .1 .1 .1 .1 .1 .1 .0)) (c .before .before .before .before .before .before .before .pre) in let a = c .before .loop .inv .1 .0 in let b = c .loop-test .left in omega arith) (c .before .loop .inv .1 .1 l X K)
+returns c = λ l X K. lowest-all (held-items (c .before .before .before .before .before .before .before .before .args .items .now) (min (c .before .before .before .before .before .before .before .before .args .count) max-items)) (c .before .loop .i) l _ (let z = items-long (c .before .before .before .before .before .before .before .before .args .items .now) (c .before .before .before .before .before .before .before .before .args .count) (c .before .before .before .before .before .before .before .before .pre) in let b = c .loop-test .left in omega arith) (c .before .loop .inv .1 l X K)
 
 pub hanging-spec : {M : Type 1} → statement M
 hanging-spec =
@@ -56,10 +49,8 @@ hanging-spec =
     (tie.spec
     Inv-loop
     μ-loop
-    cast-count
     loop-holds
-    mul-e
-    element-copy-out-e
+    item-at-requires
     lower-item-requires
     add-i
     loop-less

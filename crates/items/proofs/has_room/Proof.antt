@@ -4,6 +4,9 @@ use borrow.Author.Needs.{needs}
 use Rattle.items.proofs.has_room.Statement.{statement}
 use Rattle.items.proofs.has_room.Tie as tie
 
+mul-if1 : tie.Need-mul-if1
+mul-if1 c = search needs
+
 returns : tie.Need-returns
 returns c = short-tail _ _ _ _ _ _ (c .if1 .taken)
 
@@ -34,4 +37,4 @@ returns-6 c = room-rest _ _ _ _ _ _ (c .before .before .before .before .if1 .lef
 pub has-room-spec : {M : Type 1} → statement M
 has-room-spec =
     tie.close
-    (tie.spec returns returns-2 returns-3 mul-if4 returns-4 mul-if5 returns-5 mul-result returns-6)
+    (tie.spec mul-if1 returns returns-2 returns-3 mul-if4 returns-4 mul-if5 returns-5 mul-result returns-6)
