@@ -246,14 +246,6 @@ module _ (ws : List ℕ) (a n b m : ℕ) (all : Bool) (last p q : ℕ) (w : Besi
         go true t = beside-all t o (f o e t)
         go false t = g o e t .0 ∙ beside-part t (g o e t .1)
 
--- ---- the outer walk: before its first turn nothing is passed
-pub record Outer (ws : List ℕ) (a n b m : ℕ) (all : Bool) (last p q : ℕ) : Type 0 where
-  pub beside : Beside ws a n b m all last p q
-  pub fresh : p ≤ a + 4 → q ≤ b + 4
-
-pub outer-none : (ws : List ℕ) (a n b m : ℕ) → Outer ws a n b m true 0 (a + 4) (b + 4)
-outer-none ws a n b m = record { beside = beside-none ws a n b m; fresh = λ _. omega arith }
-
 -- ---- the inner walk: the site at p is looked for from q on
 pub record Inner (ws : List ℕ) (a n b m : ℕ) (all : Bool) (last p site q : ℕ) : Type 0 where
   pub beside : Beside ws a n b m all last p q
@@ -262,26 +254,23 @@ pub record Inner (ws : List ℕ) (a n b m : ℕ) (all : Bool) (last p site q : �
   pub ahead : (q ≤ b + 4) ⊎ (last < getD ws p 0)
 
 module _ (ws : List ℕ) (a n b m : ℕ) (all : Bool) (last p q : ℕ) where
-  pub inner-start : Outer ws a n b m all last p q → p < a + 4 + 4 * n → (p ≤ a + 4) ⊎ (last < getD ws p 0) → Inner ws a n b m all last p (getD ws p 0) q
-  inner-start w l d = record { beside = w .beside; less = l; here = refl; ahead = ⊎-elim (λ z. inl (w .fresh z)) (λ z. inr z) d }
+  pub inner-start : Beside ws a n b m all last p q → p < a + 4 + 4 * n → (q ≤ b + 4) ⊎ (last < getD ws p 0) → Inner ws a n b m all last p (getD ws p 0) q
+  inner-start w l d = record { beside = w; less = l; here = refl; ahead = d }
 
   module _ (site : ℕ) (w : Inner ws a n b m all last p site q) where
-    onward : {t : Bool} {v r : ℕ} → Beside ws a n b m t v (p + 4) r → Outer ws a n b m t v (p + 4) r
-    onward v = record { beside = v; fresh = λ z. absurd (omega (arith, w .beside .at-p)) }
-
-    pub inner-end : b + 4 + 4 * m ≤ q → Outer ws a n b m false last (p + 4) q
-    inner-end h = onward (beside-end _ _ _ _ _ _ _ _ _ (w .beside) (w .less) (w .ahead) h)
+    pub inner-end : b + 4 + 4 * m ≤ q → Beside ws a n b m false last (p + 4) q
+    inner-end h = beside-end _ _ _ _ _ _ _ _ _ (w .beside) (w .less) (w .ahead) h
 
     module _ (h : q < b + 4 + 4 * m) where
-      pub inner-missing : site < getD ws q 0 → Outer ws a n b m false last (p + 4) q
-      inner-missing s = onward (beside-missing _ _ _ _ _ _ _ _ _ (w .beside) (w .less) (w .ahead) h (omega (arith, w .here)))
+      pub inner-missing : site < getD ws q 0 → Beside ws a n b m false last (p + 4) q
+      inner-missing s = beside-missing _ _ _ _ _ _ _ _ _ (w .beside) (w .less) (w .ahead) h (omega (arith, w .here))
 
       pub inner-pass : getD ws q 0 < site → last ≤ getD ws q 0 → Inner ws a n b m all (getD ws q 0) p site (q + 4)
       inner-pass s l = record { beside = beside-pass _ _ _ _ _ _ _ _ _ (w .beside) (w .less) (w .ahead) h l; less = w .less; here = w .here; ahead = inr (omega (arith, w .here)) }
 
       module _ (s : site ≡ getD ws q 0) (r : Bool) (i : r ≡ same-constraint (constraint-at ws (p + 1)) (constraint-at ws (q + 1))) where
-        pub inner-same : r ≡ true → Outer ws a n b m all site (p + 4) (q + 4)
-        inner-same t = onward (rw (w .here) (beside-same _ _ _ _ _ _ _ _ _ (w .beside) (w .less) (w .ahead) h (sym (w .here) ∙ s) r i t))
+        pub inner-same : r ≡ true → Beside ws a n b m all site (p + 4) (q + 4)
+        inner-same t = rw (w .here) (beside-same _ _ _ _ _ _ _ _ _ (w .beside) (w .less) (w .ahead) h (sym (w .here) ∙ s) r i t)
 
         pub inner-no : r ≡ false → differ (run (constrained-at ws a) 0 n) (run (constrained-at ws b) 0 m) ≡ true
         inner-no t = beside-no _ _ _ _ _ _ _ _ _ (w .beside) (w .less) (w .ahead) h (sym (w .here) ∙ s) r i t

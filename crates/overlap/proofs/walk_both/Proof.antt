@@ -4,7 +4,7 @@ use native.Mathlib.Omega.{arith}
 use borrow.Author.Tests.{not-true, not-false}
 use borrow.Author.Needs.{needs}
 use Rattle.overlap.proofs.AnswerLaws.{answer-no}
-use Rattle.overlap.proofs.BesideLaws.{told, unclear, Outer, outer-none, Inner, inner-start, inner-end, inner-missing, inner-pass, inner-same, inner-no, beside-ended}
+use Rattle.overlap.proofs.BesideLaws.{told, unclear, Beside, beside-none, Inner, inner-start, inner-end, inner-missing, inner-pass, inner-same, inner-no, beside-ended}
 use Rattle.overlap.proofs.walk_both.Statement.{statement}
 use Rattle.overlap.proofs.walk_both.Tie as tie
 use Rattle.overlap.proofs.walk_both.Reads as reads
@@ -20,7 +20,7 @@ abbrev μ-loop : tie.MeasureT-loop
 μ-loop words a n b m end far all₀ last₀ p₀ q₀ site all last p q = far - q
 
 abbrev Inv-walk : tie.InvT-walk
-Inv-walk words a n b m end far all₀ last₀ p₀ q₀ all last p q = Outer words a n b m all last p q
+Inv-walk words a n b m end far all₀ last₀ p₀ q₀ all last p q = Beside words a n b m all last p q
 
 abbrev μ-walk : tie.MeasureT-walk
 μ-walk words a n b m end far all₀ last₀ p₀ q₀ all last p q = end - p
@@ -59,7 +59,7 @@ add-q c = omega arith
 
 -- src/lib.rt:178:5
 walk-holds : tie.Need-walk-holds Inv-loop μ-loop Inv-walk μ-walk
-walk-holds c = outer-none _ _ _ _ _
+walk-holds c = beside-none _ _ _ _ _
 
 -- src/lib.rt:179:20
 mul-site : tie.Need-mul-site Inv-loop μ-loop Inv-walk μ-walk
@@ -163,7 +163,7 @@ ended-requires c κs = search needs
 
 -- src/lib.rt:165:1
 returns-4 : tie.Need-returns-4 Inv-loop μ-loop Inv-walk μ-walk
-returns-4 c = beside-ended _ _ _ _ _ _ _ _ _ (c .before .before .walk .inv .beside) (c .before .walk-test .left) (c .before .before .before .before .pre .1 .1 .0 .0) (c .before .before .before .before .pre .1 .1 .1 .0) _ (c .ended .ensures .0) (c .ended .ensures .1)
+returns-4 c = beside-ended _ _ _ _ _ _ _ _ _ (c .before .before .walk .inv) (c .before .walk-test .left) (c .before .before .before .before .pre .1 .1 .0 .0) (c .before .before .before .before .pre .1 .1 .1 .0) _ (c .ended .ensures .0) (c .ended .ensures .1)
 
 pub walk-both-spec : {M : Type 1} → statement M
 walk-both-spec =
