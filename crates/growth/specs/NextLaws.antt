@@ -14,7 +14,8 @@ use Rattle.paper.specs.Sites.{Site, body, body-by, child-count, child}
 use Rattle.slots.specs.Seeking.{quad, four-at, Seeks}
 use Rattle.sites.specs.Back.{Bytes}
 use Rattle.sites.specs.Slots.{slot, no-site, slot-body, site-in}
-use Rattle.sites.specs.Held.{held, held-four, site-held}
+use Rattle.sites.specs.Held.{held, site-held}
+use Rattle.slots.proofs.Holding.{held-four}
 use Rattle.growth.specs.Tail.{word-of, site-of-word, Spelt, site-there, Field, begins, Wants, SeeksWord, Onward}
 use Rattle.growth.specs.WordLaws.{child-positive, child-step, word-told}
 use Rattle.growth.specs.declared.Wanted.{Wanted}

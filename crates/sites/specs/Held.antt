@@ -1,4 +1,4 @@
--- Slots: what stands in one, byte by byte, and how a search by four bytes goes with it.
+-- Slots: what stands in one, as a body and byte by byte.
 use mathlib.Core.Path.{_≡_, refl, sym, ap, _∙_}
 use mathlib.Core.Bool.{Bool, true, false, _&&_}
 use mathlib.Core.Option.{Option, none, some}
@@ -6,21 +6,15 @@ use mathlib.Core.List.{List, [], _∷_}
 use Prim.Native.Nat.{ℕ, zero, suc, _+_, _-_, _*_, _≤_, _<_}
 use native.Mathlib.Omega.{arith}
 use lib.ListN.{length, getD, take, drop, length-take, length-drop, List·getD-eq-default}
-use lib.Seq.{getD-take, getD-drop}
+use lib.Seq.{ext-getD, getD-take, getD-drop}
 use lib.Dec.{ltb, leb}
 use borrow.Author.Tests.{lt-ltb, le-ltb, le-leb, lt-leb, ltb-true, ltb-false, leb-true, leb-false}
-use Rattle.slots.specs.Seeking.{four-at}
-use Rattle.paper.specs.Words.{if_then_else_, or-else, same-list}
+use Rattle.slots.specs.Seeking.{Held}
+use Rattle.paper.specs.Words.{if_then_else_, or-else}
 use Rattle.paper.specs.Layout.{whole, site-read}
 use Rattle.paper.specs.Sites.{Site, body}
 use Rattle.sites.specs.Back.{Bytes, back}
 use Rattle.sites.specs.Slots.{slot, no-site, site-of, slot-body, site-in}
-
--- no slot from `from` on and below r, of those below `to`, holds b
-pub record Skips (m : List ℕ) (from to : ℕ) (b : List ℕ) (r : ℕ) : Type 0 where
-  pub low : from ≤ r
-  pub high : r ≤ to
-  pub none : (i : ℕ) → from ≤ i → i < r → same-list (slot-body m i) b ≡ false
 
 -- ---- the body in a slot
 pub slot-cut : (m : List ℕ) (i : ℕ) → length m < i * slot + slot → slot-body m i ≡ []
@@ -55,12 +49,6 @@ slot-bytes m i f = go (leb (i * slot + slot) (length m) && ltb (getD m (i * slot
     go false = λ j. omega arith
 
 -- ---- the bytes of a slot that holds b
-pub record Held (m : List ℕ) (i : ℕ) (b : List ℕ) : Type 0 where
-  pub inside : i * slot + slot ≤ length m
-  pub short : length b < slot
-  pub size : getD m (i * slot) 0 ≡ length b
-  pub each : (j : ℕ) → j < length b → getD m (i * slot + 1 + j) 0 ≡ getD b j 0
-
 part-at : (m : List ℕ) (n at : ℕ) (b : List ℕ) → take n (drop at m) ≡ b → (j : ℕ) → j < n → getD m (at + j) 0 ≡ getD b j 0
 part-at m n at b e j h = sym (getD-take n (drop at m) j 0 h ∙ getD-drop at m j 0) ∙ ap (λ r. getD r j 0) e
 
@@ -81,19 +69,14 @@ held m i b e s = go (leb (i * slot + slot) (length m)) refl (ltb (getD m (i * sl
         let n : getD m (i * slot) 0 ≡ length b = omega arith in
         record { inside = h; short = omega arith; size = n; each = λ j k. part-at m (getD m (i * slot) 0) (i * slot + 1) b x j (omega arith) }
 
--- the length byte and the body
-held-at : (m : List ℕ) (i : ℕ) (b : List ℕ) → Held m i b → (at k : ℕ) → at ≡ i * slot + k → k ≤ length b → getD m at 0 ≡ getD (length b ∷ b) k 0
-held-at m i b h at zero q l = let z : at ≡ i * slot = omega arith in ap (λ j. getD m j 0) z ∙ h .size
-held-at m i b h at (suc k) q l = let z : at ≡ i * slot + 1 + k = omega arith in ap (λ j. getD m j 0) z ∙ h .each k (omega arith)
-
-pub held-four : (m : List ℕ) (i : ℕ) (b : List ℕ) → Held m i b → (o : ℕ) → o + 3 ≤ length b → four-at m (i * slot + o) ≡ four-at (length b ∷ b) o
-unfolding four-at
-held-four m i b h o l =
-    let a0 = held-at m i b h (i * slot + o) o refl (omega arith) in
-    let a1 = held-at m i b h (i * slot + o + 1) (o + 1) (omega arith) (omega arith) in
-    let a2 = held-at m i b h (i * slot + o + 2) (o + 2) (omega arith) (omega arith) in
-    let a3 = held-at m i b h (i * slot + o + 3) (o + 3) (omega arith) (omega arith) in
-    rw (a0, a1, a2, a3)
+pub held-body : (m : List ℕ) (i : ℕ) (b : List ℕ) → Held m i b → slot-body m i ≡ b
+held-body m i b h =
+    let s = h .short in
+    let z = h .inside in
+    let n : length (take (length b) (drop (i * slot + 1) m)) ≡ length b = simp (length-take, length-drop) (omega arith) in
+    slot-is m i (length b) z (sym (h .size)) s
+    ∙ ext-getD 0 (take (length b) (drop (i * slot + 1) m)) b n
+    (λ k q. getD-take (length b) (drop (i * slot + 1) m) k 0 (omega arith) ∙ getD-drop (i * slot + 1) m k 0 ∙ h .each k (omega arith))
 
 -- what is read as a site is its body
 pub site-held : (m : List ℕ) (i : ℕ) (x : Site) → Bytes m → site-in m i ≡ x → (x ≡ no-site → ⊥) → slot-body m i ≡ body x

@@ -10,8 +10,6 @@ ghost use Rattle.paper.specs.Sites.{sources, term-of, parent, number-of, child,
 ghost use Rattle.sites.specs.Kinds.{off-of, many-of, words, kind};
 ghost use Rattle.sites.specs.Shape.{is-body};
 ghost use Rattle.sites.specs.Slots.{slot, no-site, site-of, slot-body, site-in, sites-in, found-as, missing, admits-body, verdict-as, added-in, numbered-as, after-add, put, link-of, children-in, children-as, after-all, unfolded-as, after-unfold, Writes, Findable, unfolded-in, store, Spells};
-ghost use Rattle.slots.specs.Seeking.{four-at};
-ghost use Rattle.sites.specs.Held.{Skips};
 ghost use Rattle.paper.specs.Numbers.{max-fields, refused};
 ghost use Rattle.sites.specs.Family.{turn-as, fresh, Tallied, placed, Placing};
 use paper::Constraint;
@@ -317,93 +315,14 @@ fn judge(b: &[u8], count: u16, at: u32) -> Verdict
     Verdict::Fine
 }
 
-fn same_from(m: &[u8], at: usize, b: &[u8]) -> bool
-    requires { ⌜ at + length (now b) ≤ length (now m) ⌝ }
-    ensures { λ r. ⌜ r ≡ same-list (take (length (now (b .entry))) (drop at (now (m .entry)))) (now (b .entry)) ⌝ }
-{
-    let mut j = 0;
-    while j < b.len() {
-        if m[at + j] != b[j] {
-            return false;
-        }
-        j += 1;
-    }
-    true
-}
-
-// Is b in slot i?
-fn holds(m: &[u8], i: u16, b: &[u8]) -> bool
-    requires { ⌜ (i * slot + slot ≤ length (now m)) × (0 < length (now b)) × (length (now b) < slot) ⌝ }
-    ensures { λ r. ⌜ r ≡ same-list (slot-body (now (m .entry)) i) (now (b .entry)) ⌝ }
-{
-    let at = i as usize * SLOT;
-    if wide(m[at]) != b.len() {
-        return false;
-    }
-    same_from(m, at + 1, b)
-}
-
-// How many of the slots are whole.
-fn whole_slots(m: &[u8], count: u16) -> u16
-    ensures { λ r. ⌜ (r ≤ count) × (r * slot ≤ length (now (m .entry))) × (r < count → length (now (m .entry)) < r * slot + slot) ⌝ }
-{
-    let n = m.len() / SLOT;
-    if n < count as usize {
-        return n as u16;
-    }
-    count
-}
-
-// The four bytes with which the length and b end.
-fn ending(b: &[u8]) -> u32
-    requires { ⌜ 3 ≤ length (now b) ⌝ }
-    ensures { λ r. ⌜ r ≡ four-at (length (now (b .entry)) ∷ now (b .entry)) (length (now (b .entry)) - 3) ⌝ }
-{
-    let n = b.len();
-    if n == 3 {
-        return slots::quad(3, b[0], b[1], b[2]);
-    }
-    slots::quad(b[n - 4], b[n - 3], b[n - 2], b[n - 1])
-}
-
-// The first slot from `from` on and below n that holds b.
-fn one_by_one(m: &[u8], from: u16, n: u16, b: &[u8]) -> u16
-    requires { ⌜ (from ≤ n) × (n * slot ≤ length (now m)) × (0 < length (now b)) × (length (now b) < slot) ⌝ }
-    ensures { λ r. ⌜ Skips (now (m .entry)) from n (now (b .entry)) r ⌝ }
-{
-    let mut i = from;
-    while i < n {
-        if holds(m, i, b) {
-            return i;
-        }
-        i += 1;
-    }
-    i
-}
-
-// The first slot from `from` on and below n that may hold b. The last four bytes tell most slots apart; an argument's body is too short for that.
-fn candidate(m: &[u8], from: u16, n: u16, b: &[u8]) -> u16
-    requires { ⌜ (from ≤ n) × (n * slot ≤ length (now m)) × (0 < length (now b)) × (length (now b) < slot) ⌝ }
-    ensures { λ r. ⌜ Skips (now (m .entry)) from n (now (b .entry)) r ⌝ }
-{
-    if b.len() < 3 {
-        return one_by_one(m, from, n, b);
-    }
-    slots::seek(m, (b.len() - 3) as u8, from, n, ending(b))
-}
-
 // The number of the body b among the first sites.
 fn find(m: &[u8], count: u16, b: &[u8]) -> Found
     requires { ⌜ Findable (now b) ⌝ }
     ensures { λ r. ⌜ r ≡ found-as (number-of (sites-in (now (m .entry)) count) (site-of (now (b .entry)))) ⌝ }
 {
-    let n = whole_slots(m, count);
-    let mut i = candidate(m, 0, n, b);
-    while i < n {
-        if holds(m, i, b) {
-            return Found::At(i);
-        }
-        i = candidate(m, i + 1, n, b);
+    let i = slots::find(m, count, b);
+    if i < count {
+        return Found::At(i);
     }
     Found::Nothing
 }

@@ -1,5 +1,6 @@
--- A table of slots of 32 bytes, and the first of them that has given four bytes at one place of a slot. Definitions only.
+-- A table of slots of 32 bytes, a length byte and then a body, and the first of them that holds a body, or has four bytes at one place. Definitions only.
 use mathlib.Core.Path.{_≡_}
+use mathlib.Core.Bool.{Bool, true, false}
 use mathlib.Core.List.{List}
 use Prim.Native.Nat.{ℕ, zero, suc, _+_, _*_, _≤_, _<_}
 use lib.ListN.{length, getD}
@@ -23,6 +24,19 @@ pub record Seeks (m : List ℕ) (off from to key r : ℕ) : Type 0 where
   pub inside : r < to → r * slot + off + 4 ≤ length m
   pub is : r < to → four-at m (r * slot + off) ≡ key
 
+-- slot i is wholly there, and has the length and the bytes of b
+pub record Held (m : List ℕ) (i : ℕ) (b : List ℕ) : Type 0 where
+  pub inside : i * slot + slot ≤ length m
+  pub short : length b < slot
+  pub size : getD m (i * slot) 0 ≡ length b
+  pub each : (j : ℕ) → j < length b → getD m (i * slot + 1 + j) 0 ≡ getD b j 0
+
+-- r is the first slot, of so many, that holds b; or it is their count, and none does
+pub record Finds (m : List ℕ) (count : ℕ) (b : List ℕ) (r : ℕ) : Type 0 where
+  pub high : r ≤ count
+  pub none : (i : ℕ) → i < r → Held m i b → ⊥
+  pub is : r < count → Held m r b
+
 -- ---- on the way
 
 -- of `many` slots whose places begin at `at`, the first r have not the key
@@ -41,3 +55,19 @@ pub record Onward (m : List ℕ) (off from to key r : ℕ) : Type 0 where
   pub low : from ≤ r
   pub high : from ≤ to → r ≤ to
   pub none : (i : ℕ) → from ≤ i → i < r → four-at m (i * slot + off) ≡ key → ⊥
+
+-- whether the bytes of b stand at `at`
+pub record Same (m : List ℕ) (at : ℕ) (b : List ℕ) (r : Bool) : Type 0 where
+  pub yes : r ≡ true → (j : ℕ) → j < length b → getD m (at + j) 0 ≡ getD b j 0
+  pub no : r ≡ false → ((j : ℕ) → j < length b → getD m (at + j) 0 ≡ getD b j 0) → ⊥
+
+-- whether slot i holds b
+pub record Tells (m : List ℕ) (i : ℕ) (b : List ℕ) (r : Bool) : Type 0 where
+  pub yes : r ≡ true → Held m i b
+  pub no : r ≡ false → Held m i b → ⊥
+
+-- no slot from `from` on and below r, of those below `to`, holds b
+pub record Skips (m : List ℕ) (from to : ℕ) (b : List ℕ) (r : ℕ) : Type 0 where
+  pub low : from ≤ r
+  pub high : r ≤ to
+  pub none : (i : ℕ) → from ≤ i → i < r → Held m i b → ⊥

@@ -1,8 +1,10 @@
-// Looking through a table of slots for the four bytes that stand at one place of a slot. A search is mostly passing over slots, so it goes by eight.
+// Looking through a table of slots of 32 bytes, a length byte and then a body: for a body, or for four bytes at one place of a slot. A search is mostly
+// passing over slots, so that goes by eight.
 ghost use mathlib.Core.Path.{_≡_};
 ghost use Prim.Native.Nat.{ℕ, _+_, _-_, _*_, _≤_, _<_};
 ghost use lib.ListN.{length, getD};
-ghost use Rattle.slots.specs.Seeking.{slot, quad, four-at, Passed, Reach, Onward, Seeks};
+ghost use mathlib.Core.List.{_∷_};
+ghost use Rattle.slots.specs.Seeking.{slot, quad, four-at, Held, Finds, Same, Tells, Skips, Passed, Reach, Onward, Seeks};
 
 pub const SLOT: usize = 32;
 
@@ -111,4 +113,97 @@ pub fn seek(m: &[u8], off: u8, from: u16, to: u16, key: u32) -> u16
         i += 1;
     }
     to
+}
+
+fn same_from(m: &[u8], at: usize, b: &[u8]) -> bool
+    requires { ⌜ at + length (now b) ≤ length (now m) ⌝ }
+    ensures { λ r. ⌜ Same (now (m .entry)) at (now (b .entry)) r ⌝ }
+{
+    let mut j = 0;
+    while j < b.len() {
+        if m[at + j] != b[j] {
+            return false;
+        }
+        j += 1;
+    }
+    true
+}
+
+// Is b in slot i?
+fn holds(m: &[u8], i: u16, b: &[u8]) -> bool
+    requires { ⌜ (i * slot + slot ≤ length (now m)) × (length (now b) < slot) ⌝ }
+    ensures { λ r. ⌜ Tells (now (m .entry)) i (now (b .entry)) r ⌝ }
+{
+    let at = size(i) * SLOT;
+    if wide(m[at]) != b.len() as u32 {
+        return false;
+    }
+    same_from(m, at + 1, b)
+}
+
+// How many of the slots are whole.
+fn whole_slots(m: &[u8], count: u16) -> u16
+    ensures { λ r. ⌜ (r ≤ count) × (r * slot ≤ length (now (m .entry))) × (r < count → length (now (m .entry)) < r * slot + slot) ⌝ }
+{
+    let n = m.len() / SLOT;
+    if n < size(count) {
+        return n as u16;
+    }
+    count
+}
+
+// The four bytes with which the length and b end.
+fn ending(b: &[u8]) -> u32
+    requires { ⌜ 3 ≤ length (now b) ⌝ }
+    ensures { λ r. ⌜ r ≡ four-at (length (now (b .entry)) ∷ now (b .entry)) (length (now (b .entry)) - 3) ⌝ }
+{
+    let n = b.len();
+    if n == 3 {
+        return quad(3, b[0], b[1], b[2]);
+    }
+    quad(b[n - 4], b[n - 3], b[n - 2], b[n - 1])
+}
+
+// The first slot from `from` on and below n that holds b.
+fn one_by_one(m: &[u8], from: u16, n: u16, b: &[u8]) -> u16
+    requires { ⌜ (from ≤ n) × (n * slot ≤ length (now m)) × (length (now b) < slot) ⌝ }
+    ensures { λ r. ⌜ Skips (now (m .entry)) from n (now (b .entry)) r ⌝ }
+{
+    let mut i = from;
+    while i < n {
+        if holds(m, i, b) {
+            return i;
+        }
+        i += 1;
+    }
+    i
+}
+
+// The first slot from `from` on and below n that may hold b. The last four bytes tell most slots apart; a body of less than three is too short for that.
+fn candidate(m: &[u8], from: u16, n: u16, b: &[u8]) -> u16
+    requires { ⌜ (from ≤ n) × (n * slot ≤ length (now m)) × (length (now b) < slot) ⌝ }
+    ensures { λ r. ⌜ Skips (now (m .entry)) from n (now (b .entry)) r ⌝ }
+{
+    if b.len() < 3 {
+        return one_by_one(m, from, n, b);
+    }
+    seek(m, (b.len() - 3) as u8, from, n, ending(b))
+}
+
+// The first slot, of so many, that holds b; their count where none does.
+pub fn find(m: &[u8], count: u16, b: &[u8]) -> u16
+    ensures { λ r. ⌜ Finds (now (m .entry)) count (now (b .entry)) r ⌝ }
+{
+    if SLOT <= b.len() {
+        return count;
+    }
+    let n = whole_slots(m, count);
+    let mut i = candidate(m, 0, n, b);
+    while i < n {
+        if holds(m, i, b) {
+            return i;
+        }
+        i = candidate(m, i + 1, n, b);
+    }
+    count
 }
