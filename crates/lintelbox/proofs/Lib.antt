@@ -1,1 +1,4 @@
 pub mod Crossing
+pub mod Reading
+pub mod Feeding
+pub mod Small

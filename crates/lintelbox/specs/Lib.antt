@@ -2,3 +2,5 @@
 pub mod Border
 pub mod Telling
 pub mod Loads
+pub mod Sheet
+pub mod State

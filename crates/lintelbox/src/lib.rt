@@ -11,6 +11,8 @@ use paper::Refusal;
 pub mod joins;
 pub mod loads;
 pub mod rules;
+pub mod sheet;
+pub mod state;
 pub mod tables;
 pub mod terms;
 
