@@ -172,10 +172,10 @@ static void sheets(void) {
     end(LINTEL_END_ROOM - 1);
     end(LINTEL_END_ROOM);
     begin(LINTEL_STATE);
-    feed("feed two sets", both, sizeof room);
-    fwrite(room, 1, answer[1], stdout);
-    feed("feed the rest", both + answer[0], sizeof room);
-    fwrite(room, 1, answer[1], stdout);
+    for (const char *rest = both; *rest; rest += answer[0]) {
+        feed("feed two sets, or the rest", rest, sizeof room);
+        fwrite(room, 1, answer[1], stdout);
+    }
     end(sizeof room);
     fwrite(room, 1, answer[0], stdout);
     check("check", set, sizeof sites, sizeof room);

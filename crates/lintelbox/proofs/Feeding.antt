@@ -1,6 +1,6 @@
 -- The sheet calls: what is fed, ended and checked, over the words and bytes that are lent.
 use mathlib.Core.Path.{_≡_, refl, ap, sym, _∙_}
-use mathlib.Core.Bool.{Bool, true, false, not}
+use mathlib.Core.Bool.{Bool, true, false}
 use mathlib.Core.List.{List, [], _∷_, _++_, append-nil}
 use mathlib.Core.Logic.{_⊎_, inl, inr, ⊎-elim}
 use Prim.Native.Nat.{ℕ, zero, suc, _+_, _≤_, _<_}
@@ -26,12 +26,12 @@ use Rattle.reading.specs.declared.Checked.{Checked}
 use Rattle.reading.specs.declared.Checked.the-variants as checked
 use Rattle.reading.specs.Whole.{first-state, Shows, Fedding, Feeds, Ends, Ending, Pauses, Checks, Enough}
 use Rattle.reading.proofs.Feeding.{shows-first}
+use Rattle.paused.specs.State.{state-words, keeps, state-in, state-put, held-put}
+use Rattle.paused.proofs.Reading.{SmallStands, SmallState, kept-state, put-there}
 use Rattle.lintelbox.specs.declared.Said.{Said}
 use Rattle.lintelbox.specs.Border.{short, answer-words, said, has-room, both, answered, after}
-use Rattle.lintelbox.specs.State.{state-words, state-in, state-put, held-put}
-use Rattle.lintelbox.specs.Sheet.{keeps, lends, writes, begun-number, Fed, Unfed, FeedSays, ended-said, Closed, EndSays, checked-said, Found, Crowded, Unread, CheckSays}
+use Rattle.lintelbox.specs.Sheet.{lends, writes, begun-number, Fed, Unfed, FeedSays, ended-said, Closed, EndSays, checked-said, Found, Crowded, Unread, CheckSays}
 use Rattle.lintelbox.proofs.Crossing.{stayed, went, enough}
-use Rattle.lintelbox.proofs.Reading.{SmallStands, SmallState, kept-state}
 
 no-way : {A : Type 0} → true ≡ false → A
 no-way e = let z : _≡_ {A = ℕ} 0 1 = cc in absurd (omega arith)
@@ -69,10 +69,6 @@ module _ (s : State) (k k′ : Lent) (room room′ piece : List ℕ) (i : ℕ) (
 
 -- ---- what is lent is long enough
 
-pub keeps-is : (w h : List ℕ) → keeps w h ≡ both (has-room w state-words) (has-room h max-held)
-unfolding keeps
-keeps-is w h = refl
-
 pub lends-is : (m ws i : List ℕ) → lends m ws i ≡ both (has-room m sites-room) (both (has-room ws kept-room) (has-room i items-room))
 unfolding lends
 lends-is m ws i = refl
@@ -89,15 +85,6 @@ pub past-test : (a b c : Bool) → a ≡ true → c ≡ b → c ≡ both a b
 unfolding both
 past-test a b c e p = rw e p
 
--- a test that came out so
-pub no-of : (b x : Bool) → b ≡ x → not b ≡ true → x ≡ false
-no-of true x e h = no-way (sym h)
-no-of false x e h = sym e
-
-pub yes-of : (b x : Bool) → b ≡ x → not b ≡ false → x ≡ true
-yes-of true x e h = sym e
-yes-of false x e h = no-way h
-
 both-are : (a b : Bool) → both a b ≡ true → (a ≡ true) × (b ≡ true)
 unfolding both
 both-are true true e = (refl, refl)
@@ -107,10 +94,6 @@ both-are false b e = no-way (sym e)
 roomy : (m : List ℕ) (n : ℕ) → has-room m n ≡ true → n ≤ length m
 unfolding has-room
 roomy m n e = leb-true n (length m) e
-
-pub keeps-long : (w h : List ℕ) → keeps w h ≡ true → (state-words ≤ length w) × (max-held ≤ length h)
-unfolding keeps
-keeps-long w h e = let t = both-are (has-room w state-words) (has-room h max-held) e in (roomy w state-words (t .0), roomy h max-held (t .1))
 
 pub lends-long : (m ws i : List ℕ) → lends m ws i ≡ true → Enough m ws i
 unfolding lends

@@ -1,4 +1,2 @@
 pub mod Crossing
-pub mod Reading
 pub mod Feeding
-pub mod Small

@@ -3,4 +3,3 @@ pub mod Border
 pub mod Telling
 pub mod Loads
 pub mod Sheet
-pub mod State

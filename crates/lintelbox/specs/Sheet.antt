@@ -12,21 +12,17 @@ use Rattle.findings.specs.declared.Room.{Room}
 use Rattle.findings.specs.declared.Room.the-variants as rooms
 use Rattle.recursion.specs.Table.{Square}
 use Rattle.ended.specs.Sets.{end-room}
-use Rattle.pieces.specs.Fed.{Reading, ended, max-held}
+use Rattle.pieces.specs.Fed.{Reading, ended}
 use Rattle.pieces.specs.Pieces.{as-lines}
 use Rattle.sheets.specs.State.{Lent, lent, step-room, sites-room, kept-room, items-room}
+use Rattle.paused.specs.State.{state-in, state-put, held-put}
 use Rattle.reading.specs.Whole.{Shows, Feeds}
 use Rattle.reading.specs.declared.Checked.{Checked}
 use Rattle.reading.specs.declared.Checked.the-variants as checked
 use Rattle.lintelbox.specs.declared.Said.{Said}
 use Rattle.lintelbox.specs.Border.{short, answer-words, said, has-room, both, answered}
-use Rattle.lintelbox.specs.State.{state-words, state-in, state-put, held-put}
 
--- ---- what is lent is long enough
-
--- for the state
-unfoldable pub keeps : List ℕ → List ℕ → Bool
-keeps w h = both (has-room w state-words) (has-room h max-held)
+-- ---- what is lent is long enough (for the state: `paused` has `keeps`)
 
 -- for the open set and the items of its open rule
 unfoldable pub lends : List ℕ → List ℕ → List ℕ → Bool

@@ -12,7 +12,6 @@ pub mod joins;
 pub mod loads;
 pub mod rules;
 pub mod sheet;
-pub mod state;
 pub mod tables;
 pub mod terms;
 

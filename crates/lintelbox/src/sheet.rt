@@ -11,36 +11,30 @@ ghost use Rattle.ended.specs.Sets.{end-room};
 ghost use Rattle.sheets.specs.State.{lent, step-room};
 ghost use Rattle.reading.specs.Whole.{first-state};
 ghost use Rattle.lintelbox.specs.Border.{said, both, after};
-ghost use Rattle.lintelbox.specs.State.{state-put, held-put};
-ghost use Rattle.lintelbox.specs.Sheet.{keeps, lends, writes, begun-number, FeedSays, EndSays, CheckSays, ended-said, checked-said};
+ghost use Rattle.paused.specs.State.{keeps, state-put, held-put};
+ghost use Rattle.lintelbox.specs.Sheet.{lends, writes, begun-number, FeedSays, EndSays, CheckSays, ended-said, checked-said};
 use crate::ANSWER;
 use crate::SHORT;
 use crate::Said;
 use crate::done;
 use crate::say;
-use crate::state::STATE;
-use crate::state::put_state;
-use crate::state::state_in;
-use crate::state::wide64;
 use ended::END_ROOM;
 use findings::Room;
 use handed::ITEMS_ROOM;
 use paper::TERMS;
-use pieces::HELD;
+use paused::keeps;
+use paused::put_state;
+use paused::state_in;
 use reading::Checked;
 use reading::KEPT_ROOM;
 use reading::SITES_ROOM;
 use recursion::WORDS;
 use sheets::STEP_ROOM;
 
-// Whether a state finds room in what is lent for it.
-fn keeps(state: &[u64], held: &[u8]) -> bool
-    ensures { λ b. ⌜ b ≡ keeps (now (state .entry)) (now (held .entry)) ⌝ }
+fn wide64(x: usize) -> u64
+    ensures { λ r. ⌜ r ≡ x ⌝ }
 {
-    if state.len() < STATE {
-        return false;
-    }
-    HELD <= held.len()
+    x as u64
 }
 
 // Whether the memory is enough for any set.

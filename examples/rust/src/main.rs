@@ -164,11 +164,12 @@ fn sheets(calls: &mut Calls) {
     calls.show("end", |a| k.end(&mut room[..END_ROOM], a));
     println!("begin: {}", k.begin(STATE));
     calls.made += 3;
-    calls.show("feed two sets", |a| k.feed(both.as_bytes(), &mut room, a));
-    text(&room, calls.answer[1]);
-    let read = calls.answer[0] as usize;
-    calls.show("feed the rest", |a| k.feed(&both.as_bytes()[read..], &mut room, a));
-    text(&room, calls.answer[1]);
+    let mut rest = both.as_bytes();
+    while !rest.is_empty() {
+        calls.show("feed two sets, or the rest", |a| k.feed(rest, &mut room, a));
+        text(&room, calls.answer[1]);
+        rest = &rest[calls.answer[0] as usize..];
+    }
     calls.show("end", |a| k.end(&mut room, a));
     text(&room, calls.answer[0]);
     calls.show("check", |a| k.check(SET.as_bytes(), SITES_ROOM, &mut room, a));

@@ -1,5 +1,6 @@
 -- `lintelbox::sheet::lintel_sheet_begin` meets its contract. Assumes nothing.
-use Rattle.lintelbox.proofs.Feeding.{no-of, yes-of, keeps-long, begin-short, begin-done}
+use Rattle.lintelbox.proofs.Feeding.{begin-short, begin-done}
+use Rattle.paused.proofs.Reading.{no-of, yes-of, put-there}
 use borrow.Author.Needs.{needs}
 use Rattle.lintelbox.proofs.sheet.lintel_sheet_begin.Statement.{statement}
 use Rattle.lintelbox.proofs.sheet.lintel_sheet_begin.Tie as tie
@@ -20,7 +21,7 @@ begin-requires : tie.Need-begin-requires
 begin-requires c κs = search needs
 
 put-state-requires : tie.Need-put-state-requires
-put-state-requires c κs = keeps-long _ _ (yes-of _ _ (c .before .before .before .before .before .keeps .ensures) (c .before .before .before .before .if1 .left))
+put-state-requires c κs = search needs
 
 same-length-3 : tie.Need-same-length-3
 same-length-3 c = search needs
@@ -29,7 +30,7 @@ same-length-4 : tie.Need-same-length-4
 same-length-4 c = search needs
 
 returns-2 : tie.Need-returns-2
-returns-2 c = begin-done _ _ _ _ _ _ _ _ (yes-of _ _ (c .before .before .before .before .before .before .before .before .before .before .keeps .ensures) (c .before .before .before .before .before .before .before .before .before .if1 .left)) (c .before .before .before .before .before .before .before .begin .ensures) (c .before .before .before .before .put-state .ensures)
+returns-2 c = begin-done _ _ _ _ _ _ _ _ (yes-of _ _ (c .before .before .before .before .before .before .before .before .before .before .keeps .ensures) (c .before .before .before .before .before .before .before .before .before .if1 .left)) (c .before .before .before .before .before .before .before .begin .ensures) (put-there _ _ _ _ _ _ (yes-of _ _ (c .before .before .before .before .before .before .before .before .before .before .keeps .ensures) (c .before .before .before .before .before .before .before .before .before .if1 .left)) (c .before .before .before .before .put-state .ensures))
 
 pub lintel-sheet-begin-spec : {M : Type 1} → statement M
 lintel-sheet-begin-spec =

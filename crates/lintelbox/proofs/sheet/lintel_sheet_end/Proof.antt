@@ -1,7 +1,8 @@
 -- `lintelbox::sheet::lintel_sheet_end` meets its contract. Assumes nothing.
 use mathlib.Core.Path.{refl}
 use Rattle.lintelbox.proofs.Crossing.{first-no, second-no, both-yes}
-use Rattle.lintelbox.proofs.Feeding.{no-of, yes-of, keeps-long, writes-long, said-there, end-short, end-says}
+use Rattle.lintelbox.proofs.Feeding.{writes-long, said-there, end-short, end-says}
+use Rattle.paused.proofs.Reading.{no-of, yes-of}
 use borrow.Author.Needs.{needs}
 use Rattle.lintelbox.proofs.sheet.lintel_sheet_end.Statement.{statement}
 use Rattle.lintelbox.proofs.sheet.lintel_sheet_end.Tie as tie
@@ -25,7 +26,7 @@ returns-2 : tie.Need-returns-2
 returns-2 c = end-short _ _ _ _ _ _ (second-no _ _ (yes-of _ _ (c .before .before .before .before .before .keeps .ensures) (c .before .before .before .before .if1 .left)) (no-of _ _ (c .before .writes .ensures) (c .if2 .taken)))
 
 state-in-requires : tie.Need-state-in-requires
-state-in-requires c κs = keeps-long _ _ (yes-of _ _ (c .before .before .before .before .before .keeps .ensures) (c .before .before .before .before .if1 .left)) .1
+state-in-requires c κs = search needs
 
 end-requires : tie.Need-end-requires
 end-requires c κs = search needs

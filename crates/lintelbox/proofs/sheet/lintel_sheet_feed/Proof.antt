@@ -1,6 +1,7 @@
 -- `lintelbox::sheet::lintel_sheet_feed` meets its contract. Assumes nothing.
 use Rattle.lintelbox.proofs.Crossing.{first-no, second-no, both-yes, done-as}
-use Rattle.lintelbox.proofs.Feeding.{no-of, yes-of, keeps-long, writes-long, said-there, feed-short, fed-there, feed-says}
+use Rattle.lintelbox.proofs.Feeding.{writes-long, said-there, feed-short, fed-there, feed-says}
+use Rattle.paused.proofs.Reading.{no-of, yes-of, put-there}
 use borrow.Author.Needs.{needs}
 use Rattle.lintelbox.proofs.sheet.lintel_sheet_feed.Statement.{statement}
 use Rattle.lintelbox.proofs.sheet.lintel_sheet_feed.Tie as tie
@@ -66,13 +67,13 @@ returns-3 : tie.Need-returns-3
 returns-3 c = feed-short _ _ _ _ _ _ _ (second-no _ _ (yes-of _ _ (c .before .before .before .before .before .before .before .before .before .before .keeps .ensures) (c .before .before .before .before .before .before .before .before .before .if1 .left)) (second-no _ _ (yes-of _ _ (c .before .before .before .before .before .lends .ensures) (c .before .before .before .before .if2 .left)) (no-of _ _ (c .before .writes .ensures) (c .if3 .taken))))
 
 state-in-requires : tie.Need-state-in-requires
-state-in-requires c κs = keeps-long _ _ (yes-of _ _ (c .before .before .before .before .before .before .before .before .before .before .before .before .keeps .ensures) (c .before .before .before .before .before .before .before .before .before .before .before .if1 .left)) .1
+state-in-requires c κs = search needs
 
 feed-requires : tie.Need-feed-requires
 feed-requires c κs = search needs
 
 put-state-requires : tie.Need-put-state-requires
-put-state-requires c κs = keeps-long _ _ (yes-of _ _ (c .before .before .before .before .before .before .before .before .before .before .before .before .before .before .before .before .before .before .before .before .before .before .before .before .before .before .before .before .before .before .keeps .ensures) (c .before .before .before .before .before .before .before .before .before .before .before .before .before .before .before .before .before .before .before .before .before .before .before .before .before .before .before .before .before .if1 .left))
+put-state-requires c κs = search needs
 
 counted-requires : tie.Need-counted-requires
 counted-requires c κs = search needs
@@ -111,7 +112,7 @@ same-length-21 : tie.Need-same-length-21
 same-length-21 c = search needs
 
 returns-4 : tie.Need-returns-4
-returns-4 c = feed-says _ _ _ _ _ _ _ _ _ _ _ _ _ _ _ (both-yes _ _ (yes-of _ _ (c .before .before .before .before .before .before .before .before .before .before .before .before .before .before .before .before .before .before .before .before .before .before .before .before .before .before .before .before .before .before .before .before .before .before .before .before .before .before .before .before .before .before .before .keeps .ensures) (c .before .before .before .before .before .before .before .before .before .before .before .before .before .before .before .before .before .before .before .before .before .before .before .before .before .before .before .before .before .before .before .before .before .before .before .before .before .before .before .before .before .before .if1 .left)) (both-yes _ _ (yes-of _ _ (c .before .before .before .before .before .before .before .before .before .before .before .before .before .before .before .before .before .before .before .before .before .before .before .before .before .before .before .before .before .before .before .before .before .before .before .before .before .before .lends .ensures) (c .before .before .before .before .before .before .before .before .before .before .before .before .before .before .before .before .before .before .before .before .before .before .before .before .before .before .before .before .before .before .before .before .before .before .before .before .before .if2 .left)) (yes-of _ _ (c .before .before .before .before .before .before .before .before .before .before .before .before .before .before .before .before .before .before .before .before .before .before .before .before .before .before .before .before .before .before .before .before .before .before .writes .ensures) (c .before .before .before .before .before .before .before .before .before .before .before .before .before .before .before .before .before .before .before .before .before .before .before .before .before .before .before .before .before .before .before .before .before .if3 .left)))) (writes-long _ _ _ (yes-of _ _ (c .before .before .before .before .before .before .before .before .before .before .before .before .before .before .before .before .before .before .before .before .before .before .before .before .before .before .before .before .before .before .before .before .before .before .writes .ensures) (c .before .before .before .before .before .before .before .before .before .before .before .before .before .before .before .before .before .before .before .before .before .before .before .before .before .before .before .before .before .before .before .before .before .if3 .left)) .1) (fed-there _ _ _ _ _ _ _ _ _ _ _ _ _ (c .before .before .before .before .before .before .before .before .before .before .before .before .before .before .before .before .before .before .before .before .before .before .before .before .before .before .before .before .before .before .state-in .ensures) (c .before .before .before .before .before .before .before .before .before .before .before .before .before .before .before .before .before .before .before .before .before .before .before .before .feed .ensures) (writes-long _ _ _ (yes-of _ _ (c .before .before .before .before .before .before .before .before .before .before .before .before .before .before .before .before .before .before .before .before .before .before .before .before .before .before .before .before .before .before .before .before .before .before .writes .ensures) (c .before .before .before .before .before .before .before .before .before .before .before .before .before .before .before .before .before .before .before .before .before .before .before .before .before .before .before .before .before .before .before .before .before .if3 .left)) .0) (c .before .before .before .before .before .before .before .before .before .before .before .before .put-state .ensures) _ (c .before .before .before .before .before .before .before .counted .ensures)) (said-there _ _ _ _ (writes-long _ _ _ (yes-of _ _ (c .before .before .before .before .before .before .before .before .before .before .before .before .before .before .before .before .before .before .before .before .before .before .before .before .before .before .before .before .before .before .before .before .before .before .writes .ensures) (c .before .before .before .before .before .before .before .before .before .before .before .before .before .before .before .before .before .before .before .before .before .before .before .before .before .before .before .before .before .before .before .before .before .if3 .left)) .1) (c .before .before .say .ensures) (done-as _ _ _ _ _ (c .before .before .before .done .ensures) (c .before .before .before .before .before .wide64 .ensures) (c .before .before .before .before .wide642 .ensures)))
+returns-4 c = feed-says _ _ _ _ _ _ _ _ _ _ _ _ _ _ _ (both-yes _ _ (yes-of _ _ (c .before .before .before .before .before .before .before .before .before .before .before .before .before .before .before .before .before .before .before .before .before .before .before .before .before .before .before .before .before .before .before .before .before .before .before .before .before .before .before .before .before .before .before .keeps .ensures) (c .before .before .before .before .before .before .before .before .before .before .before .before .before .before .before .before .before .before .before .before .before .before .before .before .before .before .before .before .before .before .before .before .before .before .before .before .before .before .before .before .before .before .if1 .left)) (both-yes _ _ (yes-of _ _ (c .before .before .before .before .before .before .before .before .before .before .before .before .before .before .before .before .before .before .before .before .before .before .before .before .before .before .before .before .before .before .before .before .before .before .before .before .before .before .lends .ensures) (c .before .before .before .before .before .before .before .before .before .before .before .before .before .before .before .before .before .before .before .before .before .before .before .before .before .before .before .before .before .before .before .before .before .before .before .before .before .if2 .left)) (yes-of _ _ (c .before .before .before .before .before .before .before .before .before .before .before .before .before .before .before .before .before .before .before .before .before .before .before .before .before .before .before .before .before .before .before .before .before .before .writes .ensures) (c .before .before .before .before .before .before .before .before .before .before .before .before .before .before .before .before .before .before .before .before .before .before .before .before .before .before .before .before .before .before .before .before .before .if3 .left)))) (writes-long _ _ _ (yes-of _ _ (c .before .before .before .before .before .before .before .before .before .before .before .before .before .before .before .before .before .before .before .before .before .before .before .before .before .before .before .before .before .before .before .before .before .before .writes .ensures) (c .before .before .before .before .before .before .before .before .before .before .before .before .before .before .before .before .before .before .before .before .before .before .before .before .before .before .before .before .before .before .before .before .before .if3 .left)) .1) (fed-there _ _ _ _ _ _ _ _ _ _ _ _ _ (c .before .before .before .before .before .before .before .before .before .before .before .before .before .before .before .before .before .before .before .before .before .before .before .before .before .before .before .before .before .before .state-in .ensures) (c .before .before .before .before .before .before .before .before .before .before .before .before .before .before .before .before .before .before .before .before .before .before .before .before .feed .ensures) (writes-long _ _ _ (yes-of _ _ (c .before .before .before .before .before .before .before .before .before .before .before .before .before .before .before .before .before .before .before .before .before .before .before .before .before .before .before .before .before .before .before .before .before .before .writes .ensures) (c .before .before .before .before .before .before .before .before .before .before .before .before .before .before .before .before .before .before .before .before .before .before .before .before .before .before .before .before .before .before .before .before .before .if3 .left)) .0) (put-there _ _ _ _ _ _ (yes-of _ _ (c .before .before .before .before .before .before .before .before .before .before .before .before .before .before .before .before .before .before .before .before .before .before .before .before .before .before .before .before .before .before .before .before .before .before .before .before .before .before .before .before .before .before .before .keeps .ensures) (c .before .before .before .before .before .before .before .before .before .before .before .before .before .before .before .before .before .before .before .before .before .before .before .before .before .before .before .before .before .before .before .before .before .before .before .before .before .before .before .before .before .before .if1 .left)) (c .before .before .before .before .before .before .before .before .before .before .before .before .put-state .ensures)) _ (c .before .before .before .before .before .before .before .counted .ensures)) (said-there _ _ _ _ (writes-long _ _ _ (yes-of _ _ (c .before .before .before .before .before .before .before .before .before .before .before .before .before .before .before .before .before .before .before .before .before .before .before .before .before .before .before .before .before .before .before .before .before .before .writes .ensures) (c .before .before .before .before .before .before .before .before .before .before .before .before .before .before .before .before .before .before .before .before .before .before .before .before .before .before .before .before .before .before .before .before .before .if3 .left)) .1) (c .before .before .say .ensures) (done-as _ _ _ _ _ (c .before .before .before .done .ensures) (c .before .before .before .before .before .wide64 .ensures) (c .before .before .before .before .wide642 .ensures)))
 
 pub lintel-sheet-feed-spec : {M : Type 1} → statement M
 lintel-sheet-feed-spec =
