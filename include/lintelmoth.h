@@ -46,8 +46,18 @@ enum {
     LINTEL_ITEM = 4,                /* words of an item of a rule */
     LINTEL_REPORT_ROOM = 67456,     /* bytes that hold any report */
     LINTEL_ROW = 4,                 /* words of a row of marks */
-    LINTEL_TABLE = 1024             /* words of the term table, LINTEL_TERMS rows: 8,192 bytes */
+    LINTEL_TABLE = 1024,            /* words of the term table, LINTEL_TERMS rows: 8,192 bytes */
+    LINTEL_STATE = 22,              /* words in which the reading of a sheet is kept: 176 bytes */
+    LINTEL_HELD = 65,               /* bytes of a line that is not ended yet */
+    LINTEL_SITES_ROOM = 32768,      /* bytes for the sites of a sheet's open set: LINTEL_SITES slots */
+    LINTEL_KEPT_ROOM = 12544,       /* words for its kept rules: LINTEL_RULES strides */
+    LINTEL_ITEMS_ROOM = 128,        /* words for the items of its open rule: LINTEL_ITEMS of LINTEL_ITEM */
+    LINTEL_STEP_ROOM = 67456,       /* bytes that hold what any line of a sheet finds: a report */
+    LINTEL_END_ROOM = 1803          /* bytes that hold what the end of any sheet finds */
 };
+
+/* The word of a sheet's state that is 0 until the sheet stopped, and then 1. */
+enum { LINTEL_STOPPED = 21 };
 
 /* The numbers. */
 enum {
@@ -154,6 +164,37 @@ uint32_t lintel_mark_rec(uint64_t recs[LINTEL_PART(LINTEL_ROW)], uint16_t term, 
  * alone. `found` has at least LINTEL_TERMS elements. */
 uint32_t lintel_cyclic_terms(const uint64_t table[LINTEL_PART(LINTEL_TABLE)], const uint64_t recs[LINTEL_PART(LINTEL_ROW)],
                              uint16_t *found, size_t found_length, uint64_t *answer, size_t answer_length);
+
+/* ---- sheets: read in pieces of any size (begin, feed, feed, .., end), in constant memory, or whole (check). What is found stands first in `room`, as
+ * lines of digits, each ended by LF; the rest of the room is left alone. The whole sheet's findings are the lines of all calls, in order.
+ *
+ * Between two calls of a sheet the caller keeps, and does not touch: `state`, `held`, `sites`, `words`, `items`, `table`. What is lent behind the
+ * named sizes is left alone. A sheet needs nothing of another, so two may be read in turn, each in its own memory.
+ *
+ * LINTEL_SHORT where anything lent is shorter than its size; then nothing is read or changed. The number is else 0 on all that these calls left. */
+
+/* Before the first piece: clears the state, the held line and the term table. The memory of sites, words and items may hold anything. */
+uint32_t lintel_sheet_begin(uint64_t *state, size_t state_length, uint8_t *held, size_t held_length, uint64_t table[LINTEL_PART(LINTEL_TABLE)]);
+
+/* Reads a piece of the sheet. answer: how many of its bytes were read; how many bytes of findings stand in `room`. Where fewer were read than handed
+ * over, the room left was too short for another line: take the findings, and feed the rest. A room of LINTEL_STEP_ROOM is enough; a longer one takes the
+ * findings of more lines at a time. Of a piece that is not empty a byte at least is read, so that a loop over the rest ends. Once a sheet stopped
+ * (state[LINTEL_STOPPED] is 1, and a finding 1F was its last), all further bytes count as read and find nothing. */
+uint32_t lintel_sheet_feed(uint64_t *state, size_t state_length, uint8_t *held, size_t held_length, uint8_t *sites, size_t sites_length,
+                           uint64_t *words, size_t words_length, uint64_t *items, size_t items_length, uint64_t table[LINTEL_PART(LINTEL_TABLE)],
+                           const uint8_t *piece, size_t piece_length, uint8_t *room, size_t room_length, uint64_t *answer, size_t answer_length);
+
+/* The sheet ends here. answer: how many bytes of findings stand in `room`, of at least LINTEL_END_ROOM; none where the sheet stopped. The state and
+ * the table are left as they are. */
+uint32_t lintel_sheet_end(const uint64_t *state, size_t state_length, const uint8_t *held, size_t held_length,
+                          const uint64_t table[LINTEL_PART(LINTEL_TABLE)], uint8_t *room, size_t room_length, uint64_t *answer, size_t answer_length);
+
+/* A sheet that is there whole. answer: how many bytes of findings stand in `room`. A room of LINTEL_STEP_ROOM more than the findings is always enough.
+ * 7 where the room was too short: it then holds the first findings, and they may end anywhere between two lines. What sites, words, items and table
+ * hold before does not matter, and what they hold after is of no use. */
+uint32_t lintel_sheet_check(const uint8_t *sheet, size_t sheet_length, uint8_t *sites, size_t sites_length, uint64_t *words, size_t words_length,
+                            uint64_t *items, size_t items_length, uint64_t table[LINTEL_PART(LINTEL_TABLE)], uint8_t *room, size_t room_length,
+                            uint64_t *answer, size_t answer_length);
 
 #ifdef __cplusplus
 }

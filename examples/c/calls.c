@@ -130,11 +130,69 @@ static void terms(void) {
     printf("\n");
 }
 
+static uint64_t state[LINTEL_STATE], items[LINTEL_ITEMS_ROOM];
+static uint8_t held[LINTEL_HELD];
+
+static void begin(size_t state_length) {
+    calls++;
+    printf("begin: %" PRIu32 "\n", lintel_sheet_begin(state, state_length, held, sizeof held, table));
+}
+
+static void feed(const char *name, const char *piece, size_t room_length) {
+    show(name, lintel_sheet_feed(state, LINTEL_STATE, held, sizeof held, sites, sizeof sites, words, LINTEL_KEPT_ROOM, items, LINTEL_ITEMS_ROOM, table,
+                                 (const uint8_t *)piece, strlen(piece), room, room_length, answer, LINTEL_ANSWER));
+}
+
+static void end(size_t room_length) {
+    show("end", lintel_sheet_end(state, LINTEL_STATE, held, sizeof held, table, room, room_length, answer, LINTEL_ANSWER));
+}
+
+static void check(const char *name, const char *sheet, size_t sites_length, size_t room_length) {
+    show(name, lintel_sheet_check((const uint8_t *)sheet, strlen(sheet), sites, sites_length, words, LINTEL_KEPT_ROOM, items, LINTEL_ITEMS_ROOM, table,
+                                  room, room_length, answer, LINTEL_ANSWER));
+}
+
+/* Two sets; in the second a rule has one site twice under differing constraints. */
+static void sheets(void) {
+    static const char set[] = "01000700\n020300\n030000000A000000000000000101\n04000003000300000000000000000000000000000005\n"
+                              "0300000014000000000000000001\n04000003000300000000000000000000000000000005\n06\n";
+    static const char other[] = "01000801\n020300\n0300000014000000000000000002\n04000003000300000000000000000000000000000005\n"
+                                "04000003000300000000000000000000000000000006\n06\n";
+    char both[sizeof set + sizeof other];
+    strcat(strcpy(both, set), other);
+    begin(LINTEL_STATE - 1);
+    begin(LINTEL_STATE);
+    feed("feed, room 100", set, 100);
+    feed("feed part of a line", "0100", sizeof room);
+    feed("feed the rest, and the set", "0700\n020300\n030000000A000000000000000101\n04000003000300000000000000000000000000000005\n06\n", sizeof room);
+    feed("feed a line that is none", "07\nand more", sizeof room);
+    fwrite(room, 1, answer[1], stdout);
+    printf("stopped: %" PRIu64 "\n", state[LINTEL_STOPPED]);
+    feed("feed what comes behind", set, sizeof room);
+    end(LINTEL_END_ROOM - 1);
+    end(LINTEL_END_ROOM);
+    begin(LINTEL_STATE);
+    for (const char *rest = both; *rest; rest += answer[0]) {
+        feed("feed two sets, or the rest", rest, sizeof room);
+        fwrite(room, 1, answer[1], stdout);
+    }
+    end(sizeof room);
+    fwrite(room, 1, answer[0], stdout);
+    check("check", set, sizeof sites, sizeof room);
+    fwrite(room, 1, answer[0], stdout);
+    check("check, sites short", set, sizeof sites - 1, sizeof room);
+    check("check, room short", set, sizeof sites, sizeof room - 1);
+    check("check, room short of two sets", both, sizeof sites, sizeof room);
+    check("check nothing", "", sizeof sites, sizeof room);
+    fwrite(room, 1, answer[0], stdout);
+}
+
 int main(void) {
     classes();
     set_of_sites();
     set_of_rules();
     terms();
+    sheets();
     printf("%u calls\n", calls);
     return 0;
 }

@@ -12,6 +12,9 @@ static uint8_t ranks[LINTEL_SITES], sites[LINTEL_SITES * LINTEL_SLOT], any[LINTE
 static uint64_t words[LINTEL_RULES * LINTEL_STRIDE], table[LINTEL_TABLE], recs[LINTEL_ROW], answer[LINTEL_ANSWER];
 static uint8_t set[LINTEL_SITES * LINTEL_SLOT], flat[LINTEL_SITES * LINTEL_SLOT], many;
 static uint64_t kept[LINTEL_STRIDE], items[LINTEL_ITEMS * LINTEL_ITEM];
+static uint64_t state[LINTEL_STATE], ended[LINTEL_STATE], lent_items[LINTEL_ITEMS_ROOM], lent[LINTEL_KEPT_ROOM], edges[LINTEL_TABLE], ring[LINTEL_TABLE];
+static uint8_t held[LINTEL_HELD], lent_sites[LINTEL_SITES_ROOM], all[2 * LINTEL_STEP_ROOM];
+static char sheet[16384];
 static const uint64_t wide[] = {65536, 1, 0, 0, 65537, 2, 0, 0, 65538, 3, 0, 0, 1, 65543, 8, 0};
 static const uint8_t body[] = {9, 0, 1, 1, 0, 9};
 
@@ -35,6 +38,16 @@ static void report(void) { lintel_report(words, sizeof words / 8, LINTEL_RULES, 
 static void terms_clear(void) { lintel_terms_clear(table, recs); }
 static void edge(void) { lintel_add_edge(table, 3, 200, answer, LINTEL_ANSWER); }
 static void rec(void) { lintel_mark_rec(recs, 3, answer, LINTEL_ANSWER); }
+static void begin(void) { lintel_sheet_begin(state, LINTEL_STATE, held, LINTEL_HELD, edges); }
+static void feed(void) {
+    lintel_sheet_feed(state, LINTEL_STATE, held, LINTEL_HELD, lent_sites, sizeof lent_sites, lent, LINTEL_KEPT_ROOM, lent_items, LINTEL_ITEMS_ROOM, edges,
+                      (const uint8_t *)sheet, strlen(sheet), all, sizeof all, answer, LINTEL_ANSWER);
+}
+static void end(void) { lintel_sheet_end(ended, LINTEL_STATE, held, LINTEL_HELD, ring, room, sizeof room, answer, LINTEL_ANSWER); }
+static void check(void) {
+    lintel_sheet_check((const uint8_t *)sheet, strlen(sheet), lent_sites, sizeof lent_sites, lent, LINTEL_KEPT_ROOM, lent_items, LINTEL_ITEMS_ROOM, edges,
+                       all, sizeof all, answer, LINTEL_ANSWER);
+}
 static void cyclic(void) { lintel_cyclic_terms(table, recs, found, LINTEL_TERMS, answer, LINTEL_ANSWER); }
 
 static const struct {
@@ -62,6 +75,10 @@ static const struct {
     {"lintel_add_edge", edge},
     {"lintel_mark_rec", rec},
     {"lintel_cyclic_terms", cyclic},
+    {"lintel_sheet_begin", begin},
+    {"lintel_sheet_feed, a rule with a chain of 14 fields, the end of a set, a line that is none", feed},
+    {"lintel_sheet_end, a ring of 256 terms", end},
+    {"lintel_sheet_check, the same sheet", check},
 };
 
 static uint8_t *low;
@@ -142,14 +159,34 @@ static void fill_set(void) {
     for (unsigned i = 2; i < 15; i++) item(i, 65536 + i, 1);
 }
 
+static void line(const char *form, unsigned a, unsigned b) { sprintf(sheet + strlen(sheet), form, a, b); }
+
+/* The set and the rule of fill_set, and 63 rules more, of one constraint: all overlap. Behind the set a line that stops the sheet. */
+static void fill_sheet(void) {
+    line("01000700\n020300\n020301\n", 0, 0);
+    for (unsigned i = 2; i < 16; i++) line("020A%04X00\n", i == 2 ? 0 : i - 1, 0);
+    line("030000000000000000000000000F\n0500000001\n04000001000901\n", 0, 0);
+    for (unsigned i = 2; i < 15; i++) line("04%04X01%04X01\n", i, i);
+    for (unsigned i = 1; i < LINTEL_RULES; i++) line("03%08X000000000000000001\n04000001000901\n", i, 0);
+    line("06\n07\n", 0, 0);
+    ended[0] = 1;
+    memcpy(ring, table, sizeof ring);
+}
+
 int main(void) {
     fill();
     fill_set();
     fill_any();
+    fill_sheet();
     for (size_t i = 0; i < sizeof calls / sizeof *calls; i++) printf("| %s | %zu |\n", calls[i].name, used(calls[i].call));
     load();
     if (answer[0] != 30) return 1;
     load_wide();
     if (answer[0] != 36) return 1;
+    begin();
+    feed();
+    if (answer[1] != 17086 || !state[LINTEL_STOPPED]) return 1;
+    end();
+    if (answer[0] != LINTEL_END_ROOM) return 1;
     return 0;
 }

@@ -3,12 +3,10 @@ use mathlib.Core.Path.{_≡_, refl, ap, sym, _∙_}
 use mathlib.Core.Bool.{Bool, true, false, _&&_, not}
 use mathlib.Core.List.{List, [], _∷_, _++_}
 use Prim.Native.Nat.{ℕ, suc, _+_, _<_, _≤_, min}
-use native.Mathlib.Nat.{min-eq-right, zero-add}
-use native.Mathlib.Numerals.{add-one}
+use native.Mathlib.Nat.{min-eq-right}
 use native.Mathlib.Omega.{arith}
 use lib.ListN.{length, getD, set, take, drop}
 use lib.Dec.{ltb, leb}
-use lib.Seq.{paste, paste-zero, paste-suc, length-paste, take-all}
 use borrow.Author.Tests.{le-leb, lt-leb, eq-eqb, ne-eqb}
 use Rattle.paper.specs.declared.Refusal.{Refusal}
 use Rattle.paper.specs.Numbers.{max-sites, number, told, Outcome, done, refused}
@@ -169,27 +167,6 @@ pub left-is : {T : Type 0} (t : T) (o : Outcome T) → left t o ≡ left-by t (�
 unfolding left-by
 left-is t (done x) = refl
 left-is t (refused r) = refl
-
--- ---- a copy to the start of a slice
-
-copied : (found all : List ℕ) (n : ℕ) → length all ≡ n → paste found 0 all n ≡ all ++ drop n found
-copied found all n h = rw (take-all n all (omega (arith, h)), zero-add n)
-
-pub copied-all : (found all now : List ℕ) (i n : ℕ) → length all ≡ n → i ≤ n → n ≤ i → now ≡ paste found 0 all i → now ≡ all ++ drop n found
-copied-all found all now i n e l k p = let q : i ≡ n = omega arith in p ∙ ap (λ (j : ℕ). paste found 0 all j) q ∙ copied found all n e
-
-pub copied-none : (found all : List ℕ) → found ≡ paste found 0 all 0
-copied-none found all = paste-zero found 0 all
-
-pub copied-turn : (found all now : List ℕ) (i n : ℕ) → n ≤ length found → length all ≡ n → i < n → now ≡ paste found 0 all i → set now i (getD all i 0) ≡ paste found 0 all (i + 1)
-copied-turn found all now i n h e l p =
-    ap (λ (m : List ℕ). set m i (getD all i 0)) p
-    ∙ ap (λ (k : ℕ). set (paste found 0 all i) k (getD all i 0)) (sym (zero-add i))
-    ∙ paste-suc found 0 all i 0 (omega (arith, h, l)) (omega (arith, e, l))
-    ∙ ap (λ (k : ℕ). paste found 0 all k) (sym (add-one i))
-
-pub copied-length : (found all now : List ℕ) (i n : ℕ) → n ≤ length found → length all ≡ n → i ≤ n → now ≡ paste found 0 all i → length now ≡ length found
-copied-length found all now i n h e l p = ap length p ∙ length-paste found 0 all i (omega (arith, h, l)) (omega (arith, e, l))
 
 -- ---- the few that are left
 

@@ -2,3 +2,4 @@
 pub mod Border
 pub mod Telling
 pub mod Loads
+pub mod Sheet

@@ -11,6 +11,7 @@ use paper::Refusal;
 pub mod joins;
 pub mod loads;
 pub mod rules;
+pub mod sheet;
 pub mod tables;
 pub mod terms;
 

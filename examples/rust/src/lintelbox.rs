@@ -11,6 +11,14 @@ pub const TERMS: usize = 256;
 pub const NONE: u64 = 65535;
 
 pub const ANSWER: usize = 2;
+pub const STATE: usize = 22;
+pub const HELD: usize = 65;
+pub const STOPPED: usize = 21;
+pub const SITES_ROOM: usize = SITES * SLOT;
+pub const KEPT_ROOM: usize = RULES * STRIDE;
+pub const ITEMS_ROOM: usize = 128;
+pub const STEP_ROOM: usize = REPORT_ROOM;
+pub const END_ROOM: usize = 1803;
 
 /// Classes of sites: what the class calls lend.
 pub struct Classes {
@@ -44,6 +52,18 @@ mod c {
         pub fn lintel_add_edge(table: *mut u64, from: u16, to: u16, answer: *mut u64, n: usize) -> u32;
         pub fn lintel_mark_rec(recs: *mut u64, term: u16, answer: *mut u64, n: usize) -> u32;
         pub fn lintel_cyclic_terms(table: *const u64, recs: *const u64, found: *mut u16, f: usize, answer: *mut u64, n: usize) -> u32;
+        pub fn lintel_sheet_begin(state: *mut u64, s: usize, held: *mut u8, h: usize, table: *mut u64) -> u32;
+        pub fn lintel_sheet_feed(
+            state: *mut u64, s: usize, held: *mut u8, h: usize, sites: *mut u8, m: usize, words: *mut u64, w: usize, items: *mut u64, i: usize,
+            table: *mut u64, piece: *const u8, p: usize, room: *mut u8, r: usize, answer: *mut u64, n: usize,
+        ) -> u32;
+        pub fn lintel_sheet_end(
+            state: *const u64, s: usize, held: *const u8, h: usize, table: *const u64, room: *mut u8, r: usize, answer: *mut u64, n: usize,
+        ) -> u32;
+        pub fn lintel_sheet_check(
+            sheet: *const u8, l: usize, sites: *mut u8, m: usize, words: *mut u64, w: usize, items: *mut u64, i: usize, table: *mut u64,
+            room: *mut u8, r: usize, answer: *mut u64, n: usize,
+        ) -> u32;
     }
 }
 
@@ -142,5 +162,64 @@ impl Terms {
     pub fn cyclic(&self, found: &mut [u16], a: &mut [u64]) -> u32 {
         let (t, r) = (self.table.as_ptr(), self.recs.as_ptr());
         unsafe { c::lintel_cyclic_terms(t, r, found.as_mut_ptr(), found.len(), a.as_mut_ptr(), a.len()) }
+    }
+}
+
+/// All that is kept of a sheet between two pieces.
+pub struct Sheet {
+    state: [u64; STATE],
+    held: [u8; HELD],
+    sites: Vec<u8>,
+    words: Vec<u64>,
+    items: [u64; ITEMS_ROOM],
+    table: [u64; TERMS * 4],
+}
+
+impl Sheet {
+    pub fn new() -> Sheet {
+        let (sites, words) = (vec![0; SITES_ROOM], vec![0; KEPT_ROOM]);
+        Sheet { state: [0; STATE], held: [0; HELD], sites, words, items: [0; ITEMS_ROOM], table: [0; TERMS * 4] }
+    }
+
+    /// Before the first piece. Fewer than `STATE` words of the state are too few.
+    pub fn begin(&mut self, words: usize) -> u32 {
+        let s = &mut self.state[..words];
+        let h = &mut self.held;
+        unsafe { c::lintel_sheet_begin(s.as_mut_ptr(), s.len(), h.as_mut_ptr(), HELD, self.table.as_mut_ptr()) }
+    }
+
+    /// Whether the sheet stopped.
+    pub fn stopped(&self) -> bool {
+        self.state[STOPPED] != 0
+    }
+
+    /// `a`: bytes of the piece that were read, bytes of findings in the room.
+    pub fn feed(&mut self, piece: &[u8], room: &mut [u8], a: &mut [u64]) -> u32 {
+        let (s, h, t) = (&mut self.state, &mut self.held, &mut self.table);
+        let (m, w, i) = (&mut self.sites, &mut self.words, &mut self.items);
+        unsafe {
+            c::lintel_sheet_feed(
+                s.as_mut_ptr(), s.len(), h.as_mut_ptr(), h.len(), m.as_mut_ptr(), m.len(), w.as_mut_ptr(), w.len(), i.as_mut_ptr(), i.len(),
+                t.as_mut_ptr(), piece.as_ptr(), piece.len(), room.as_mut_ptr(), room.len(), a.as_mut_ptr(), a.len(),
+            )
+        }
+    }
+
+    /// `a`: bytes of findings in the room.
+    pub fn end(&self, room: &mut [u8], a: &mut [u64]) -> u32 {
+        let (s, h, t) = (&self.state, &self.held, &self.table);
+        let r = room.as_mut_ptr();
+        unsafe { c::lintel_sheet_end(s.as_ptr(), s.len(), h.as_ptr(), h.len(), t.as_ptr(), r, room.len(), a.as_mut_ptr(), a.len()) }
+    }
+
+    /// A whole sheet, in the same memory, of which the first bytes are lent for the sites. `a`: bytes of findings in the room.
+    pub fn check(&mut self, sheet: &[u8], sites: usize, room: &mut [u8], a: &mut [u64]) -> u32 {
+        let (m, w, i, t) = (&mut self.sites[..sites], &mut self.words, &mut self.items, &mut self.table);
+        unsafe {
+            c::lintel_sheet_check(
+                sheet.as_ptr(), sheet.len(), m.as_mut_ptr(), m.len(), w.as_mut_ptr(), w.len(), i.as_mut_ptr(), i.len(), t.as_mut_ptr(),
+                room.as_mut_ptr(), room.len(), a.as_mut_ptr(), a.len(),
+            )
+        }
     }
 }

@@ -139,11 +139,54 @@ fn terms(calls: &mut Calls) {
     list(&found[..calls.answer[0] as usize]);
 }
 
+const SET: &str = "01000700\n020300\n030000000A000000000000000101\n04000003000300000000000000000000000000000005\n\
+                   0300000014000000000000000001\n04000003000300000000000000000000000000000005\n06\n";
+const OTHER: &str = "01000801\n020300\n0300000014000000000000000002\n04000003000300000000000000000000000000000005\n\
+                     04000003000300000000000000000000000000000006\n06\n";
+
+fn sheets(calls: &mut Calls) {
+    let both = format!("{SET}{OTHER}");
+    let rest = "0700\n020300\n030000000A000000000000000101\n04000003000300000000000000000000000000000005\n06\n";
+    let mut room = vec![0; STEP_ROOM];
+    let mut k = Sheet::new();
+    let text = |room: &[u8], n: u64| print!("{}", String::from_utf8_lossy(&room[..n as usize]));
+    for n in [STATE - 1, STATE] {
+        println!("begin: {}", k.begin(n));
+    }
+    calls.show("feed, room 100", |a| k.feed(SET.as_bytes(), &mut room[..100], a));
+    calls.show("feed part of a line", |a| k.feed(b"0100", &mut room, a));
+    calls.show("feed the rest, and the set", |a| k.feed(rest.as_bytes(), &mut room, a));
+    calls.show("feed a line that is none", |a| k.feed(b"07\nand more", &mut room, a));
+    text(&room, calls.answer[1]);
+    println!("stopped: {}", k.stopped() as u32);
+    calls.show("feed what comes behind", |a| k.feed(SET.as_bytes(), &mut room, a));
+    calls.show("end", |a| k.end(&mut room[..END_ROOM - 1], a));
+    calls.show("end", |a| k.end(&mut room[..END_ROOM], a));
+    println!("begin: {}", k.begin(STATE));
+    calls.made += 3;
+    let mut rest = both.as_bytes();
+    while !rest.is_empty() {
+        calls.show("feed two sets, or the rest", |a| k.feed(rest, &mut room, a));
+        text(&room, calls.answer[1]);
+        rest = &rest[calls.answer[0] as usize..];
+    }
+    calls.show("end", |a| k.end(&mut room, a));
+    text(&room, calls.answer[0]);
+    calls.show("check", |a| k.check(SET.as_bytes(), SITES_ROOM, &mut room, a));
+    text(&room, calls.answer[0]);
+    calls.show("check, sites short", |a| k.check(SET.as_bytes(), SITES_ROOM - 1, &mut room, a));
+    calls.show("check, room short", |a| k.check(SET.as_bytes(), SITES_ROOM, &mut room[..STEP_ROOM - 1], a));
+    calls.show("check, room short of two sets", |a| k.check(both.as_bytes(), SITES_ROOM, &mut room, a));
+    calls.show("check nothing", |a| k.check(b"", SITES_ROOM, &mut room, a));
+    text(&room, calls.answer[0]);
+}
+
 fn main() {
     let mut calls = Calls { made: 0, answer: [0; ANSWER] };
     classes(&mut calls);
     let mut set = sites(&mut calls);
     rules(&mut calls, &mut set);
     terms(&mut calls);
+    sheets(&mut calls);
     println!("{} calls", calls.made);
 }

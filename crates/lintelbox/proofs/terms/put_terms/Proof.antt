@@ -6,7 +6,7 @@ use lib.Seq.{paste}
 use denote.Ref.{now}
 use borrow.Author.Needs.{needs}
 use Rattle.recursion.specs.Table.{terms}
-use Rattle.lintelbox.proofs.Crossing.{copied-none, copied-turn, copied-length, copied-all}
+use Rattle.paused.proofs.Reading.{copied-none, copied-turn, copied-length, copied-all}
 use Rattle.lintelbox.proofs.terms.put_terms.Statement.{statement}
 use Rattle.lintelbox.proofs.terms.put_terms.Tie as tie
 

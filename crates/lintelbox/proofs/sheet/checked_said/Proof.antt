@@ -1,0 +1,51 @@
+-- `lintelbox::sheet::checked_said` meets its contract. Assumes nothing.
+use mathlib.Core.Path.{sym, ap, refl, _∙_}
+use Rattle.lintelbox.specs.Sheet.{checked-said}
+use Rattle.lintelbox.proofs.Crossing.{done-as}
+use borrow.Author.Needs.{needs}
+use Rattle.lintelbox.proofs.sheet.checked_said.Statement.{statement}
+use Rattle.lintelbox.proofs.sheet.checked_said.Tie as tie
+
+enum-known-c : tie.Need-enum-known-c
+enum-known-c c = search needs
+
+wide64-requires : tie.Need-wide64-requires
+wide64-requires c κs = search needs
+
+done-requires : tie.Need-done-requires
+done-requires c κs = search needs
+
+enum-told : tie.Need-enum-told
+enum-told c = search needs
+
+crowded-requires : tie.Need-crowded-requires
+crowded-requires c κs = search needs
+
+enum-told-2 : tie.Need-enum-told-2
+enum-told-2 c = search needs
+
+returns : tie.Need-returns
+unfolding checked-said
+returns c = done-as _ _ _ _ _ (c .done .ensures) (c .before .wide64 .ensures) refl ∙ sym (ap checked-said (c .before .before .before .c .given .1))
+
+returns-2 : tie.Need-returns-2
+unfolding checked-said
+returns-2 c = c .crowded .ensures ∙ sym (ap checked-said (c .before .enum-told .given .1))
+
+returns-3 : tie.Need-returns-3
+unfolding checked-said
+returns-3 c = sym (ap checked-said (c .enum-told2 .given .1))
+
+pub checked-said-spec : {M : Type 1} → statement M
+checked-said-spec =
+    tie.close
+    (tie.spec
+    enum-known-c
+    wide64-requires
+    done-requires
+    enum-told
+    crowded-requires
+    enum-told-2
+    returns
+    returns-2
+    returns-3)

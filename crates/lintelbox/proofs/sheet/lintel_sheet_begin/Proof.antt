@@ -1,0 +1,47 @@
+-- `lintelbox::sheet::lintel_sheet_begin` meets its contract. Assumes nothing.
+use Rattle.lintelbox.proofs.Feeding.{begin-short, begin-done}
+use Rattle.paused.proofs.Reading.{no-of, yes-of, put-there}
+use borrow.Author.Needs.{needs}
+use Rattle.lintelbox.proofs.sheet.lintel_sheet_begin.Statement.{statement}
+use Rattle.lintelbox.proofs.sheet.lintel_sheet_begin.Tie as tie
+
+keeps-requires : tie.Need-keeps-requires
+keeps-requires c κs = search needs
+
+same-length : tie.Need-same-length
+same-length c = search needs
+
+same-length-2 : tie.Need-same-length-2
+same-length-2 c = search needs
+
+returns : tie.Need-returns
+returns c = begin-short _ _ _ _ _ _ _ (no-of _ _ (c .before .keeps .ensures) (c .if1 .taken))
+
+begin-requires : tie.Need-begin-requires
+begin-requires c κs = search needs
+
+put-state-requires : tie.Need-put-state-requires
+put-state-requires c κs = search needs
+
+same-length-3 : tie.Need-same-length-3
+same-length-3 c = search needs
+
+same-length-4 : tie.Need-same-length-4
+same-length-4 c = search needs
+
+returns-2 : tie.Need-returns-2
+returns-2 c = begin-done _ _ _ _ _ _ _ _ (yes-of _ _ (c .before .before .before .before .before .before .before .before .before .before .keeps .ensures) (c .before .before .before .before .before .before .before .before .before .if1 .left)) (c .before .before .before .before .before .before .before .begin .ensures) (put-there _ _ _ _ _ _ (yes-of _ _ (c .before .before .before .before .before .before .before .before .before .before .keeps .ensures) (c .before .before .before .before .before .before .before .before .before .if1 .left)) (c .before .before .before .before .put-state .ensures))
+
+pub lintel-sheet-begin-spec : {M : Type 1} → statement M
+lintel-sheet-begin-spec =
+    tie.close
+    (tie.spec
+    keeps-requires
+    same-length
+    same-length-2
+    returns
+    begin-requires
+    put-state-requires
+    same-length-3
+    same-length-4
+    returns-2)

@@ -1,0 +1,210 @@
+// The sheet calls. Between two pieces of a sheet all that is kept of it lies in lent memory: the state (words and the bytes of a held line), the open set,
+// the items of its open rule, the term table.
+ghost use mathlib.Core.Path.{_≡_};
+ghost use mathlib.Core.Bool.{Bool};
+ghost use mathlib.Core.List.{[]};
+ghost use Prim.Native.Nat.{ℕ};
+ghost use lib.ListN.{length};
+ghost use Rattle.paper.specs.Words.{if_then_else_};
+ghost use Rattle.recursion.specs.Table.{no-edges};
+ghost use Rattle.ended.specs.Sets.{end-room};
+ghost use Rattle.sheets.specs.State.{lent, step-room};
+ghost use Rattle.reading.specs.Whole.{first-state};
+ghost use Rattle.lintelbox.specs.Border.{said, both, after};
+ghost use Rattle.paused.specs.State.{keeps, state-put, held-put};
+ghost use Rattle.lintelbox.specs.Sheet.{lends, writes, begun-number, FeedSays, EndSays, CheckSays, ended-said, checked-said};
+use crate::ANSWER;
+use crate::SHORT;
+use crate::Said;
+use crate::done;
+use crate::say;
+use ended::END_ROOM;
+use findings::Room;
+use handed::ITEMS_ROOM;
+use paper::TERMS;
+use paused::keeps;
+use paused::put_state;
+use paused::state_in;
+use reading::Checked;
+use reading::KEPT_ROOM;
+use reading::SITES_ROOM;
+use recursion::WORDS;
+use sheets::STEP_ROOM;
+
+fn wide64(x: usize) -> u64
+    ensures { λ r. ⌜ r ≡ x ⌝ }
+{
+    x as u64
+}
+
+// Whether the memory is enough for any set.
+fn lends(sites: &[u8], words: &[u64], items: &[u64]) -> bool
+    ensures { λ b. ⌜ b ≡ lends (now (sites .entry)) (now (words .entry)) (now (items .entry)) ⌝ }
+{
+    if sites.len() < SITES_ROOM {
+        return false;
+    }
+    if words.len() < KEPT_ROOM {
+        return false;
+    }
+    ITEMS_ROOM <= items.len()
+}
+
+// Whether so many bytes of findings and an answer find room.
+fn writes(room: &[u8], least: usize, answer: &[u64]) -> bool
+    ensures { λ b. ⌜ b ≡ writes (now (room .entry)) least (now (answer .entry)) ⌝ }
+{
+    if room.len() < least {
+        return false;
+    }
+    ANSWER <= answer.len()
+}
+
+// The number for a room that is too short, as `lintel_report` has it.
+fn crowded() -> Said
+    ensures { λ s. ⌜ s ≡ said 7 [] ⌝ }
+{
+    Said {
+        number: 7,
+        one: 0,
+        two: 0,
+    }
+}
+
+fn ended_said(r: Room) -> Said
+    ensures { λ s. ⌜ s ≡ ended-said r ⌝ }
+{
+    match r {
+        Room::To(n) => done(wide64(n), 0),
+        Room::Short => crowded(),
+    }
+}
+
+fn checked_said(c: Checked) -> Said
+    ensures { λ s. ⌜ s ≡ checked-said c ⌝ }
+{
+    match c {
+        Checked::Done(n) => done(wide64(n), 0),
+        Checked::NoRoom => crowded(),
+        Checked::NoMemory => Said {
+            number: SHORT,
+            one: 0,
+            two: 0,
+        },
+    }
+}
+
+// Once the sheet stopped, every byte counts as read: nothing in it is looked at.
+fn counted(stopped: bool, read: usize, all: usize) -> usize
+    ensures { λ r. ⌜ r ≡ (if stopped then all else read) ⌝ }
+{
+    if stopped {
+        return all;
+    }
+    read
+}
+
+// Before the first piece.
+#[no_mangle]
+pub extern "C" fn lintel_sheet_begin(
+    state: &mut [u64],
+    held: &mut [u8],
+    table: &mut [[u64; WORDS]; TERMS],
+) -> u32
+    ensures { λ r. ⌜ r ≡ begun-number (keeps (now (state .entry)) (now (held .entry))) ⌝ }
+    ensures { λ _. ⌜ now (state .exit) ≡ after (keeps (now (state .entry)) (now (held .entry))) (now (state .entry)) (state-put (now (state .entry)) first-state) ⌝ }
+    ensures { λ _. ⌜ now (held .exit) ≡ after (keeps (now (state .entry)) (now (held .entry))) (now (held .entry)) (held-put (now (held .entry)) first-state) ⌝ }
+    ensures { λ _. ⌜ now (table .exit) ≡ after (keeps (now (state .entry)) (now (held .entry))) (now (table .entry)) no-edges ⌝ }
+{
+    let whole = keeps(state, held);
+    if !whole {
+        return SHORT;
+    }
+    let s = reading::begin(table);
+    put_state(state, held, s);
+    0
+}
+
+// A piece of the sheet: how many of its bytes were read, and how many bytes of findings stand first in the room.
+#[no_mangle]
+pub extern "C" fn lintel_sheet_feed(
+    state: &mut [u64],
+    held: &mut [u8],
+    sites: &mut [u8],
+    words: &mut [u64],
+    items: &mut [u64],
+    table: &mut [[u64; WORDS]; TERMS],
+    piece: &[u8],
+    room: &mut [u8],
+    answer: &mut [u64],
+) -> u32
+    ensures { λ r. ⌜ FeedSays (both (keeps (now (state .entry)) (now (held .entry))) (both (lends (now (sites .entry)) (now (words .entry)) (now (items .entry))) (writes (now (room .entry)) step-room (now (answer .entry))))) (now (state .entry)) (now (held .entry)) (lent (now (sites .entry)) (now (words .entry)) (now (items .entry)) (now (table .entry))) (now (piece .entry)) (now (room .entry)) (now (answer .entry)) (now (state .exit)) (now (held .exit)) (lent (now (sites .exit)) (now (words .exit)) (now (items .exit)) (now (table .exit))) (now (room .exit)) (now (answer .exit)) r ⌝ }
+{
+    let whole = keeps(state, held);
+    if !whole {
+        return SHORT;
+    }
+    let memory = lends(sites, words, items);
+    if !memory {
+        return SHORT;
+    }
+    let written = writes(room, STEP_ROOM, answer);
+    if !written {
+        return SHORT;
+    }
+    let s = state_in(state, held);
+    let f = reading::feed(s, piece, sites, words, items, table, room, 0);
+    let next = f.state;
+    put_state(state, held, next);
+    let read = counted(next.stopped, f.read, piece.len());
+    say(answer, done(wide64(read), wide64(f.to)))
+}
+
+// The sheet ends here: how many bytes of findings stand first in the room.
+#[no_mangle]
+pub extern "C" fn lintel_sheet_end(
+    state: &[u64],
+    held: &[u8],
+    table: &[[u64; WORDS]; TERMS],
+    room: &mut [u8],
+    answer: &mut [u64],
+) -> u32
+    ensures { λ r. ⌜ EndSays (both (keeps (now (state .entry)) (now (held .entry))) (writes (now (room .entry)) end-room (now (answer .entry)))) (now (state .entry)) (now (held .entry)) (now (table .entry)) (now (room .entry)) (now (answer .entry)) (now (room .exit)) (now (answer .exit)) r ⌝ }
+{
+    let whole = keeps(state, held);
+    if !whole {
+        return SHORT;
+    }
+    let written = writes(room, END_ROOM, answer);
+    if !written {
+        return SHORT;
+    }
+    let s = state_in(state, held);
+    let w = reading::end(s, table, room, 0);
+    say(answer, ended_said(w))
+}
+
+// A whole sheet: how many bytes of findings stand first in the room.
+#[no_mangle]
+pub extern "C" fn lintel_sheet_check(
+    sheet: &[u8],
+    sites: &mut [u8],
+    words: &mut [u64],
+    items: &mut [u64],
+    table: &mut [[u64; WORDS]; TERMS],
+    room: &mut [u8],
+    answer: &mut [u64],
+) -> u32
+    ensures { λ r. ⌜ CheckSays (both (lends (now (sites .entry)) (now (words .entry)) (now (items .entry))) (writes (now (room .entry)) step-room (now (answer .entry)))) (now (sheet .entry)) (lent (now (sites .entry)) (now (words .entry)) (now (items .entry)) (now (table .entry))) (now (room .entry)) (now (answer .entry)) (lent (now (sites .exit)) (now (words .exit)) (now (items .exit)) (now (table .exit))) (now (room .exit)) (now (answer .exit)) r ⌝ }
+{
+    let memory = lends(sites, words, items);
+    if !memory {
+        return SHORT;
+    }
+    let written = writes(room, STEP_ROOM, answer);
+    if !written {
+        return SHORT;
+    }
+    let c = reading::check(sheet, sites, words, items, table, room);
+    say(answer, checked_said(c))
+}
