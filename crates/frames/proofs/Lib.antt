@@ -3,3 +3,4 @@ pub mod Bodies
 pub mod Frames
 pub mod Turns
 pub mod Whole
+pub mod Values

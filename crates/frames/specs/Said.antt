@@ -1,8 +1,9 @@
 -- What the code says of a line: the paper's bytes and the paper's frame.
+use mathlib.Core.Path.{_≡_}
 use mathlib.Core.Bool.{Bool, true, false, _&&_}
 use mathlib.Core.Option.{Option, none, some}
 use mathlib.Core.List.{List, [], _∷_, _++_}
-use Prim.Native.Nat.{ℕ, zero, suc, _+_, _-_, _*_, _/_}
+use Prim.Native.Nat.{ℕ, zero, suc, _+_, _-_, _*_, _/_, _≤_}
 use lib.ListN.{length, getD, replicate}
 use lib.Dec.{ltb}
 use Rattle.paper.specs.declared.Constraint.{Constraint}
@@ -12,11 +13,16 @@ use Rattle.paper.specs.Layout as paper
 use Rattle.paper.specs.Layout.{digit, line-bytes, whole, site-read, constraint-read, frame-read, frame-of, begin-set, a-site, a-rule, an-item, end-set}
 use Rattle.paper.specs.Sites.{Site}
 use Rattle.frames.specs.declared.Bytes.{Bytes}
+use Rattle.frames.specs.declared.digits.Taken.{Taken}
 use Rattle.frames.specs.declared.Read.{Read}
 use Rattle.frames.specs.declared.Frame.{Frame}
 use Rattle.frames.specs.declared.Frame.the-variants as said
 use Rattle.frames.specs.declared.layout.Shape.{Shape}
 use Rattle.frames.specs.declared.layout.Shape.the-variants.{Are, NoShape}
+
+-- the values of the bytes from 48 to 70 as digits
+abbrev pub values-said : List ℕ
+values-said = 0 ∷ 1 ∷ 2 ∷ 3 ∷ 4 ∷ 5 ∷ 6 ∷ 7 ∷ 8 ∷ 9 ∷ 16 ∷ 16 ∷ 16 ∷ 16 ∷ 16 ∷ 16 ∷ 16 ∷ 10 ∷ 11 ∷ 12 ∷ 13 ∷ 14 ∷ 15 ∷ []
 
 -- what two digits write; 256 where one is none
 unfoldable pub pair-value : ℕ → ℕ → ℕ
@@ -33,6 +39,12 @@ padded s = s ++ replicate (max-bytes - length s) 0
 unfoldable pub bytes-said : Option (List ℕ) → Bytes
 bytes-said none = record { right = false; length = 0; bytes = padded [] }
 bytes-said (some s) = record { right = true; length = length s; bytes = padded s }
+
+-- the bytes of the line l were taken into `out`; or it writes none
+pub record Takes (l out : List ℕ) (t : Taken) : Type 0 where
+  pub wrong : t .right ≡ false → line-bytes l ≡ none
+  pub right : t .right ≡ true → record { right = true; length = t .length; bytes = out } ≡ bytes-said (line-bytes l)
+  pub short : t .length ≤ max-bytes
 
 -- a frame: of a site only that it is one
 unfoldable pub code : Option paper.Frame → Frame

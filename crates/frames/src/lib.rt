@@ -46,16 +46,16 @@ pub struct Read {
 pub fn read_line(line: &[u8]) -> Read
     ensures { λ r. ⌜ (r ≡ reading-of (now (line .entry))) × (r .length ≤ max-bytes) ⌝ }
 {
-    let got = digits::bytes_of(line);
-    let length = got.length;
-    let bytes = got.bytes;
+    let mut bytes = [0u8; BYTES];
+    let got = digits::take_bytes(line, &mut bytes);
     if !got.right {
         return Read {
             frame: Frame::Wrong,
-            length: length,
-            bytes: bytes,
+            length: 0,
+            bytes: [0; BYTES],
         };
     }
+    let length = got.length;
     let frame = layout::frame_of(&bytes[..length]);
     Read {
         frame: frame,

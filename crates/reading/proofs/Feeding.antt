@@ -8,7 +8,9 @@ use Prim.Native.Nat.{ℕ, zero, suc, _+_, _-_, _≤_, _<_}
 use native.Mathlib.Omega.{arith}
 use lib.ListN.{length, take, drop, length-take, length-drop, length-append}
 use lib.Seq.{take-all, drop-drop}
-use Rattle.paper.specs.Words.{joined}
+use lib.Dec.{eqb}
+use borrow.Author.Tests.{eqb-true, eq-eqb}
+use Rattle.paper.specs.Words.{if_then_else_, joined}
 use Rattle.paper.specs.Numbers.{Outcome, done, refused}
 use Rattle.paper.specs.Layout as layout
 use Rattle.paper.specs.Layout.{begin-set, a-site, a-rule, an-item, end-set, frame-of}
@@ -37,7 +39,7 @@ use Rattle.sheets.specs.declared.Event.the-variants as event
 use Rattle.sheets.specs.declared.Stepped.{Stepped}
 use Rattle.sheets.specs.declared.Stands.the-variants.{Outside}
 use Rattle.reading.specs.declared.State.{State}
-use Rattle.reading.specs.Whole.{first-state, is-stopped, Going, Shows, Fedding, Feeds, Pauses}
+use Rattle.reading.specs.Whole.{first-state, is-stopped, Joins, Going, Shows, Fedding, Feeds, Pauses}
 
 no-way : {A : Type 0} → true ≡ false → A
 no-way e = let z : _≡_ {A = ℕ} 0 1 = cc in absurd (omega arith)
@@ -125,6 +127,18 @@ module _ (piece : List ℕ) (from e : ℕ) (E : line-end from (drop from piece) 
       ∙ same-fed (after-line at (step d at (h ++ part)) .reading) _ _ (append-nil (after-line at (step d at (h ++ part)) .found)))
 
 -- ---- the state after a line
+empty-holds : (h : Held) → length (h .bytes) ≡ max-held → Holds (record { length = 0; bytes = h .bytes }) []
+empty-holds h w = record { holds = refl; short = omega arith; whole = w }
+
+-- a line where it lies, or put together, says the same
+module _ (h : Held) (p : List ℕ) (r : Held) (j : Joins h p r) (t : List ℕ) (et : t ≡ (if eqb (h .length) 0 then p else held-in r)) where
+  same-step : (d : paper.Reader) (l : ℕ) → step d l t ≡ step d l (held-in h ++ p)
+  same-step d l = go (eqb (h .length) 0) refl et
+    where
+      go : (b : Bool) → eqb (h .length) 0 ≡ b → t ≡ (if b then p else held-in r) → step d l t ≡ step d l (held-in h ++ p)
+      go true q f = ap (step d l) (f ∙ sym (ap (λ n. take n (h .bytes) ++ p) (eqb-true (h .length) 0 q)))
+      go false q f = ap (step d l) (f ∙ j .some (λ z. no-way (sym (eq-eqb (h .length) 0 z) ∙ q))) ∙ step-held d l (held-in h ++ p)
+
 module _ (r : Reader) (k k′ : Lent) (room room′ : List ℕ) (at : ℕ) (a : Stepped) (b : Bool) (eb : b ≡ is-stopped (a .event)) (n : Held) (en : Holds n []) where
   abbrev next : State
   next = record { reader = a .reader; held = n; stopped = b }
@@ -136,8 +150,8 @@ module _ (r : Reader) (k k′ : Lent) (room room′ : List ℕ) (at : ℕ) (a : 
       record { tells = g .1; stands = g .0; line = g .2 ∙ add-one (r .line); held = en .holds; short = en .short; whole = en .whole; goes = eb ∙ (ap is-stopped (A .event) ∙ q) }
   shows-after (refused x) ev q A = eb ∙ ap is-stopped (A .event)
 
-module _ (s : State) (k k′ : Lent) (room room′ : List ℕ) (at : ℕ) (piece : List ℕ) (from e : ℕ) (v : Ends) (ev : v ≡ line-end from (drop from piece)) (evE : v ≡ ends.At e) (h : Held) (eh : Holds h (held-in (s .held) ++ take (e - from) (drop from piece))) (a : Stepped)
-    (st : Stepping (s .reader) k k′ room room′ at (held-in h) a) (hr : at + step-room ≤ length room) (b : Bool) (eb : b ≡ is-stopped (a .event)) (n : Held) (en : Holds n []) (sf : s .stopped ≡ false) where
+module _ (s : State) (k k′ : Lent) (room room′ : List ℕ) (at : ℕ) (piece : List ℕ) (from e : ℕ) (v : Ends) (ev : v ≡ line-end from (drop from piece)) (evE : v ≡ ends.At e) (r : Held) (j : Joins (s .held) (take (e - from) (drop from piece)) r) (t : List ℕ)
+    (et : t ≡ (if eqb (s .held .length) 0 then take (e - from) (drop from piece) else held-in r)) (a : Stepped) (st : Stepping (s .reader) k k′ room room′ at t a) (hr : at + step-room ≤ length room) (b : Bool) (eb : b ≡ is-stopped (a .event)) (n : Held) (en : n ≡ record { length = 0; bytes = s .held .bytes }) (sf : s .stopped ≡ false) where
   E : line-end from (drop from piece) ≡ ends.At e
   E = sym ev ∙ evE
 
@@ -152,13 +166,14 @@ module _ (s : State) (k k′ : Lent) (room room′ : List ℕ) (at : ℕ) (piece
       let o = step d L (hh ++ p) in
       let A0 = st .0 hr (d .ended) (G .tells) in
       let rd : reader-of (s .reader) k (d .ended) ≡ d = rw (← G .stands) refl in
-      let oe : step (reader-of (s .reader) k (d .ended)) L (held-in h) ≡ o = ap (λ z. step z L (held-in h)) rd ∙ (ap (step d L) (eh .holds) ∙ step-held d L (hh ++ p)) in
-      let ev = line-event (stands-in k (s .reader .stands)) (frame-of (held-in h)) in
+      let oe : step (reader-of (s .reader) k (d .ended)) L t ≡ o = ap (λ z. step z L t) rd ∙ same-step (s .held) p r j t et d L in
+      let ev = line-event (stands-in k (s .reader .stands)) (frame-of t) in
+      let none : Holds n [] = rw en (empty-holds (s .held) (G .whole)) in
       let A : Answers (s .reader) k k′ room room′ at o ev a = rw oe at A0 in
       let fe : fed-all (going d L hh) x ≡ after-line L o = ap (λ z. fed-all (going d L z) x) (sym (held-short (s .held) (G .short))) ∙ line-fed piece from e E d L hh in
-      let t = A .fits in
+      let w = A .fits in
       record {
-        shows = rw fe (shows-after (s .reader) k k′ room room′ at a b eb n en o ev (line-goes (stands-in k (s .reader .stands)) (frame-of (held-in h))) A);
+        shows = rw fe (shows-after (s .reader) k k′ room room′ at a b eb n none o ev (line-goes (stands-in k (s .reader .stands)) (frame-of t)) A);
         ends = rw fe (A .to);
         into = rw fe (A .into);
         inside = rw fe (omega arith);
@@ -203,11 +218,14 @@ module _ (s : State) (k : Lent) (room : List ℕ) (at : ℕ) (piece : List ℕ) 
 pub nested : {A B C : Type 0} → A × B × C → (A × B) × C
 nested t = ((t .0, t .1), t .2)
 
-pub held-part : (h : Held) (l : List ℕ) → Holds h l → h .length ≡ length (take (h .length) (h .bytes))
-held-part h l H = let a = H .short in let b = H .whole in sym (length-take (h .length) (h .bytes) ∙ omega arith)
+pub joins-none : (h : Held) (p : List ℕ) → h .length ≡ 0 → Joins h p h
+joins-none h p e = record { none = λ z. e; some = λ n. absurd (n e); fits = omega arith; long = rw e }
 
-pub held-fits : (h : Held) (l : List ℕ) → Holds h l → h .length ≤ length (h .bytes)
-held-fits h l H = let a = H .short in let b = H .whole in omega arith
+pub joins-some : (h : Held) (p : List ℕ) (r : Held) → (h .length ≡ 0 → ⊥) → Holds r (held-in h ++ p) → Joins h p r
+joins-some h p r n H =
+    let a = H .short in
+    let b = H .whole in
+    record { none = λ z. absurd (n z); some = λ _. H .holds; fits = omega arith; long = sym (length-take (r .length) (r .bytes) ∙ omega arith) }
 
 -- ---- a piece
 pub feeds-none : (s : State) (k : Lent) (room : List ℕ) (at : ℕ) (piece : List ℕ) → at ≤ length room → Feeds s k k room room at (take 0 piece) s at

@@ -1,7 +1,7 @@
 -- The code's state tells where the reading of `pieces` stands; feeding is `fed-all`.
 use mathlib.Core.Path.{_≡_}
 use mathlib.Core.Bool.{Bool, true, false}
-use mathlib.Core.List.{List, [], _∷_}
+use mathlib.Core.List.{List, [], _∷_, _++_}
 use Prim.Native.Nat.{ℕ, zero, suc, _+_, _≤_, _<_}
 use lib.ListN.{length, take}
 use lib.Dec.{leb}
@@ -12,7 +12,7 @@ use mathlib.Core.Logic.{_⊎_}
 use Rattle.findings.specs.Written.{written-at}
 use Rattle.findings.specs.declared.Room.{Room}
 use Rattle.findings.specs.declared.Room.the-variants.{To, Short}
-use Rattle.pieces.specs.Fed.{Reading, going, stopped, fed-all, ended, max-held}
+use Rattle.pieces.specs.Fed.{Reading, going, stopped, fed-all, ended, max-held, held-of}
 use Rattle.pieces.specs.Pieces.{as-lines}
 use Rattle.pieces.specs.Held.{held-in, no-line}
 use Rattle.pieces.specs.declared.Held.{Held}
@@ -45,6 +45,13 @@ is-outside Outside = true
 is-outside (Sites s) = false
 is-outside (Rules s) = false
 is-outside (Items s r n) = false
+
+-- r is what is held of a line, h, with its rest p; where nothing is held, it is nothing
+pub record Joins (h : Held) (p : List ℕ) (r : Held) : Type 0 where
+  pub none : h .length ≡ 0 → r .length ≡ 0
+  pub some : (h .length ≡ 0 → ⊥) → held-in r ≡ held-of (held-in h ++ p)
+  pub fits : r .length ≤ length (r .bytes)
+  pub long : r .length ≡ length (held-in r)
 
 -- before the end of line `at`, of which h is held
 pub record Going (s : State) (k : Lent) (d : paper.Reader) (at : ℕ) (h : List ℕ) : Type 0 where

@@ -9,7 +9,8 @@ ghost use Rattle.sheets.specs.State.{lent, step-room};
 ghost use Rattle.ended.specs.Sets.{end-room};
 ghost use Rattle.recursion.specs.Table.{no-edges};
 ghost use Rattle.pieces.specs.Fed.{Reading};
-ghost use Rattle.reading.specs.Whole.{first-state, Feeds, Ends, Pauses, Checks, is-stopped, is-outside};
+ghost use Rattle.paper.specs.Words.{if_then_else_};
+ghost use Rattle.reading.specs.Whole.{first-state, Joins, Feeds, Ends, Pauses, Checks, is-stopped, is-outside};
 use ended::END_ROOM;
 use ended::no_sets;
 use ended::write_found;
@@ -94,6 +95,37 @@ fn stops(e: Event) -> bool
     }
 }
 
+// What is held of a line, with its rest. Where nothing is held nothing is copied: the line lies in the piece.
+fn with_rest(h: Held, rest: &[u8]) -> Held
+    ensures { λ r. ⌜ Joins h (now (rest .entry)) r ⌝ }
+{
+    if h.length == 0 {
+        return h;
+    }
+    hold(h, rest)
+}
+
+// A line: where it lies in the piece, or where it was put together.
+fn line_of<'a>(here: bool, rest: &'a [u8], held: &'a [u8]) -> &'a [u8]
+    ensures { λ r. ⌜ now r ≡ (if here then now (rest .entry) else now (held .entry)) ⌝ }
+{
+    if here {
+        return rest;
+    }
+    held
+}
+
+// Nothing is held any more. The bytes stay as they are: none of them counts.
+fn emptied(h: Held) -> Held
+    ensures { λ r. ⌜ r ≡ record { length = 0; bytes = h .bytes } ⌝ }
+{
+    let bytes = h.bytes;
+    Held {
+        length: 0,
+        bytes: bytes,
+    }
+}
+
 // The piece from `from` on, up to the end of the line, or to its own.
 fn feed_line(
     s: State,
@@ -114,13 +146,15 @@ fn feed_line(
     let reader = s.reader;
     match line_end(piece, from) {
         pieces::Ends::At(e) => {
-            let line = hold(held, &piece[from..e]);
+            let here = held.length == 0;
+            let line = with_rest(held, &piece[from..e]);
             let n = line.length;
             let bytes = line.bytes;
-            let a = step(reader, &bytes[..n], m, words, items, table, room, at);
+            let text = line_of(here, &piece[from..e], &bytes[..n]);
+            let a = step(reader, text, m, words, items, table, room, at);
             let next = a.reader;
             let event = a.event;
-            let none = nothing();
+            let none = emptied(held);
             Fed {
                 state: State {
                     reader: next,

@@ -459,6 +459,49 @@ fn site_line(r: Reader, bytes: &[u8], m: &mut [u8], room: &mut [u8], at: usize) 
     site_frame(r, &bytes[1..], m, room, at)
 }
 
+// A line that there is room for.
+fn take_line(
+    r: Reader,
+    text: &[u8],
+    m: &mut [u8],
+    words: &mut [u64],
+    items: &mut [u64],
+    table: &mut [[u64; WORDS]; TERMS],
+    room: &mut [u8],
+    at: usize,
+) -> Stepped
+    requires { ⌜ at + step-room ≤ length (now room) ⌝ }
+    ensures { λ a. ⌜ Stepping r (lent (now (m .entry)) (now (words .entry)) (now (items .entry)) (now (table .entry))) (lent (now (m .exit)) (now (words .exit)) (now (items .exit)) (now (table .exit))) (now (room .entry)) (now (room .exit)) at (now (text .entry)) a ⌝ }
+{
+    let line = r.line;
+    if LAST_LINE < line {
+        return stop(r, Refusal::Layout { line }, room, at);
+    }
+    let got = read_line(text);
+    let frame = got.frame;
+    let length = got.length;
+    let bytes = got.bytes;
+    match frame {
+        Frame::Begin { term, flags } => begin_frame(r, term, flags, room, at),
+        Frame::Site => site_line(r, &bytes[..length], m, room, at),
+        Frame::Rule {
+            place,
+            priority,
+            count,
+        } => {
+            let rule = Awaited {
+                place,
+                priority,
+                count,
+            };
+            rule_frame(r, rule, m, words, items, room, at)
+        }
+        Frame::Item(item) => item_frame(r, item, m, words, items, room, at),
+        Frame::End => end_frame(r, m, words, table, room, at),
+        Frame::Wrong => stop(r, Refusal::Layout { line }, room, at),
+    }
+}
+
 // One line, without its LF. It writes at most STEP_ROOM bytes, from `at` on.
 pub fn step(
     r: Reader,
@@ -486,36 +529,5 @@ pub fn step(
             to: at,
         };
     }
-    let line = r.line;
-    if LAST_LINE < line {
-        return stop(r, Refusal::Layout { line }, room, at);
-    }
-    let got = read_line(text);
-    let frame = got.frame;
-    let length = got.length;
-    let bytes = got.bytes;
-    match frame {
-        Frame::Begin { term, flags } => begin_frame(r, term, flags, room, at),
-        Frame::Site => site_line(r, &bytes[..length], m, room, at),
-        Frame::Rule {
-            place,
-            priority,
-            count,
-        } => rule_frame(
-            r,
-            Awaited {
-                place,
-                priority,
-                count,
-            },
-            m,
-            words,
-            items,
-            room,
-            at,
-        ),
-        Frame::Item(item) => item_frame(r, item, m, words, items, room, at),
-        Frame::End => end_frame(r, m, words, table, room, at),
-        Frame::Wrong => stop(r, Refusal::Layout { line }, room, at),
-    }
+    take_line(r, text, m, words, items, table, room, at)
 }
