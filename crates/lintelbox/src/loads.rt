@@ -50,7 +50,6 @@ pub extern "C" fn lintel_load(
     if answer.len() < ANSWER {
         return SHORT;
     }
-    let rule = handed::rule_of(items, place, priority, many);
-    let l = loading::load(sites, count, words, kept, rule);
+    let l = loading::load_handed(sites, count, words, kept, place, priority, many, items);
     say(answer, loaded_said(l))
 }

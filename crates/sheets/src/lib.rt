@@ -29,9 +29,8 @@ use frames::BYTES;
 use frames::Frame;
 use frames::read_line;
 use handed::hold_item;
-use handed::rule_of;
 use loading::Loaded;
-use loading::load;
+use loading::load_handed;
 use paper::ITEMS;
 use paper::Item;
 use paper::Refusal;
@@ -282,6 +281,13 @@ fn site_frame(r: Reader, body: &[u8], m: &mut [u8], room: &mut [u8], at: usize) 
     }
 }
 
+// Does nothing: it tells what the types of the two numbers say of them.
+fn range_of(place: u32, priority: u64) -> bool
+    ensures { λ _. ⌜ (place < 4294967296) × (priority < 18446744073709551616) ⌝ }
+{
+    true
+}
+
 // A rule with all its items: kept, or an 11.
 fn read_rule(
     r: Reader,
@@ -298,8 +304,17 @@ fn read_rule(
 {
     let place = rule.place;
     let priority = rule.priority;
-    let whole = rule_of(items, place, priority, rule.count);
-    match load(m, set.sites, words, set.rules, whole) {
+    range_of(place, priority);
+    match load_handed(
+        m,
+        set.sites,
+        words,
+        set.rules,
+        place,
+        priority,
+        rule.count,
+        items,
+    ) {
         Loaded::Kept(n) => {
             let more = OpenSet {
                 term: set.term,

@@ -7,18 +7,18 @@ use Rattle.sheets.proofs.read_rule.Reads as reads
 use Rattle.sheets.proofs.read_rule.Lts as lts
 use Rattle.ended.proofs.to_or.Reads as to-or-reads
 use Rattle.findings.proofs.write_refusal.Reads as write-refusal-reads
-use Rattle.handed.proofs.rule_of.Reads as rule-of-reads
-use Rattle.loading.proofs.load.Reads as load-reads
+use Rattle.loading.proofs.load_handed.Reads as load-handed-reads
 use Rattle.sheets.proofs.next_rule.Reads as next-rule-reads
 use Rattle.sheets.proofs.on.Reads as on-reads
+use Rattle.sheets.proofs.range_of.Reads as range-of-reads
 
--- src/lib.rt:301:9
-rule-of-requires : tie.Need-rule-of-requires
-rule-of-requires c κs = search needs
+-- src/lib.rt:309:5
+range-of-requires : tie.Need-range-of-requires
+range-of-requires c κs = search needs
 
--- src/lib.rt:302:11
-load-requires : tie.Need-load-requires
-load-requires c κs = search needs
+-- src/lib.rt:310:11
+load-handed-requires : tie.Need-load-handed-requires
+load-handed-requires c κs = search needs
 
 -- src/lib.rt:303:22
 enum-known-n : tie.Need-enum-known-n
@@ -58,7 +58,7 @@ same-length-2 c = search needs
 
 -- src/lib.rt:286:1
 returns : tie.Need-returns
-returns c = reads-kept (c .before .before .before .before .before .before .before .before .before .before .before .before .before .before .before .before .before .args .r) (c .before .before .before .before .before .before .before .before .before .before .before .before .before .before .before .before .before .args .set) (c .before .before .before .before .before .before .before .before .before .before .before .before .before .before .before .before .before .args .rule) _ _ _ _ _ _ _ _ _ _ (c .before .before .before .before .before .before .before .before .before .before .before .before .rule-of .ensures .0) (c .before .before .before .before .before .before .before .before .before .before .before .before .rule-of .ensures .1) (c .before .before .before .before .before .before .before .before .before .load .ensures .0) (c .before .before .before .before .before .before .before .before .before .load .ensures .1 .0) (c .before .before .before .before .before .before .before .before .before .load .ensures .1 .1) _ _ _ (c .before .before .before .n .given .1) (c .before .next-rule .ensures) (c .before .before .before .before .before .before .before .before .before .load .kept .0) (c .before .before .before .before .before .before .before .before .before .load .kept .1 .1 .0) refl (c .on .ensures)
+returns c = reads-kept (c .before .before .before .before .before .before .before .before .before .before .before .before .before .before .before .before .before .args .r) (c .before .before .before .before .before .before .before .before .before .before .before .before .before .before .before .before .before .args .set) (c .before .before .before .before .before .before .before .before .before .before .before .before .before .before .before .before .before .args .rule) _ _ _ _ _ _ _ _ _ _ refl (c .before .before .before .before .before .before .before .before .before .before .before .before .range-of .ensures) (c .before .before .before .before .before .before .before .before .before .load-handed .ensures .0) (c .before .before .before .before .before .before .before .before .before .load-handed .ensures .1 .0) (c .before .before .before .before .before .before .before .before .before .load-handed .ensures .1 .1) _ _ _ (c .before .before .before .n .given .1) (c .before .next-rule .ensures) (c .before .before .before .before .before .before .before .before .before .load-handed .kept .0) (c .before .before .before .before .before .before .before .before .before .load-handed .kept .1 .1 .0) refl (c .on .ensures)
 
 -- src/lib.rt:286:1
 same-length-3 : tie.Need-same-length-3
@@ -74,14 +74,14 @@ same-length-5 c = search needs
 
 -- src/lib.rt:286:1
 returns-2 : tie.Need-returns-2
-returns-2 c = reads-refused (c .before .before .before .before .before .before .before .before .before .before .before .before .before .before .before .before .before .before .before .before .before .args .r) (c .before .before .before .before .before .before .before .before .before .before .before .before .before .before .before .before .before .before .before .before .before .args .set) (c .before .before .before .before .before .before .before .before .before .before .before .before .before .before .before .before .before .before .before .before .before .args .rule) _ _ _ _ _ _ _ _ _ _ (c .before .before .before .before .before .before .before .before .before .before .before .before .before .before .before .before .rule-of .ensures .0) (c .before .before .before .before .before .before .before .before .before .before .before .before .before .before .before .before .rule-of .ensures .1) (c .before .before .before .before .before .before .before .before .before .before .before .before .before .load .ensures .0) (c .before .before .before .before .before .before .before .before .before .before .before .before .before .load .ensures .1 .0) (c .before .before .before .before .before .before .before .before .before .before .before .before .before .load .ensures .1 .1) _ _ _ _ (c .before .before .before .before .before .before .before .why .given .1) (c .before .before .before .before .before .before .before .before .before .before .before .before .before .before .before .before .before .before .before .before .before .pre .0) (c .before .before .before .before .write-refusal .ensures .0) (c .before .before .before .before .write-refusal .ensures .1) (c .before .to-or .ensures) (c .on2 .ensures)
+returns-2 c = reads-refused (c .before .before .before .before .before .before .before .before .before .before .before .before .before .before .before .before .before .before .before .before .before .args .r) (c .before .before .before .before .before .before .before .before .before .before .before .before .before .before .before .before .before .before .before .before .before .args .set) (c .before .before .before .before .before .before .before .before .before .before .before .before .before .before .before .before .before .before .before .before .before .args .rule) _ _ _ _ _ _ _ _ _ _ refl (c .before .before .before .before .before .before .before .before .before .before .before .before .before .before .before .before .range-of .ensures) (c .before .before .before .before .before .before .before .before .before .before .before .before .before .load-handed .ensures .0) (c .before .before .before .before .before .before .before .before .before .before .before .before .before .load-handed .ensures .1 .0) (c .before .before .before .before .before .before .before .before .before .before .before .before .before .load-handed .ensures .1 .1) _ _ _ _ (c .before .before .before .before .before .before .before .why .given .1) (c .before .before .before .before .before .before .before .before .before .before .before .before .before .before .before .before .before .before .before .before .before .pre .0) (c .before .before .before .before .write-refusal .ensures .0) (c .before .before .before .before .write-refusal .ensures .1) (c .before .to-or .ensures) (c .on2 .ensures)
 
 pub read-rule-spec : {M : Type 1} → statement M
 read-rule-spec =
     tie.close
     (tie.spec
-    rule-of-requires
-    load-requires
+    range-of-requires
+    load-handed-requires
     enum-known-n
     next-rule-requires
     on-requires

@@ -1,4 +1,5 @@
 -- `lintelbox::loads::lintel_load` meets its contract. Assumes nothing.
+use mathlib.Core.Path.{refl}
 use denote.Ref.{now}
 use borrow.Author.Needs.{needs}
 use Rattle.lintelbox.specs.Loads.{load-said, load-sites, load-words}
@@ -15,11 +16,8 @@ returns c = (too-short _ _ _ (first-no _ _ (less _ _ (c .if1 .taken))), (stayed 
 returns-2 : tie.Need-returns-2
 returns-2 c = (too-short _ _ _ (second-no _ _ (enough _ _ (c .before .if1 .left)) (less _ _ (c .if2 .taken))), (stayed _ _ _ (second-no _ _ (enough _ _ (c .before .if1 .left)) (less _ _ (c .if2 .taken))), stayed _ _ _ (second-no _ _ (enough _ _ (c .before .if1 .left)) (less _ _ (c .if2 .taken)))))
 
-rule-of-requires : tie.Need-rule-of-requires
-rule-of-requires c κs = search needs
-
-load-requires : tie.Need-load-requires
-load-requires c κs = search needs
+load-handed-requires : tie.Need-load-handed-requires
+load-handed-requires c κs = search needs
 
 loaded-said-requires : tie.Need-loaded-said-requires
 loaded-said-requires c κs = search needs
@@ -38,10 +36,10 @@ same-length-3 c = search needs
 
 returns-3 : tie.Need-returns-3
 returns-3 c = (
-  past _ _ _ _ _ (enough _ _ (c .before .before .before .before .before .before .before .before .before .before .before .before .before .before .if1 .left)) (via _ _ _ _ _ (c .before .before .say .ensures) (load-said (now (c .before .before .before .before .before .before .before .before .before .before .before .before .before .before .before .before .before .before .before .args .sites)) (c .before .before .before .before .before .before .before .before .before .before .before .before .before .before .before .before .before .before .before .args .count) (now (c .before .before .before .before .before .before .before .before .before .before .before .before .before .before .before .before .before .before .before .args .words)) (c .before .before .before .before .before .before .before .before .before .before .before .before .before .before .before .before .before .before .before .args .kept) _ _ _ _ (c .before .before .before .before .before .before .before .before .before .before .before .before .rule-of .ensures .0) (c .before .before .before .before .before .before .before .before .before .load .ensures .0) (c .before .before .before .loaded-said .ensures))),
+  past _ _ _ _ _ (enough _ _ (c .before .before .before .before .before .before .before .before .before .before .before .before .before .if1 .left)) (via _ _ _ _ _ (c .before .before .say .ensures) (load-said (now (c .before .before .before .before .before .before .before .before .before .before .before .before .before .before .before .before .before .before .args .sites)) (c .before .before .before .before .before .before .before .before .before .before .before .before .before .before .before .before .before .before .args .count) (now (c .before .before .before .before .before .before .before .before .before .before .before .before .before .before .before .before .before .before .args .words)) (c .before .before .before .before .before .before .before .before .before .before .before .before .before .before .before .before .before .before .args .kept) _ _ _ _ refl (c .before .before .before .before .before .before .before .before .before .load-handed .ensures .0) (c .before .before .before .loaded-said .ensures))),
   (
-    went _ _ _ _ (both-yes _ _ (enough _ _ (c .before .before .before .before .before .before .before .before .before .before .before .before .before .before .if1 .left)) (enough _ _ (c .before .before .before .before .before .before .before .before .before .before .before .before .before .if2 .left))) (load-sites (now (c .before .before .before .before .before .before .before .before .before .before .before .before .before .before .before .before .before .before .before .args .sites)) (c .before .before .before .before .before .before .before .before .before .before .before .before .before .before .before .before .before .before .before .args .count) (now (c .before .before .before .before .before .before .before .before .before .before .before .before .before .before .before .before .before .before .before .args .words)) (c .before .before .before .before .before .before .before .before .before .before .before .before .before .before .before .before .before .before .before .args .kept) _ _ _ (c .before .before .before .before .before .before .before .before .before .before .before .before .rule-of .ensures .0) (c .before .before .before .before .before .before .before .before .before .load .ensures .1 .0)),
-    went _ _ _ _ (both-yes _ _ (enough _ _ (c .before .before .before .before .before .before .before .before .before .before .before .before .before .before .if1 .left)) (enough _ _ (c .before .before .before .before .before .before .before .before .before .before .before .before .before .if2 .left))) (load-words (now (c .before .before .before .before .before .before .before .before .before .before .before .before .before .before .before .before .before .before .before .args .sites)) (c .before .before .before .before .before .before .before .before .before .before .before .before .before .before .before .before .before .before .before .args .count) (now (c .before .before .before .before .before .before .before .before .before .before .before .before .before .before .before .before .before .before .before .args .words)) (c .before .before .before .before .before .before .before .before .before .before .before .before .before .before .before .before .before .before .before .args .kept) _ _ _ (c .before .before .before .before .before .before .before .before .before .before .before .before .rule-of .ensures .0) (c .before .before .before .before .before .before .before .before .before .load .ensures .1 .1)),
+    went _ _ _ _ (both-yes _ _ (enough _ _ (c .before .before .before .before .before .before .before .before .before .before .before .before .before .if1 .left)) (enough _ _ (c .before .before .before .before .before .before .before .before .before .before .before .before .if2 .left))) (load-sites (now (c .before .before .before .before .before .before .before .before .before .before .before .before .before .before .before .before .before .before .args .sites)) (c .before .before .before .before .before .before .before .before .before .before .before .before .before .before .before .before .before .before .args .count) (now (c .before .before .before .before .before .before .before .before .before .before .before .before .before .before .before .before .before .before .args .words)) (c .before .before .before .before .before .before .before .before .before .before .before .before .before .before .before .before .before .before .args .kept) _ _ _ refl (c .before .before .before .before .before .before .before .before .before .load-handed .ensures .1 .0)),
+    went _ _ _ _ (both-yes _ _ (enough _ _ (c .before .before .before .before .before .before .before .before .before .before .before .before .before .if1 .left)) (enough _ _ (c .before .before .before .before .before .before .before .before .before .before .before .before .if2 .left))) (load-words (now (c .before .before .before .before .before .before .before .before .before .before .before .before .before .before .before .before .before .before .args .sites)) (c .before .before .before .before .before .before .before .before .before .before .before .before .before .before .before .before .before .before .args .count) (now (c .before .before .before .before .before .before .before .before .before .before .before .before .before .before .before .before .before .before .args .words)) (c .before .before .before .before .before .before .before .before .before .before .before .before .before .before .before .before .before .before .args .kept) _ _ _ refl (c .before .before .before .before .before .before .before .before .before .load-handed .ensures .1 .1)),
   ),
 )
 
@@ -52,8 +50,7 @@ lintel-load-spec =
     mul-if1
     returns
     returns-2
-    rule-of-requires
-    load-requires
+    load-handed-requires
     loaded-said-requires
     say-requires
     same-length
