@@ -6,6 +6,7 @@ mod clock;
 mod lintelbox;
 mod loads;
 mod sets;
+mod sheets;
 
 use clock::{compare, Pair};
 use isle::disjointsets::DisjointSets;
@@ -22,17 +23,29 @@ struct Bench {
     budget: Duration,
     only: Option<String>,
     slower: Vec<String>,
+    // Ours and the Rust's of the whole sheets, one after the other.
+    whole: Vec<Pair>,
 }
 
 impl Bench {
-    fn case<A, B>(&mut self, name: &str, ours: impl FnMut() -> A, rust: impl FnMut() -> B) {
+    fn case<A, B>(&mut self, name: &str, ours: impl FnMut() -> A, rust: impl FnMut() -> B) -> Option<Pair> {
         if self.only.as_ref().is_some_and(|only| !name.contains(only.as_str())) {
-            return;
+            return None;
         }
-        let Pair { ours, rust } = compare(self.budget, ours, rust);
-        println!("| {name} | {} | {} | {:.2} |", time(ours), time(rust), ours / rust);
-        if rust < ours {
-            self.slower.push(format!("{name} ({:.2})", ours / rust));
+        let pair = compare(self.budget, ours, rust);
+        let share = pair.ours / pair.rust;
+        println!("| {name} | {} | {} | {share:.2} |", time(pair.ours), time(pair.rust));
+        if 1.0 < share {
+            self.slower.push(format!("{name} ({share:.2})"));
+        }
+        Some(pair)
+    }
+
+    /// Each sheet counts alike, whatever its size: the mean of the shares as factors.
+    fn whole(&self) {
+        if !self.whole.is_empty() {
+            let sum: f64 = self.whole.iter().map(|p| (p.ours / p.rust).ln()).sum();
+            println!("\nall {} kinds of sheets together: {:.2}", self.whole.len(), (sum / self.whole.len() as f64).exp());
         }
     }
 }
@@ -86,6 +99,15 @@ fn joined(pairs: &[(u16, u16)]) -> (Classes, DisjointSets<u16>) {
     (ours, rust)
 }
 
+/// One call for each of n sites.
+fn each(b: &mut Bench, name: &str, n: usize, mut ours: impl FnMut(u16) -> u64, mut rust: impl FnMut(u16) -> u16) {
+    b.case(
+        name,
+        || (0..n as u16).fold(0, |sum, x| sum ^ ours(x)),
+        || (0..n as u16).fold(0, |sum, x| sum ^ rust(x)),
+    );
+}
+
 fn classes(b: &mut Bench, n: usize) {
     let pairs = joins(n, 1);
     let mut a = [0; ANSWER];
@@ -110,25 +132,27 @@ fn classes(b: &mut Bench, n: usize) {
             sets
         },
     );
-    b.case(
-        &format!("{n} finds in {n} sites"),
-        || {
-            (0..n as u16).fold(0, |sum, x| {
-                ours.find(x, &mut a);
-                sum ^ a[0]
-            })
+    let name = format!("{n} finds in {n} sites");
+    each(
+        b,
+        &name,
+        n,
+        |x| {
+            ours.find(x, &mut a);
+            a[0]
         },
-        || (0..n as u16).fold(0, |sum, x| sum ^ rust.find(x).unwrap_or(9)),
+        |x| rust.find(x).unwrap_or(9),
     );
-    b.case(
-        &format!("{n} updating finds in {n} sites"),
-        || {
-            (0..n as u16).fold(0, |sum, x| {
-                ours.find_mut(x, &mut a);
-                sum ^ a[0]
-            })
+    let name = format!("{n} updating finds in {n} sites");
+    each(
+        b,
+        &name,
+        n,
+        |x| {
+            ours.find_mut(x, &mut a);
+            a[0]
         },
-        || (0..n as u16).fold(0, |sum, x| sum ^ rust.find_mut(x).unwrap_or(9)),
+        |x| rust.find_mut(x).unwrap_or(9),
     );
     b.case(
         &format!("{n} comparisons of two sites in {n}"),
@@ -347,6 +371,28 @@ fn loads(b: &mut Bench) {
     }
 }
 
+// ---- sheets
+
+fn sheet(b: &mut Bench, name: &str, sets: &[loads::Written]) {
+    let env = env();
+    let text = sheets::text(sets);
+    sheets::agree(&text, &env);
+    let mut ours = sheets::Ours::new();
+    let pair = b.case(&format!("sheet: {name}"), || ours.check(&text).len(), || sheets::rust(&text, &env).errors.len());
+    b.whole.extend(pair);
+}
+
+fn whole(b: &mut Bench) {
+    title("Whole sheets: from the bytes to the findings (the Rust's are a list of errors)");
+    sheet(b, "64 sets of 4 to 8 rules of 3 items", &(0..64).map(loads::small).collect::<Vec<_>>());
+    sheet(b, "one set of 4 rules of 3 items", &[loads::small(0)]);
+    sheet(b, "64 rules of 32 integers that differ in the highest site only", &[loads::flat(32, 64)]);
+    sheet(b, "16 rules, a chain of 14 fields under two equal sites", &[loads::deep(14, 16)]);
+    sheet(b, "16 rules, a class of 4 sites with 8 fields", &[loads::wide(4, 8, 16)]);
+    sheet(b, "16 rules, a class of 31 sites without fields", &[loads::wide(31, 0, 16)]);
+    sheet(b, "64 rules of 4 items in a set of 1,017 sites", &[loads::full(64)]);
+}
+
 fn all(b: &mut Bench) {
     title("Class calls");
     classes(b, 1024);
@@ -395,9 +441,11 @@ fn growth(b: &mut Bench) {
 fn main() {
     let words: Vec<String> = std::env::args().skip(1).collect();
     let ms = words.first().and_then(|w| w.parse().ok()).unwrap_or(100);
-    let mut b = Bench { budget: Duration::from_millis(ms), only: words.get(1).cloned(), slower: vec![] };
+    let mut b = Bench { budget: Duration::from_millis(ms), only: words.get(1).cloned(), slower: vec![], whole: vec![] };
+    whole(&mut b);
     all(&mut b);
     loads(&mut b);
     growth(&mut b);
-    println!("\nslower than the Rust: {}", if b.slower.is_empty() { "none".to_string() } else { b.slower.join("; ") });
+    b.whole();
+    println!("slower than the Rust: {}", if b.slower.is_empty() { "none".to_string() } else { b.slower.join("; ") });
 }
