@@ -55,24 +55,19 @@ pub fn text(sets: &[Written]) -> Vec<u8> {
 // ---- ours
 
 pub struct Ours {
-    sites: Vec<u8>,
-    words: Vec<u64>,
-    items: Vec<u64>,
-    table: [u64; TERMS * 4],
+    sheet: Sheet,
     room: Vec<u8>,
 }
 
 impl Ours {
     pub fn new() -> Ours {
-        let room = vec![0; 64 * REPORT_ROOM];
-        Ours { sites: vec![0; SITES * SLOT], words: vec![0; RULES * STRIDE], items: vec![0; ITEMS_ROOM], table: [0; TERMS * 4], room }
+        Ours { sheet: Sheet::new(), room: vec![0; 64 * STEP_ROOM] }
     }
 
     /// The findings of a sheet.
     pub fn check(&mut self, sheet: &[u8]) -> &[u8] {
         let mut a = [0; ANSWER];
-        let number = sheet_check(sheet, &mut self.sites, &mut self.words, &mut self.items, &mut self.table, &mut self.room, &mut a);
-        assert_eq!(number, 0);
+        assert_eq!(self.sheet.check(sheet, SITES_ROOM, &mut self.room, &mut a), 0);
         &self.room[..a[0] as usize]
     }
 }
