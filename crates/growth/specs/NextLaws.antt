@@ -1,22 +1,22 @@
 -- Passing over sites that can't be children: how a child's slot begins, and what a search that passes it over says.
 use mathlib.Core.Path.{_≡_, refl, sym, ap, _∙_}
 use mathlib.Core.Bool.{Bool, true, false}
-use mathlib.Core.List.{List, [], _∷_}
-use Prim.Native.Nat.{ℕ, zero, suc, _+_, _-_, _*_, _/_, _%_, _<_, _≤_}
+use mathlib.Core.List.{List}
+use Prim.Native.Nat.{ℕ, _+_, _-_, _*_, _/_, _%_, _<_, _≤_}
 use native.Mathlib.Omega.{arith}
 use lib.ListN.{length, getD, List·getD-eq-default}
 use lib.Dec.{ltb}
-use borrow.Author.Tests.{lt-ltb, le-ltb, ltb-true, ltb-false}
+use borrow.Author.Tests.{ltb-true, ltb-false}
 use Rattle.paper.specs.declared.Constraint.{Constraint}
 use Rattle.paper.specs.declared.Constraint.the-variants.{Variant, Struct, ConstBool, ConstInt, ConstPrim, Some}
 use Rattle.paper.specs.Words.{if_then_else_, two}
-use Rattle.paper.specs.Sites.{Site, body, body-by, child-count, child}
+use Rattle.paper.specs.Sites.{body, body-by, child-count, child}
 use Rattle.slots.specs.Seeking.{quad, four-at, Seeks}
 use Rattle.sites.specs.Back.{Bytes}
-use Rattle.sites.specs.Slots.{slot, no-site, slot-body, site-in}
+use Rattle.sites.specs.Slots.{slot, no-site, site-in}
 use Rattle.sites.specs.Held.{held, site-held}
 use Rattle.slots.proofs.Holding.{held-four}
-use Rattle.growth.specs.Tail.{word-of, site-of-word, Spelt, site-there, Field, begins, Wants, SeeksWord, Onward}
+use Rattle.growth.specs.Tail.{word-of, site-of-word, site-there, Field, begins, Wants, SeeksWord, Onward}
 use Rattle.growth.specs.WordLaws.{child-positive, child-step, word-told}
 use Rattle.growth.specs.declared.Wanted.{Wanted}
 

@@ -1,26 +1,20 @@
 -- Slots: what stands in one, and what a search and a store make of them.
 use mathlib.Core.Path.{_≡_, refl, sym, ap, _∙_}
-use mathlib.Core.Bool.{Bool, true, false, _&&_, not}
-use mathlib.Core.Option.{Option, none, some}
+use mathlib.Core.Bool.{Bool, true, false}
+use mathlib.Core.Option.{none, some}
 use mathlib.Core.List.{List, [], _∷_, _++_, append-assoc, append-nil}
 use mathlib.Core.Logic.{⊎-elim}
 use Prim.Native.Nat.{ℕ, zero, suc, _+_, _-_, _*_, _≤_, _<_}
-use native.Mathlib.Nat.{eq-or-lt-of-le, le-of-suc-le-suc}
-use native.Mathlib.Numerals.{add-one}
+use native.Mathlib.Nat.{eq-or-lt-of-le}
 use native.Mathlib.Omega.{arith}
-use lib.ListN.{length, getD, getElem?, take, drop, set, length-set, length-append, length-take, length-drop, take-append-drop, List·getD-append, List·getD-eq-default}
-use lib.Seq.{ext-getD, getD-take, getD-drop, take-length, take-all, take-append-le, drop-append-le, length-take-le, take-at, drop-at, drop-append-add, drop-drop, getD-at, take-append-seam, drop-set-lt, take-suc-set, append-snoc}
-use lib.Dec.{eqb, ltb, leb}
-use borrow.Author.Tests.{lt-ltb, le-ltb, le-leb, lt-leb, eq-eqb, ne-eqb, eqb-true, ltb-true, ltb-false, leb-true}
-use Rattle.paper.specs.Words.{if_then_else_, below, same-list}
+use lib.ListN.{length, getD, take, drop, length-append}
+use Rattle.paper.specs.Words.{below}
 use Rattle.paper.specs.Sites.{Site, Sites, body, number-of, same-site}
-use Rattle.paper.specs.Laws.{same-list-true, same-list-refl, same-site-true, same-site-refl, number-here, number-there, number-front, number-on, plus, one-more}
+use Rattle.paper.specs.Laws.{same-site-true, same-site-refl, number-here, number-there, number-front, number-on}
 use Rattle.slots.specs.Seeking.{Held, Finds}
-use Rattle.sites.specs.Kinds.{Laid}
 use Rattle.sites.specs.Shape.{is-body}
 use Rattle.sites.specs.Back.{Bytes}
-use Rattle.sites.specs.Alike.{same-body}
-use Rattle.sites.specs.Slots.{slot, no-site, site-of, slot-body, site-in, sites-in, Findable, found-as, put, store}
+use Rattle.sites.specs.Slots.{slot, site-of, slot-body, site-in, sites-in, Findable, store}
 use Rattle.sites.specs.Held.{slot-is, slot-bytes, held, held-body}
 use Rattle.sites.proofs.Bodies.{laid-in, site-none}
 

@@ -2,9 +2,9 @@
 ghost use mathlib.Core.Path.{_≡_};
 ghost use mathlib.Core.Bool.{true, false};
 ghost use Prim.Native.Nat.{ℕ, _+_, _-_, _*_, _≤_, _<_};
-ghost use lib.ListN.{length, getD, getElem?, take, drop};
+ghost use lib.ListN.{length, getD, getElem?, drop};
 ghost use mathlib.Core.List.{_∷_, map};
-ghost use Rattle.paper.specs.Words.{joined, same-list};
+ghost use Rattle.paper.specs.Words.{joined};
 ghost use Rattle.paper.specs.Layout.{whole, site-read};
 ghost use Rattle.paper.specs.Sites.{sources, term-of, parent, number-of, child, child-count, matchVariant, extractStruct, matchSome, unfolded, lower-only, unfold-answer};
 ghost use Rattle.sites.specs.Kinds.{off-of, many-of, words, kind};
