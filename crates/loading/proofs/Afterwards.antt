@@ -39,7 +39,7 @@ pub load-widens : (g : Set) (w : Written) (h : Set) → length (g .sites) ≤ ma
 unfolding with-rule
 load-widens g w h l e =
     let L = load-done g w h e in
-    let P = items-passed (g .sites) 0 (no-items (g .sites)) 0 (w .items) (L .loading) (record { widens = widens-none (g .sites) l; rising = tt; few = omega arith; equal = λ p j. elim j [ ] }) (L .items) in
+    let P = items-passed (g .sites) 0 (no-items (g .sites)) 0 (w .items) (L .loading) (record { widens = widens-none (g .sites) l; rising = tt; few = omega arith; grown = omega arith; equal = λ p j. elim j [ ] }) (L .items) in
     let T = rounds-turned most-rounds (g .sites) (w .count) (started (L .loading)) (L .solved) (started-turned (g .sites) _ (L .loading) P) (normalise-rounds (L .loading) (w .count) (L .solved) (L .normalised)) in
     rw (L .after) (T .widens)
 
@@ -104,7 +104,7 @@ module _ (m : List ℕ) (n : ℕ) (ws : List ℕ) (k : ℕ) (r : Rule) where
 -- ---- a kept rule: what it came from
 pub record Comes (m : List ℕ) (n : ℕ) (ws : List ℕ) (k : ℕ) (r : Rule) (g : Set) : Type 0 where
   pub solving : Solving
-  pub work : worked m n r ≡ done solving
+  pub work : worked m n (r .count) (written r .items) ≡ done solving
   pub after : g ≡ with-rule (set-in m n ws k) (written r) solving
   pub few : length (solving .constraints) ≤ max-constrained
   pub few-equal : length (solving .classes) ≤ max-equal
@@ -118,9 +118,9 @@ both false b e = let z : _≡_ {A = ℕ} 0 1 = cc in absurd (omega arith)
 pub kept-comes : (m : List ℕ) (n : ℕ) (ws : List ℕ) (k : ℕ) (r : Rule) (g : Set) → load-in m n ws k r ≡ done g → Comes m n ws k r g
 unfolding admitted settled
 kept-comes m n ws k r g e =
-    let x = bind-done (admitted n ws k (r .place) (r .count)) (λ _. (worked m n r >>= ended m n ws k r)) g (sym (parts m n ws k r) ∙ e) in
+    let x = bind-done (admitted n ws k (r .place) (r .count)) (λ _. (worked m n (r .count) (written r .items) >>= ended m n ws k (written r))) g (sym (parts m n ws k r) ∙ e) in
     let a = demand-done (ltb k max-rules && leb (base k + stride) (length ws)) (TooManyRules (suc (min k max-rules))) _ (x .0) (x .1) in
-    let y = bind-done (worked m n r) (ended m n ws k r) g (x .2) in
+    let y = bind-done (worked m n (r .count) (written r .items)) (ended m n ws k (written r)) g (x .2) in
     let z = bind-done (settled (length (y .0 .sites)) (length (y .0 .constraints)) (length (y .0 .classes)) (length m) (r .count)) (λ _. done (with-rule (set-in m n ws k) (written r) (y .0))) g (y .2) in
     let u = demand-done (leb (length (y .0 .constraints)) max-constrained) (TooManyConstrained (length (y .0 .constraints))) _ (z .0) (z .1) in
     let v = demand-done (leb (length (y .0 .classes)) max-equal) (TooManyEqual (length (y .0 .classes))) _ (z .0) (u .1) in
@@ -176,13 +176,13 @@ rule-back ws k q hp hq h fc fe l =
     let b : kept-in (stored.written ws k (q .place) (q .priority) ss sh es lo) (0 + k) ≡ q = ap (kept-in (stored.written ws k (q .place) (q .priority) ss sh es lo)) z ∙ (written-kept ws k (q .place) (q .priority) ss sh es lo hp hq f ∙ handed-is (q .constraints) h (q .equals) (q .place) (q .priority)) in
     run-last (kept-in (stored.written ws k (q .place) (q .priority) ss sh es lo)) 0 k ∙ rw (a, b)
 
-solving-ranged : (m : List ℕ) (n : ℕ) (r : Rule) → RuleFits r → (s : Solving) → worked m n r ≡ done s → InRanges (s .constraints)
+solving-ranged : (m : List ℕ) (n : ℕ) (r : Rule) → RuleFits r → (s : Solving) → worked m n (r .count) (written r .items) ≡ done s → InRanges (s .constraints)
 unfolding worked
 solving-ranged m n r F s e =
-    let x = bind-done (items-in true m n r) _ s e in
+    let x = bind-done (items-in true m n (r .count) (written r .items)) _ s e in
     let y = bind-done (check-4 (closure (x .0)) (holders (x .0)) (conflict (closure (x .0)) (holders (x .0)))) _ s (x .2) in
     let z = bind-done (no-endless (endless (steps (closure (x .0)) (holders (x .0))))) _ s (y .2) in
-    let i = items-ranged (no-items (sites-in m n)) 0 (written r .items) (x .0) (F .items) (λ p j. elim j [ ]) (items-done m n r (x .0) (x .1) .0) in
+    let i = items-ranged (no-items (sites-in m n)) 0 (written r .items) (x .0) (F .items) (λ p j. elim j [ ]) (items-done m n (r .count) (written r .items) (x .0) (x .1) .0) in
     rounds-ranged most-rounds (r .count) (started (x .0)) s i (z .2)
 
 module _ (m : List ℕ) (n : ℕ) (ws : List ℕ) (k : ℕ) (r : Rule) where
@@ -197,7 +197,7 @@ module _ (m : List ℕ) (n : ℕ) (ws : List ℕ) (k : ℕ) (r : Rule) where
     -- the table is longer, by new sites at its end, and within the limit
     pub after-widens : Widens (sites-in m n) (g .sites)
     unfolding with-rule
-    after-widens = rw (C .after) (after-rounds m n r (C .solving) (C .work) .widens)
+    after-widens = rw (C .after) (after-rounds m n (r .count) (written r .items) (C .solving) (C .work) .widens)
 
     room-there : length (g .sites) * slot ≤ length m
     unfolding with-rule

@@ -12,7 +12,7 @@ use lib.Dec.{leb}
 use borrow.Author.Tests.{lt-leb, le-leb}
 use Rattle.paper.specs.declared.Constraint.{Constraint}
 use Rattle.paper.specs.declared.Refusal.{Refusal}
-use Rattle.paper.specs.declared.Rule.{Rule}
+use Rattle.paper.specs.declared.Item.{Item}
 use Rattle.paper.specs.Words.{below, first}
 use Rattle.paper.specs.Numbers.{max-sites, max-fields, max-items, max-equal, most-rounds, Outcome, done, refused, _>>=_}
 use Rattle.paper.specs.Sites.{child-count, child-number}
@@ -20,12 +20,15 @@ use Rattle.paper.specs.Loading.{Loading, Labels, Solving, Holder, holder, holde
 use Rattle.paper.specs.Closure.{of-below}
 use Rattle.paper.specs.Tables.{Rising}
 use Rattle.sites.specs.Slots.{sites-in}
+use Rattle.sites.proofs.Places.{sites-length}
 use Rattle.growth.specs.Tail.{table}
 use Rattle.closing.specs.declared.Verdict.{Verdict}
 use Rattle.closing.specs.declared.Verdict.the-variants as verdict
 use Rattle.closing.specs.Holding.{Held, held, shape-in, kid-count, kid-in, holder-in, holders-to, holders-in, eqs-in, class-check, stray, checked, verdict-of}
 use Rattle.closing.specs.Growing.{Inside}
 use Rattle.closing.proofs.Agreeing.{class-lines}
+use Rattle.handed.specs.Items.{items-in as held-items}
+use Rattle.handed.proofs.Laws.{items-length}
 use Rattle.holders.specs.declared.Answer.{Answer}
 use Rattle.holders.specs.declared.Answer.the-variants as answer
 use Rattle.items.specs.declared.Progress.{Progress}
@@ -126,7 +129,7 @@ module _ (m : List ℕ) (n : ℕ) (tail : List ℕ) (t : ℕ) (sites rows words 
       rw (a, S .equalities-are, holders-are p q) (class-lines l kids-inside few-sites)
 
   -- ---- the rounds
-  pub proper : max-sites ≤ length tail → max-sites ≤ length sites → max-sites ≤ length rows → Rising 0 (l .constraints) → Proper m n tail t sites rows words h (take e eqs)
+  pub proper : t ≤ length tail → h ≤ length sites → length sites ≤ length rows → Rising 0 (l .constraints) → Proper m n tail t sites rows words h (take e eqs)
   proper a b c r = record {
     long = a;
     fits = S .fits;
@@ -156,7 +159,7 @@ rounds-copied m n tail sites rows words a b c d x o p e f g h = rw e (go o h)
   where
     go : (o : Outcome Solving) → Rounds m n tail sites rows words a b x o → Rounds m n tail sites rows words c d x o
     go (refused r) h = h
-    go (done s) h = let S = h .1 in (h .0, record { sites-are = S .sites-are; fits = S .fits; constraints-are = S .constraints-are; good = S .good; number = S .number; classes-are = listed-by a b c d (s .classes) f g (S .classes-are); long-sites = S .long-sites })
+    go (done s) h = let S = h .1 in (h .0, record { sites-are = S .sites-are; fits = S .fits; few = S .few; constraints-are = S .constraints-are; good = S .good; number = S .number; classes-are = listed-by a b c d (s .classes) f g (S .classes-are); long-tail = S .long-tail; long-sites = S .long-sites; long-rows = S .long-rows })
 
 pub rounds-by : (m : List ℕ) (n : ℕ) (tail sites rows words equal low : List ℕ) (x : Solved) (o p : Outcome Solving) → p ≡ o → Rounds m n tail sites rows words equal low x o → Rounds m n tail sites rows words equal low x p
 rounds-by m n tail sites rows words equal low x o p e h = rw e h
@@ -171,31 +174,42 @@ module _ (m : List ℕ) (n : ℕ) (tail sites rows words kids eqs : List ℕ) (x
   told-refused (refused d) e T f = let z : d ≡ e = cc in ap refused z
 
   -- the items refuse the rule
-  pub items-refuse : (r : Rule) (room : Bool) (e : Refusal) (a : Answer) → room ≡ true → Told m n tail sites rows words kids eqs x (items-in room m n r) → x .answer ≡ a → a ≡ answer.Refused e → worked m n r ≡ refused e
+  pub items-refuse : (count : ℕ) (is : List Item) (room : Bool) (e : Refusal) (a : Answer) → room ≡ true → Told m n tail sites rows words kids eqs x (items-in room m n count is) → x .answer ≡ a → a ≡ answer.Refused e → worked m n count is ≡ refused e
   unfolding worked
-  items-refuse r room e a q T f g =
-      let t : items-in true m n r ≡ refused e = ap (λ b. items-in b m n r) (sym q) ∙ told-refused (items-in room m n r) e T (f ∙ g) in
+  items-refuse count is room e a q T f g =
+      let t : items-in true m n count is ≡ refused e = ap (λ b. items-in b m n count is) (sym q) ∙ told-refused (items-in room m n count is) e T (f ∙ g) in
       rw t
 
-  module _ (r : Rule) (equal low : List ℕ) (L : Left m n tail sites rows words kids eqs equal low x r) where
-    found : (l : Loading) × (items-in true m n r ≡ done l) × Shown m n tail (x .tail) sites rows words kids (x .held) eqs (x .equal) l
-    found = told-done (items-in true m n r) (L .told) (L .fine)
+  module _ (equal low : List ℕ) (count : ℕ) (is : List Item) (L : Left m n tail sites rows words kids eqs equal low x count is) where
+    found : (l : Loading) × (items-in true m n count is ≡ done l) × Shown m n tail (x .tail) sites rows words kids (x .held) eqs (x .equal) l
+    found = told-done (items-in true m n count is) (L .told) (L .fine)
 
-    passed : Passed (sites-in m n) (r .count) (found .0)
-    passed = after-items m n r (found .0) (found .1)
+    passed : Passed (sites-in m n) (length is) (found .0)
+    passed = after-items m n count is (found .0) (found .1)
 
     pub left-held : x .held ≤ max-items
     left-held =
         let a = held-count m n tail (x .tail) sites rows words kids (x .held) eqs (x .equal) (found .0) (found .2) in
         let b = passed .few in
-        let c = items-done m n r (found .0) (found .1) .2 in
+        let c = items-done m n count is (found .0) (found .1) .2 in
+        let d = L .few in
+        omega arith
+
+    pub left-tail : x .tail ≤ length tail
+    left-tail =
+        let a = sites-count m n tail (x .tail) sites rows words kids (x .held) eqs (x .equal) (found .0) (found .2) in
+        let b = passed .grown in
+        let c = items-done m n count is (found .0) (found .1) .2 in
+        let d = L .few in
+        let e = L .long-tail in
+        let h = sites-length m n in
         omega arith
 
     pub left-equal : x .equal ≤ length eqs
     left-equal = found .2 .equal-fits
 
     pub left-proper : Proper m n tail (x .tail) sites rows words (x .held) (take (x .equal) eqs)
-    left-proper = proper m n tail (x .tail) sites rows words kids (x .held) eqs (x .equal) (found .0) (found .2) (L .long-tail) (L .long-sites) (L .long-rows) (passed .rising)
+    left-proper = proper m n tail (x .tail) sites rows words kids (x .held) eqs (x .equal) (found .0) (found .2) left-tail (let a = left-held in let b = L .long-sites in omega arith) (L .long-rows) (passed .rising)
 
     checked-so : checked (take (x .equal) eqs) (held (take (x .held) sites) (take (x .held) rows) words kids) ≡ (check-4 (closure (found .0)) (holders (found .0)) (conflict (closure (found .0)) (holders (found .0))) >>= λ _. no-endless (endless (steps (closure (found .0)) (holders (found .0)))))
     checked-so =
@@ -204,43 +218,48 @@ module _ (m : List ℕ) (n : ℕ) (tail sites rows words kids eqs : List ℕ) (x
         check-is m n tail (x .tail) sites rows words kids (x .held) eqs (x .equal) (found .0) (found .2) (omega arith) (omega arith) (L .inside)
 
     -- the class check refuses it
-    pub left-refuse : (v : Verdict) (e : Refusal) → verdict-of v ≡ checked (take (x .equal) eqs) (held (take (x .held) sites) (take (x .held) rows) words kids) → v ≡ verdict.Refused e → worked m n r ≡ refused e
+    pub left-refuse : (v : Verdict) (e : Refusal) → verdict-of v ≡ checked (take (x .equal) eqs) (held (take (x .held) sites) (take (x .held) rows) words kids) → v ≡ verdict.Refused e → worked m n count is ≡ refused e
     unfolding worked
     left-refuse v e p q =
         rw (found .1) (go (check-4 (closure (found .0)) (holders (found .0)) (conflict (closure (found .0)) (holders (found .0)))) (no-endless (endless (steps (closure (found .0)) (holders (found .0))))) (sym checked-so ∙ sym p ∙ ap verdict-of q))
       where
-        go : (a b : Outcome (Unit {0})) → (a >>= λ _. b) ≡ refused e → (a >>= λ _. (b >>= λ _. rounds most-rounds (r .count) (started (found .0)))) ≡ refused e
+        go : (a b : Outcome (Unit {0})) → (a >>= λ _. b) ≡ refused e → (a >>= λ _. (b >>= λ _. rounds most-rounds count (started (found .0)))) ≡ refused e
         go (refused d) b h = let z : d ≡ e = cc in ap refused z
         go (done u) (refused d) h = let z : d ≡ e = cc in ap refused z
         go (done u) (done w) h = let z : _≡_ {A = ℕ} 0 1 = cc in absurd (omega arith)
 
     -- or passes it on to the rounds
-    pub left-solved : (v : Verdict) → verdict-of v ≡ checked (take (x .equal) eqs) (held (take (x .held) sites) (take (x .held) rows) words kids) → v ≡ verdict.Passes → worked m n r ≡ solved m n tail (x .tail) (r .count) sites rows words (x .held) (take (x .equal) eqs)
+    pub left-solved : (v : Verdict) → verdict-of v ≡ checked (take (x .equal) eqs) (held (take (x .held) sites) (take (x .held) rows) words kids) → v ≡ verdict.Passes → worked m n count is ≡ solved m n tail (x .tail) count sites rows words (x .held) (take (x .equal) eqs)
     unfolding worked
     left-solved v p q =
         rw (found .1) (go (check-4 (closure (found .0)) (holders (found .0)) (conflict (closure (found .0)) (holders (found .0)))) (no-endless (endless (steps (closure (found .0)) (holders (found .0))))) (sym checked-so ∙ sym p ∙ ap verdict-of q))
-        ∙ sym (solved-is m n tail (x .tail) sites rows words kids (x .held) eqs (x .equal) (found .0) (found .2) (r .count))
+        ∙ sym (solved-is m n tail (x .tail) sites rows words kids (x .held) eqs (x .equal) (found .0) (found .2) count)
       where
-        go : (a b : Outcome (Unit {0})) → (a >>= λ _. b) ≡ done tt → (a >>= λ _. (b >>= λ _. rounds most-rounds (r .count) (started (found .0)))) ≡ rounds most-rounds (r .count) (started (found .0))
+        go : (a b : Outcome (Unit {0})) → (a >>= λ _. b) ≡ done tt → (a >>= λ _. (b >>= λ _. rounds most-rounds count (started (found .0)))) ≡ rounds most-rounds count (started (found .0))
         go (refused d) b h = let z : _≡_ {A = ℕ} 0 1 = cc in absurd (omega arith)
         go (done u) (refused d) h = let z : _≡_ {A = ℕ} 0 1 = cc in absurd (omega arith)
         go (done u) (done w) h = refl
 
 -- ---- the lists that are lent to the items
-pub roomy-so : (n : ℕ) (tail sites rows shapes equal low : List ℕ) (r : Rule) (kids eqs : List ℕ) → Lent n tail sites rows shapes equal low r → length kids ≡ 256 → length eqs ≡ 64 → roomy tail sites rows shapes kids eqs ≡ true
+pub roomy-so : (tail sites rows shapes kids eqs : List ℕ) → Lent tail sites rows → 3 * max-items ≤ length shapes → length kids ≡ 256 → length eqs ≡ 64 → roomy tail sites rows shapes kids eqs ≡ true
 unfolding roomy
-roomy-so n tail sites rows shapes equal low r kids eqs L p q =
+roomy-so tail sites rows shapes kids eqs L d p q =
     let a = L .long-tail in
     let b = L .long-sites in
     let c = L .long-rows in
-    let d = L .long-shapes in
-    rw (le-leb max-sites (length tail) a, le-leb max-items (length sites) (omega arith), le-leb max-items (length rows) (omega arith), le-leb (3 * max-items) (length shapes) d, le-leb (8 * max-items) (length kids) (omega arith), le-leb (2 * max-items) (length eqs) (omega arith))
+    rw (le-leb (8 * max-items) (length tail) a, le-leb max-items (length sites) (omega arith), le-leb max-items (length rows) (omega arith), le-leb (3 * max-items) (length shapes) d, le-leb (8 * max-items) (length kids) (omega arith), le-leb (2 * max-items) (length eqs) (omega arith))
 
 pub zeros-inside : (n : ℕ) → Inside (replicate n 0)
 zeros-inside zero k = omega arith
 zeros-inside (suc n) zero = omega arith
 zeros-inside (suc n) (suc k) = zeros-inside n k
 
-pub left-so : (m : List ℕ) (n : ℕ) (tail sites rows words kids eqs equal low : List ℕ) (x : Progress) (r : Rule) (room : Bool) → room ≡ true → Told m n tail sites rows words kids eqs x (items-in room m n r) → x .answer ≡ answer.Fine → Inside kids
-    → max-sites ≤ length tail → max-sites ≤ length sites → max-sites ≤ length rows → max-equal ≤ length equal → max-equal ≤ length low → Left m n tail sites rows words kids eqs equal low x r
-left-so m n tail sites rows words kids eqs equal low x r room q T f k a b c d e = record { told = rw q at T; fine = f; inside = k; long-tail = a; long-sites = b; long-rows = c; long-equal = d; long-low = e }
+pub left-so : (m : List ℕ) (n : ℕ) (tail sites rows words kids eqs equal low : List ℕ) (x : Progress) (count : ℕ) (ws : List ℕ) (room : Bool) → room ≡ true → Told m n tail sites rows words kids eqs x (items-in room m n count (held-items ws (min count max-items))) → x .answer ≡ answer.Fine → Inside kids
+    → (tail₀ sites₀ rows₀ : List ℕ) → Lent tail₀ sites₀ rows₀ → length tail ≡ length tail₀ → length sites ≡ length sites₀ → length rows ≡ length rows₀
+    → max-equal ≤ length equal → max-equal ≤ length low → Left m n tail sites rows words kids eqs equal low x count (held-items ws (min count max-items))
+left-so m n tail sites rows words kids eqs equal low x count ws room q T f k tail₀ sites₀ rows₀ L et es er d e =
+    let a = L .long-tail in
+    let b = L .long-sites in
+    let c = L .long-rows in
+    let g = items-length ws (min count max-items) in
+    record { told = rw q at T; few = omega arith; fine = f; inside = k; long-tail = omega arith; long-sites = omega arith; long-rows = omega arith; long-equal = d; long-low = e }

@@ -1,7 +1,8 @@
 -- The answers of `load`, and the lent memory after each.
-use mathlib.Core.Path.{_≡_, refl, sym, ap, _∙_}
+use mathlib.Core.Path.{_≡_, refl, sym, ap, _∙_, subst}
 use mathlib.Core.Bool.{Bool, true, false, _&&_, not}
 use mathlib.Core.Option.{Option, none, some}
+use mathlib.Core.Logic.{⊎-elim}
 use mathlib.Core.List.{List, [], _∷_, _++_, map, List·Memᴰ, List·Memᴰ·head}
 use Prim.Native.Nat.{ℕ, zero, suc, _+_, _*_, _≤_, _<_, min}
 use native.Mathlib.Omega.{arith}
@@ -15,7 +16,7 @@ use Rattle.paper.specs.declared.Refusal.the-variants.{TooManySites, TooManyRule
 use Rattle.paper.specs.Words.{or-else, below, joined}
 use Rattle.paper.specs.Numbers.{max-sites, max-rules, max-items, max-constrained, max-equal, Outcome, done, refused, _>>=_, demand}
 use Rattle.paper.specs.Sites.{Site, Sites, constBool, constInt, constPrim, argument, extractor, constructor, iterator, makeVariant, matchVariant, makeStruct, extractStruct, makeSome, matchSome, matchTuple, sources, parent}
-use Rattle.paper.specs.Loading.{Kept, Set, written, Solving, with-rule}
+use Rattle.paper.specs.Loading.{Kept, Set, Written, written, Solving, with-rule}
 use Rattle.paper.specs.Rules.{no-rule}
 use Rattle.paper.specs.Outcomes.{demand-done, bind-done}
 use Rattle.paper.specs.Closure.{in-below}
@@ -28,10 +29,14 @@ use Rattle.holders.specs.declared.Answer.{Answer}
 use Rattle.holders.specs.declared.Answer.the-variants as answer
 use Rattle.items.specs.Shown.{shown}
 use Rattle.loading.specs.declared.Solved.{Solved}
+use Rattle.loading.specs.declared.Ended.{Ended}
+use Rattle.loading.specs.declared.Ended.the-variants as end
+use Rattle.loading.specs.declared.Tried.{Tried}
+use Rattle.loading.specs.declared.Tried.the-variants as tried
 use Rattle.loading.specs.declared.Loaded.{Loaded}
 use Rattle.loading.specs.declared.Loaded.the-variants as loaded
-use Rattle.loading.specs.Rounding.{Solves, Rounds}
-use Rattle.loading.specs.Parts.{answer-as, has-place, admitted, worked, settled, Lent, ChildWord, new-sites, gathered, Keepable}
+use Rattle.loading.specs.Rounding.{Solves, Rounds, Scant, Unless}
+use Rattle.loading.specs.Parts.{answer-as, admitted, worked, settled, Lent, ChildWord, new-sites, gathered, Keepable, Finishable, Finishes, Answers, Tries}
 use Rattle.loading.specs.Whole.{set-in, load-in, loaded-as, sites-after, three, put-kept, words-after}
 use Rattle.loading.proofs.Widening.{NewSite, Widens, Turned, classes-few}
 use Rattle.loading.proofs.Parting.{first-length, ended, by-parts, parts, after-rounds}
@@ -73,61 +78,101 @@ new-words m n tail t u e W i l =
     let b : List·Memᴰ (site-of-word (getD tail i 0)) (new-sites tail t) = in-below t (λ j. site-of-word (getD tail j 0)) i l in
     new-word (getD tail i 0) (W .new (site-of-word (getD tail i 0)) (rw a at b))
 
-module _ (m : List ℕ) (n : ℕ) (ws : List ℕ) (k : ℕ) (r : Rule) where
-  -- what `load` ensures
-  abbrev pub Answers : Loaded → List ℕ → List ℕ → Type 0
-  Answers out m′ ws′ = (out ≡ loaded-as (load-in m n ws k r)) × ((m′ ≡ sites-after m n (load-in m n ws k r)) × (ws′ ≡ words-after ws k (load-in m n ws k r)))
+-- ---- the checks of the result, and what is written
 
-  refuses : (e : Refusal) → load-in m n ws k r ≡ refused e → Answers (loaded.Refused e) m ws
+module _ (m : List ℕ) (n : ℕ) (ws : List ℕ) (k place priority count : ℕ) (tail sites rows words equal low : List ℕ) (x : Solved) (F : Finishable n tail sites rows words equal low x) (total : ℕ) (e : total ≡ n + x .tail)
+    (b : Answer) (g : b ≡ answer-as (settled total (x .held) (x .equal) (length m) count)) where
+  abbrev Ends-as : Loaded → List ℕ → List ℕ → Type 0
+  Ends-as out m′ ws′ = Finishes m n ws k place priority tail sites rows words equal low x out m′ ws′ (settled (n + x .tail) (x .held) (x .equal) (length m) count)
+
+  pub finish-refuses : (d : Refusal) → b ≡ answer.Refused d → Ends-as (loaded.Refused d) m ws
+  finish-refuses d h =
+      let z : settled (n + x .tail) (x .held) (x .equal) (length m) count ≡ refused d = ap (λ i. settled i (x .held) (x .equal) (length m) count) (sym e) ∙ refused-so (settled total (x .held) (x .equal) (length m) count) d (sym g ∙ h) in
+      rw z (refl, (refl, refl))
+
+  module _ (h : b ≡ answer.Fine) where
+    settles : settled total (x .held) (x .equal) (length m) count ≡ done tt
+    settles = fine-done (settled total (x .held) (x .equal) (length m) count) (sym g ∙ h) .1
+
+    limits : (x .held ≤ max-constrained) × (x .equal ≤ max-equal) × (total * slot ≤ length m)
+    unfolding settled
+    limits =
+        let u = demand-done (leb (x .held) max-constrained) (TooManyConstrained (x .held)) _ tt settles in
+        let v = demand-done (leb (x .equal) max-equal) (TooManyEqual (x .equal)) _ tt (u .1) in
+        let w = demand-done {B = Unit {0}} (leb (total * slot) (length m)) (TooManySites total count) done tt (bind-unit _ (v .1)) in
+        (leb-true _ _ (u .0), leb-true _ _ (v .0), leb-true _ _ (w .0))
+      where
+        bind-unit : (o : Outcome (Unit {0})) → o ≡ done tt → (o >>= done) ≡ done tt
+        bind-unit (done a) q = q
+        bind-unit (refused d) q = q
+
+    pub keepable : Keepable (length m) n tail sites rows words equal low x
+    keepable =
+        let d = limits .2 in
+        let u = limits .0 in
+        let v = limits .1 in
+        let p = F .long-equal in
+        let q = F .long-low in
+        record {
+          fits = F .fits;
+          room = omega arith;
+          long-tail = F .long-tail;
+          children = F .children;
+          few = u;
+          long-sites = F .long-sites;
+          long-rows = F .long-rows;
+          long-shapes = F .long-shapes;
+          items = F .items;
+          few-equal = v;
+          long-equal = omega arith;
+          long-low = omega arith;
+        }
+
+    pub finish-keeps : (m′ ws′ : List ℕ) → m′ ≡ store m n (new-sites tail (x .tail))
+        → ws′ ≡ stored.written ws k place priority (take (x .held) sites) (gathered rows words (3 * x .held)) (take (x .equal) equal) (take (x .equal) low)
+        → Ends-as (loaded.Kept total) m′ ws′
+    finish-keeps m′ ws′ p q =
+        let z : settled (n + x .tail) (x .held) (x .equal) (length m) count ≡ done tt = ap (λ i. settled i (x .held) (x .equal) (length m) count) (sym e) ∙ settles in
+        rw z (ap loaded.Kept e, (p, q))
+
+-- ---- a rule, by what is written of it
+
+module _ (m : List ℕ) (n : ℕ) (ws : List ℕ) (k : ℕ) (r : Rule) (w : Written) (ew : written r ≡ w) where
+  goes : load-in m n ws k r ≡ by-parts m n ws k w
+  goes = parts m n ws k r ∙ ap (by-parts m n ws k) ew
+
+  refuses : (e : Refusal) → load-in m n ws k r ≡ refused e → Answers m n ws k r (loaded.Refused e) m ws
   refuses e q = rw q (refl, (refl, refl))
 
   -- ---- before the items
-  pub first-refuses : (a : Answer) (e : Refusal) → a ≡ answer-as (admitted n ws k (r .place) (r .count)) → a ≡ answer.Refused e → Answers (loaded.Refused e) m ws
+  pub first-refuses : (a : Answer) (e : Refusal) → a ≡ answer-as (admitted n ws k (w .place) (w .count)) → a ≡ answer.Refused e → Answers m n ws k r (loaded.Refused e) m ws
   first-refuses a e p q =
-      let z = refused-so (admitted n ws k (r .place) (r .count)) e (sym p ∙ q) in
-      refuses e (parts m n ws k r ∙ ap (λ o. o >>= λ _. (worked m n r >>= ended m n ws k r)) z)
+      let z = refused-so (admitted n ws k (w .place) (w .count)) e (sym p ∙ q) in
+      refuses e (goes ∙ ap (λ o. o >>= λ _. (worked m n (w .count) (w .items) >>= ended m n ws k w)) z)
 
-  module _ (a : Answer) (p : a ≡ answer-as (admitted n ws k (r .place) (r .count))) (q : a ≡ answer.Fine) where
-    admits : admitted n ws k (r .place) (r .count) ≡ done tt
-    admits = fine-done (admitted n ws k (r .place) (r .count)) (sym p ∙ q) .1
-
-    goes-on : load-in m n ws k r ≡ (worked m n r >>= ended m n ws k r)
-    goes-on = parts m n ws k r ∙ ap (λ o. o >>= λ _. (worked m n r >>= ended m n ws k r)) admits
-
-    few : (n ≤ max-sites) × (r .count ≤ max-items)
-    unfolding admitted
-    few =
-        let x = demand-done (ltb k max-rules && leb (base k + stride) (length ws)) (TooManyRules (suc (min k max-rules))) _ tt admits in
-        let y = demand-done (leb n max-sites) (TooManySites n (r .count)) _ tt (x .1) in
-        let z = demand-done (leb (r .count) max-items) (TooManyItems (r .count)) _ tt (y .1) in
-        (leb-true _ _ (y .0), leb-true _ _ (z .0))
-
-    pub lent-so : Lent n (replicate 1024 0) (replicate 1024 0) (replicate 1024 0) (replicate 96 0) (replicate 32 0) (replicate 32 0) r
-    lent-so =
-        let b = length-replicate {A = ℕ} 1024 0 in
-        let d = length-replicate {A = ℕ} 96 0 in
-        let e = length-replicate {A = ℕ} 32 0 in
-        record { few = few .0; items = few .1; long-tail = omega arith; long-sites = omega arith; long-rows = omega arith; long-shapes = omega arith; long-equal = omega arith; long-low = omega arith }
+  module _ (admits : admitted n ws k (w .place) (w .count) ≡ done tt) where
+    goes-on : load-in m n ws k r ≡ (worked m n (w .count) (w .items) >>= ended m n ws k w)
+    goes-on = goes ∙ ap (λ o. o >>= λ _. (worked m n (w .count) (w .items) >>= ended m n ws k w)) admits
 
     -- ---- the rounds
-    module _ (tail sites rows words equal low : List ℕ) (x : Solved) (R : Rounds m n tail sites rows words equal low x (worked m n r)) where
-      rounds-refused : (o : Outcome Solving) (e : Refusal) → Rounds m n tail sites rows words equal low x o → x .answer ≡ answer.Refused e → o ≡ refused e
+    module _ (tail sites rows words equal low : List ℕ) (x : Solved) (R : Rounds m n tail sites rows words equal low x (worked m n (w .count) (w .items))) where
+      rounds-refused : (o : Outcome Solving) (e : Refusal) → Rounds m n tail sites rows words equal low x o → x .answer ≡ end.Refused e → o ≡ refused e
       rounds-refused (done s) e Q f = let g = Q .0 in let z : _≡_ {A = ℕ} 0 1 = cc in absurd (omega arith)
       rounds-refused (refused d) e Q f = let z : d ≡ e = cc in ap refused z
 
-      rounds-done : (o : Outcome Solving) → Rounds m n tail sites rows words equal low x o → x .answer ≡ answer.Fine → (s : Solving) × (o ≡ done s) × Solves m n tail sites rows words equal low x s
+      rounds-done : (o : Outcome Solving) → Rounds m n tail sites rows words equal low x o → x .answer ≡ end.Fine → (s : Solving) × (o ≡ done s) × Solves m n tail sites rows words equal low x s
       rounds-done (done s) Q f = (s, refl, Q .1)
       rounds-done (refused e) Q f = let z : _≡_ {A = ℕ} 0 1 = cc in absurd (omega arith)
 
-      pub rounds-refuse : (e : Refusal) → x .answer ≡ answer.Refused e → Answers (loaded.Refused e) m ws
-      rounds-refuse e f = let z = rounds-refused (worked m n r) e R f in refuses e (goes-on ∙ ap (λ o. o >>= ended m n ws k r) z)
+      pub rounds-refuse : (e : Refusal) → x .answer ≡ end.Refused e → Answers m n ws k r (loaded.Refused e) m ws
+      rounds-refuse e f = let z = rounds-refused (worked m n (w .count) (w .items)) e R f in refuses e (goes-on ∙ ap (λ o. o >>= ended m n ws k w) z)
 
-      module _ (f : x .answer ≡ answer.Fine) where
-        found : (s : Solving) × (worked m n r ≡ done s) × Solves m n tail sites rows words equal low x s
-        found = rounds-done (worked m n r) R f
+      module _ (f : x .answer ≡ end.Fine) where
+        found : (s : Solving) × (worked m n (w .count) (w .items) ≡ done s) × Solves m n tail sites rows words equal low x s
+        found = rounds-done (worked m n (w .count) (w .items)) R f
 
         turned : Turned (sites-in m n) (found .0)
-        turned = after-rounds m n r (found .0) (found .1)
+        turned = after-rounds m n (w .count) (w .items) (found .0) (found .1)
 
         sites-many : length (found .0 .sites) ≡ n + x .tail
         sites-many = ap length (sym (found .2 .sites-are)) ∙ table-long m n tail (x .tail)
@@ -135,89 +180,102 @@ module _ (m : List ℕ) (n : ℕ) (ws : List ℕ) (k : ℕ) (r : Rule) where
         held-many : length (found .0 .constraints) ≡ x .held
         held-many = ap length (sym (found .2 .constraints-are)) ∙ shown-long sites rows words (x .held)
 
-        -- numbers that fit
-        pub numbers-fit : (n + x .tail ≤ max-sites) × (x .held ≤ length sites) × (x .equal ≤ max-sites)
-        numbers-fit = (found .2 .fits, found .2 .long-sites, let a = classes-few (found .0 .classes) (turned .classes) in let b = found .2 .number in omega arith)
+        pub finishable : 3 * max-items ≤ length words → max-equal ≤ length equal → max-equal ≤ length low → Finishable n tail sites rows words equal low x
+        finishable lw le ll = record {
+          fits = found .2 .fits;
+          long-tail = found .2 .long-tail;
+          children = new-words m n tail (x .tail) (found .0 .sites) (found .2 .sites-are) (turned .widens);
+          few = let a = found .2 .few in let b = found .2 .fits in omega arith;
+          long-sites = found .2 .long-sites;
+          long-rows = found .2 .long-rows;
+          long-shapes = lw;
+          items = λ i l. found .2 .good i l .item;
+          few-equal = let a = classes-few (found .0 .classes) (turned .classes) in let b = found .2 .number in omega arith;
+          long-equal = le;
+          long-low = ll;
+        }
 
-        last-is : (total : ℕ) → total ≡ n + x .tail → load-in m n ws k r ≡ (settled total (x .held) (x .equal) (length m) (r .count) >>= λ _. done (with-rule (set-in m n ws k) (written r) (found .0)))
-        last-is total e =
+        abbrev set-then : Set
+        set-then = with-rule (set-in m n ws k) w (found .0)
+
+        last-is : load-in m n ws k r ≡ (settled (n + x .tail) (x .held) (x .equal) (length m) (w .count) >>= λ _. done set-then)
+        last-is =
             goes-on
-            ∙ (ap (λ o. o >>= ended m n ws k r) (found .1)
-            ∙ rw (sites-many, held-many, ← found .2 .number, e))
+            ∙ (ap (λ o. o >>= ended m n ws k w) (found .1)
+            ∙ rw (sites-many, held-many, ← found .2 .number))
 
-        module _ (total : ℕ) (e : total ≡ n + x .tail) (b : Answer) (g : b ≡ answer-as (settled total (x .held) (x .equal) (length m) (r .count))) where
-          pub last-refuse : (d : Refusal) → b ≡ answer.Refused d → Answers (loaded.Refused d) m ws
-          last-refuse d h =
-              let z = refused-so (settled total (x .held) (x .equal) (length m) (r .count)) d (sym g ∙ h) in
-              refuses d (last-is total e ∙ ap (λ o. o >>= λ _. done (with-rule (set-in m n ws k) (written r) (found .0))) z)
+        last-rule : getD (set-then .kept) k no-rule ≡ record { place = w .place; priority = w .priority; constraints = found .0 .constraints; equals = found .0 .classes }
+        unfolding with-rule set-in
+        last-rule = getD-at (kept-first ws k) _ [] no-rule k (first-length ws k)
 
-          module _ (h : b ≡ answer.Fine) where
-            settles : settled total (x .held) (x .equal) (length m) (r .count) ≡ done tt
-            settles = fine-done (settled total (x .held) (x .equal) (length m) (r .count)) (sym g ∙ h) .1
+        limit : settled (n + x .tail) (x .held) (x .equal) (length m) (w .count) ≡ done tt → x .equal ≤ max-equal
+        unfolding settled
+        limit e =
+            let u = demand-done (leb (x .held) max-constrained) (TooManyConstrained (x .held)) _ tt e in
+            let v = demand-done (leb (x .equal) max-equal) (TooManyEqual (x .equal)) _ tt (u .1) in
+            leb-true _ _ (v .0)
 
-            limits : (x .held ≤ max-constrained) × (x .equal ≤ max-equal) × (total * slot ≤ length m)
-            unfolding settled
-            limits =
-                let u = demand-done (leb (x .held) max-constrained) (TooManyConstrained (x .held)) _ tt settles in
-                let v = demand-done (leb (x .equal) max-equal) (TooManyEqual (x .equal)) _ tt (u .1) in
-                let w = demand-done {B = Unit {0}} (leb (total * slot) (length m)) (TooManySites total (r .count)) done tt (bind-unit _ (v .1)) in
-                (leb-true _ _ (u .0), leb-true _ _ (v .0), leb-true _ _ (w .0))
-              where
-                bind-unit : (o : Outcome (Unit {0})) → o ≡ done tt → (o >>= done) ≡ done tt
-                bind-unit (done a) q = q
-                bind-unit (refused d) q = q
-
-            pub keepable : length tail ≡ 1024 → length rows ≡ 1024 → length words ≡ 96 → length equal ≡ 32 → length low ≡ 32 → Keepable (length m) n tail sites rows words equal low x
-            keepable lt lr lw le ll =
-                let c = found .2 .fits in
-                let d = limits .2 in
-                let u = limits .0 in
-                let v = limits .1 in
-                record {
-                  fits = c;
-                  room = omega arith;
-                  long-tail = omega arith;
-                  children = new-words m n tail (x .tail) (found .0 .sites) (found .2 .sites-are) (turned .widens);
-                  few = u;
-                  long-sites = found .2 .long-sites;
-                  long-rows = omega arith;
-                  long-shapes = omega arith;
-                  items = λ i l. found .2 .good i l .item;
-                  few-equal = v;
-                  long-equal = omega arith;
-                  long-low = omega arith;
-                }
-
-            pub equals-fit : x .equal ≤ max-equal
-            equals-fit = limits .1
-
-            kept-so : load-in m n ws k r ≡ done (with-rule (set-in m n ws k) (written r) (found .0))
-            kept-so = last-is total e ∙ ap (λ o. o >>= λ _. done (with-rule (set-in m n ws k) (written r) (found .0))) settles
-
-            last-rule : getD (with-rule (set-in m n ws k) (written r) (found .0) .kept) k no-rule ≡ record { place = r .place; priority = r .priority; constraints = found .0 .constraints; equals = found .0 .classes }
-            unfolding with-rule set-in
-            last-rule = getD-at (kept-first ws k) _ [] no-rule k (first-length ws k)
-
-            pub keeps : (m′ ws′ : List ℕ) → x .equal ≤ length equal → x .equal ≤ length low → m′ ≡ store m n (new-sites tail (x .tail))
-                → ws′ ≡ stored.written ws k (r .place) (r .priority) (take (x .held) sites) (gathered rows words (3 * x .held)) (take (x .equal) equal) (take (x .equal) low)
-                → Answers (loaded.Kept total) m′ ws′
-            unfolding with-rule put-kept
-            keeps m′ ws′ le ll p q =
-                let u = limits .1 in
-                let z = found .2 .number in
+        pub finished : max-equal ≤ length equal → max-equal ≤ length low → (out : Loaded) (m′ ws′ : List ℕ)
+            → Finishes m n ws k (w .place) (w .priority) tail sites rows words equal low x out m′ ws′ (settled (n + x .tail) (x .held) (x .equal) (length m) (w .count)) → Answers m n ws k r out m′ ws′
+        unfolding with-rule put-kept
+        finished le ll out m′ ws′ E = go (settled (n + x .tail) (x .held) (x .equal) (length m) (w .count)) refl E
+          where
+            go : (o : Outcome (Unit {0})) → settled (n + x .tail) (x .held) (x .equal) (length m) (w .count) ≡ o → Finishes m n ws k (w .place) (w .priority) tail sites rows words equal low x out m′ ws′ o → Answers m n ws k r out m′ ws′
+            go (refused d) e Q =
+                let z : load-in m n ws k r ≡ refused d = last-is ∙ ap (λ o. o >>= λ _. done set-then) e in
+                rw z Q
+            go (done u) e Q =
+                let z : load-in m n ws k r ≡ done set-then = last-is ∙ ap (λ o. o >>= λ _. done set-then) e in
+                let v = limit e in
+                let y = found .2 .number in
                 let cs : found .0 .constraints ≡ shown sites rows words (x .held) = sym (found .2 .constraints-are) in
                 let a : take (x .held) sites ≡ map (λ p. p .0) (found .0 .constraints) = laid-sites sites rows words (x .held) (found .2 .long-sites) ∙ ap (map (λ p. p .0)) (sym cs) in
                 let b : gathered rows words (3 * x .held) ≡ joined (map three (found .0 .constraints)) = laid-words sites rows words (x .held) ∙ ap (λ t. joined (map three t)) (sym cs) in
-                let c : take (x .equal) equal ≡ map (λ p. p .0) (found .0 .classes) = laid-equal equal low (found .0 .classes) (found .2 .classes-are) (omega arith) (x .equal) z le in
-                let d : take (x .equal) low ≡ map (λ p. p .1) (found .0 .classes) = laid-low equal low (found .0 .classes) (found .2 .classes-are) (omega arith) (x .equal) z ll in
+                let c : take (x .equal) equal ≡ map (λ p. p .0) (found .0 .classes) = laid-equal equal low (found .0 .classes) (found .2 .classes-are) (omega arith) (x .equal) y (omega arith) in
+                let d : take (x .equal) low ≡ map (λ p. p .1) (found .0 .classes) = laid-low equal low (found .0 .classes) (found .2 .classes-are) (omega arith) (x .equal) y (omega arith) in
                 let s : drop n (found .0 .sites) ≡ new-sites tail (x .tail) = ap (drop n) (sym (found .2 .sites-are)) ∙ table-new m n tail (x .tail) in
-                let t : total ≡ length (found .0 .sites) = e ∙ sym sites-many in
-                let w : ws′ ≡ stored.written ws k (r .place) (r .priority) (map (λ p. p .0) (found .0 .constraints)) (joined (map three (found .0 .constraints))) (map (λ p. p .0) (found .0 .classes)) (map (λ p. p .1) (found .0 .classes)) = rw (← a, ← b, ← c, ← d) q in
-                rw kept-so (ap loaded.Kept t, (p ∙ ap (store m n) (sym s), w ∙ ap (put-kept ws k) (sym last-rule)))
+                let q : ws′ ≡ stored.written ws k (w .place) (w .priority) (map (λ p. p .0) (found .0 .constraints)) (joined (map three (found .0 .constraints))) (map (λ p. p .0) (found .0 .classes)) (map (λ p. p .1) (found .0 .classes)) = rw (← a, ← b, ← c, ← d) (Q .1 .1) in
+                rw z (Q .0 ∙ ap loaded.Kept (sym sites-many), (Q .1 .0 ∙ ap (store m n) (sym s), q ∙ ap (put-kept ws k) (sym last-rule)))
+
+-- ---- with lent lists
+
+-- what was tried with lists that were too short left all as it was
+module _ (m : List ℕ) (n : ℕ) (ws : List ℕ) (k : ℕ) (r : Rule) (tail sites m′ ws′ : List ℕ) (a : Tried) (T : Tries m n ws k r tail sites m′ ws′ a) where
+  pub tried-done : (out : Loaded) → a ≡ tried.Done out → Answers m n ws k r out m′ ws′
+  unfolding Tries
+  tried-done out e = subst (λ (x : Tried). Tries m n ws k r tail sites m′ ws′ x) e T
+
+  pub tried-short : a ≡ tried.Short → Scant tail sites × ((m′ ≡ m) × (ws′ ≡ ws))
+  unfolding Tries
+  tried-short e = subst (λ (x : Tried). Tries m n ws k r tail sites m′ ws′ x) e T
+
+  pub still-admitted : (place count : ℕ) → a ≡ tried.Short → admitted n ws k place count ≡ done tt → admitted n ws′ k place count ≡ done tt
+  still-admitted place count e h = rw (tried-short e .1 .1) h
+
+  pub then-large : a ≡ tried.Short → (out : Loaded) (m″ ws″ : List ℕ) → Answers m′ n ws′ k r out m″ ws″ → Answers m n ws k r out m″ ws″
+  then-large e out m″ ws″ h = let s = tried-short e .1 in rw (s .0, s .1) at h
+
+pub answers-same : (m : List ℕ) (n : ℕ) (ws : List ℕ) (k : ℕ) (r q : Rule) (out : Loaded) (m′ ws′ : List ℕ) → load-in m n ws k r ≡ load-in m n ws k q → Answers m n ws k q out m′ ws′ → Answers m n ws k r out m′ ws′
+answers-same m n ws k r q out m′ ws′ e h = rw e h
+
+pub lent-few : Lent (replicate 256 0) (replicate 64 0) (replicate 64 0)
+lent-few = let a = length-replicate {A = ℕ} 256 0 in let b = length-replicate {A = ℕ} 64 0 in record { long-tail = omega arith; long-sites = omega arith; long-rows = omega arith }
+
+pub lent-all : Lent (replicate 1024 0) (replicate 1024 0) (replicate 1024 0)
+lent-all = let a = length-replicate {A = ℕ} 1024 0 in record { long-tail = omega arith; long-sites = omega arith; long-rows = omega arith }
+
+pub never-scant : Scant (replicate 1024 0) (replicate 1024 0) → ⊥
+never-scant s = let a = length-replicate {A = ℕ} 1024 0 in ⊎-elim (λ (h : length {A = ℕ} (replicate 1024 0) < max-sites). omega arith) (λ (h : length {A = ℕ} (replicate 1024 0) < max-sites). omega arith) s
+
+pub admits-so : (n : ℕ) (ws : List ℕ) (k place count : ℕ) (a : Answer) → a ≡ answer-as (admitted n ws k place count) → a ≡ answer.Fine → admitted n ws k place count ≡ done tt
+admits-so n ws k place count a p q = fine-done (admitted n ws k place count) (sym p ∙ q) .1
 
 -- ---- for the proofs of the code
 pub wrote-as : (ws : List ℕ) (k p q : ℕ) (ss sh sh′ es lo w : List ℕ) → w ≡ stored.written ws k p q ss sh es lo → sh ≡ sh′ → w ≡ stored.written ws k p q ss sh′ es lo
 wrote-as ws k p q ss sh sh′ es lo w e f = e ∙ ap (λ x. stored.written ws k p q ss x es lo) f
+
+pub refused-told : {a : Ended} {e : Refusal} {tail sites : List ℕ} {P : Type 0} → a ≡ end.Refused e → Unless a tail sites P → P
+refused-told f u = u .told (λ e. let z : _≡_ {A = ℕ} 0 1 = cc in omega arith)
 
 pub array-long : (xs : List ℕ) (n : ℕ) → length xs ≡ length {A = ℕ} (replicate n 0) → length xs ≡ n
 array-long xs n e = e ∙ length-replicate n 0

@@ -1,3 +1,5 @@
+pub mod Endings
+pub mod Holding
 -- Laws of loading.
 pub mod Placing
 pub mod Walking

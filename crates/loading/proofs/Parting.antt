@@ -4,7 +4,7 @@ use mathlib.Core.Bool.{Bool, true, false, _&&_, not}
 use mathlib.Core.List.{List, [], _∷_, _++_, map}
 use Prim.Native.Nat.{ℕ, zero, suc, _+_, _*_, _≤_, _<_, min}
 use native.Mathlib.Omega.{arith}
-use lib.ListN.{length, take, length-take}
+use lib.ListN.{length}
 use lib.Dec.{ltb, leb}
 use borrow.Author.Tests.{leb-true}
 use Rattle.paper.specs.declared.Item.{Item}
@@ -34,11 +34,11 @@ unfolding kept-first
 first-length ws k = run-length (kept-in ws) 0 k
 
 -- a kept rule is in the set, the last
-abbrev pub ended : List ℕ → ℕ → List ℕ → ℕ → Rule → Solving → Outcome Set
-ended m n ws k r s = settled (length (s .sites)) (length (s .constraints)) (length (s .classes)) (length m) (r .count) >>= λ _. done (with-rule (set-in m n ws k) (written r) s)
+abbrev pub ended : List ℕ → ℕ → List ℕ → ℕ → Written → Solving → Outcome Set
+ended m n ws k w s = settled (length (s .sites)) (length (s .constraints)) (length (s .classes)) (length m) (w .count) >>= λ _. done (with-rule (set-in m n ws k) w s)
 
-abbrev pub by-parts : List ℕ → ℕ → List ℕ → ℕ → Rule → Outcome Set
-by-parts m n ws k r = admitted n ws k (r .place) (r .count) >>= λ _. (worked m n r >>= ended m n ws k r)
+abbrev pub by-parts : List ℕ → ℕ → List ℕ → ℕ → Written → Outcome Set
+by-parts m n ws k w = admitted n ws k (w .place) (w .count) >>= λ _. (worked m n (w .count) (w .items) >>= ended m n ws k w)
 
 -- the lines of 01 after the items
 module _ {L S G : Type 0} (h four six : L → Outcome (Unit {0})) (turn : L → Outcome S) (A B : S → Bool) (x y : S → Refusal) (W : S → G) (C : S → Bool) (z : S → Refusal) where
@@ -77,14 +77,14 @@ both false b e = let z : _≡_ {A = ℕ} 0 1 = cc in absurd (omega arith)
 
 module _ (m : List ℕ) (n : ℕ) (ws : List ℕ) (k : ℕ) (r : Rule) where
   -- the checks before the items, and the two that the items repeat
-  pub parts : load-in m n ws k r ≡ by-parts m n ws k r
+  pub parts : load-in m n ws k r ≡ by-parts m n ws k (written r)
   unfolding load-in load admitted worked settled items-in normalise with-rule used has-place set-in
   parts = go (ltb k max-rules && leb (base k + stride) (length ws)) (leb n max-sites) (leb (r .count) max-items) (has-place ws k (r .place)) refl refl refl refl
     where
       few : (ltb k max-rules && leb (base k + stride) (length ws)) ≡ true → ltb (length (kept-first ws k)) max-rules ≡ true
       few e = ap (λ j. ltb j max-rules) (first-length ws k) ∙ both (ltb k max-rules) _ e .0
 
-      go : (a b c d : Bool) → (ltb k max-rules && leb (base k + stride) (length ws)) ≡ a → leb n max-sites ≡ b → leb (r .count) max-items ≡ c → has-place ws k (r .place) ≡ d → load-in m n ws k r ≡ by-parts m n ws k r
+      go : (a b c d : Bool) → (ltb k max-rules && leb (base k + stride) (length ws)) ≡ a → leb n max-sites ≡ b → leb (r .count) max-items ≡ c → has-place ws k (r .place) ≡ d → load-in m n ws k r ≡ by-parts m n ws k (written r)
       go false b c d ea eb ec ed = rw ea
       go true false c d ea eb ec ed = rw (ea, eb)
       go true true false d ea eb ec ed = rw (ea, eb, few ea, ec)
@@ -99,33 +99,35 @@ module _ (m : List ℕ) (n : ℕ) (ws : List ℕ) (k : ℕ) (r : Rule) where
           (λ g. leb (length (g .sites) * slot) (length m)) (λ g. TooManySites (length (g .sites)) (r .count)) (λ s. refl) (λ s. refl)
           (load-items (no-items (sites-in m n)) 0 (written r .items)))
 
+-- loading looks at what is written alone
+pub same-loading : (m : List ℕ) (n : ℕ) (ws : List ℕ) (k : ℕ) (r q : Rule) → written r ≡ written q → load-in m n ws k r ≡ load-in m n ws k q
+same-loading m n ws k r q e = parts m n ws k r ∙ (ap (by-parts m n ws k) e ∙ sym (parts m n ws k q))
+
 -- ---- what the items and the rounds leave
-module _ (m : List ℕ) (n : ℕ) (r : Rule) where
-  pub items-done : (l : Loading) → items-in true m n r ≡ done l → (load-items (no-items (sites-in m n)) 0 (written r .items) ≡ done l) × (n ≤ max-sites) × (r .count ≤ max-items)
+module _ (m : List ℕ) (n count : ℕ) (is : List Item) where
+  pub items-done : (l : Loading) → items-in true m n count is ≡ done l → (load-items (no-items (sites-in m n)) 0 is ≡ done l) × (n ≤ max-sites) × (count ≤ max-items)
   unfolding items-in
   items-done l e =
-      let x = demand-done (leb n max-sites) (TooManySites n (r .count)) _ l e in
-      let y = demand-done (leb (r .count) max-items) (TooManyItems (r .count)) _ l (x .1) in
-      let z = bind-done (load-items (no-items (sites-in m n)) 0 (written r .items)) _ l (y .1) in
+      let x = demand-done (leb n max-sites) (TooManySites n count) _ l e in
+      let y = demand-done (leb count max-items) (TooManyItems count) _ l (x .1) in
+      let z = bind-done (load-items (no-items (sites-in m n)) 0 is) _ l (y .1) in
       let w = bind-done (no-hanging (hanging (z .0))) _ l (z .2) in
       let q = done-once (w .2) in
       (z .1 ∙ ap done q, leb-true _ _ (x .0), leb-true _ _ (y .0))
 
-  pub after-items : (l : Loading) → items-in true m n r ≡ done l → Passed (sites-in m n) (r .count) l
+  pub after-items : (l : Loading) → items-in true m n count is ≡ done l → Passed (sites-in m n) (length is) l
   after-items l e =
       let d = items-done l e in
       let h = sites-length m n in
       let g = d .1 in
       let w = widens-none (sites-in m n) (omega arith) in
-      let p = items-passed (sites-in m n) 0 (no-items (sites-in m n)) 0 (written r .items) l (record { widens = w; rising = tt; few = omega arith; equal = λ p j. elim j [ ] }) (d .0) in
-      let f = p .few in
-      let c : length (written r .items) ≤ r .count = simp length-take (omega arith) in
-      record { widens = p .widens; rising = p .rising; few = omega arith; equal = p .equal }
+      let z : 0 + length is ≡ length is = omega arith in
+      rw z at (items-passed (sites-in m n) 0 (no-items (sites-in m n)) 0 is l (record { widens = w; rising = tt; few = omega arith; grown = omega arith; equal = λ p j. elim j [ ] }) (d .0))
 
-  pub after-rounds : (s : Solving) → worked m n r ≡ done s → Turned (sites-in m n) s
+  pub after-rounds : (s : Solving) → worked m n count is ≡ done s → Turned (sites-in m n) s
   unfolding worked
   after-rounds s e =
-      let x = bind-done (items-in true m n r) _ s e in
+      let x = bind-done (items-in true m n count is) _ s e in
       let y = bind-done (check-4 (closure (x .0)) (holders (x .0)) (conflict (closure (x .0)) (holders (x .0)))) _ s (x .2) in
       let z = bind-done (no-endless (endless (steps (closure (x .0)) (holders (x .0))))) _ s (y .2) in
-      rounds-turned most-rounds (sites-in m n) (r .count) (started (x .0)) s (started-turned (sites-in m n) (r .count) (x .0) (after-items (x .0) (x .1))) (z .2)
+      rounds-turned most-rounds (sites-in m n) count (started (x .0)) s (started-turned (sites-in m n) (length is) (x .0) (after-items (x .0) (x .1))) (z .2)

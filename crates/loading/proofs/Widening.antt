@@ -5,11 +5,11 @@ use mathlib.Core.Bool.{Bool, true, false, not}
 use mathlib.Core.Option.{Option, none, some}
 use mathlib.Core.Logic.{_⊎_, inl, inr, ⊎-elim}
 use mathlib.Core.List.{List, [], _∷_, _++_, append-assoc, append-nil, List·Memᴰ, List·Memᴰ·head, List·Memᴰ·tail, List·Memᴰ·append-cases, List·Memᴰ·eq-of-singleton}
-use Prim.Native.Nat.{ℕ, zero, suc, _+_, _≤_, _<_, compare, Ordering, Ordering·lt, Ordering·eq, Ordering·gt}
+use Prim.Native.Nat.{ℕ, zero, suc, _+_, _*_, _≤_, _<_}
 use native.Mathlib.Omega.{arith}
 use lib.ListN.{length, getElem?, length-append}
 use lib.Dec.{eqb, leb}
-use borrow.Author.Tests.{ltb-true}
+use borrow.Author.Tests.{ltb-true, leb-true}
 use Rattle.paper.specs.declared.Constraint.{Constraint}
 use Rattle.paper.specs.declared.Item.{Item}
 use Rattle.paper.specs.declared.Item.the-variants.{Is, Equal}
@@ -26,6 +26,10 @@ use Rattle.paper.specs.Tables.{Rising, put-rising, above, in-look, Fine, none-f
 use Rattle.sites.specs.Kinds.{laid}
 use Rattle.sites.specs.Slots.{slot, no-site}
 use Rattle.sites.proofs.After.{Storable, All-storable, Grows}
+use Rattle.items.proofs.Numbering.{length-all}
+use Rattle.items.proofs.Stepping.{few-children}
+use Rattle.tying.specs.Rows.{below-length}
+use Rattle.loading.specs.RoundGive.{put-long}
 
 -- ---- new sites
 pub record NewSite (s : Site) : Type 0 where
@@ -80,47 +84,43 @@ add-all-widens t at (s ∷ ss) u h e =
 
 -- ---- items
 
-put-few : {A : Type 0} (n : ℕ) (a : A) (t : Table A) → length (put n a t) ≤ suc (length t)
-unfolding put
-put-few n a [] = omega arith
-put-few {A} n a (p ∷ t) = go (compare n (p .0)) (put-few n a t)
-  where
-    go : (o : Ordering) → length (put n a t) ≤ suc (length t) → length {A = ℕ × A} (elim o as (λ _. Table A) [ Ordering·lt ↦ (n, a) ∷ p ∷ t | Ordering·eq ↦ (n, a) ∷ t | Ordering·gt ↦ p ∷ put n a t ]) ≤ suc (suc (length t))
-    go Ordering·lt h = omega arith
-    go Ordering·eq h = omega arith
-    go Ordering·gt h = omega arith
-
 -- after k items at most, over the table t
 pub record Passed (t : Sites) (k : ℕ) (l : Loading) : Type 0 where
   pub widens : Widens t (l .sites)
   pub rising : Rising 0 (l .constraints)
   pub few : length (l .constraints) ≤ k
+  pub grown : length (l .sites) ≤ length t + max-fields * k
   pub equal : (p : ℕ × ℕ) → List·Memᴰ p (l .equalities) → (p .0 < max-sites) × (p .1 < max-sites)
 
 item-passed : (t : Sites) (k : ℕ) (l : Loading) (at : ℕ) (i : Item) (l′ : Loading) → Passed t k l → load-item l at i ≡ done l′ → Passed t (suc k) l′
-unfolding load-item known
+unfolding load-item known children
 item-passed t k l at (Is s c) l′ P e =
     let x = demand-done (known (l .sites) s) (Unknown s) _ l′ e in
     let y = demand-done (leb (fields c) max-fields) (TooManyFields (fields c) at) _ l′ (x .1) in
-    go (look (l .constraints) s) (y .1)
+    go (few-children c (leb-true (fields c) max-fields (y .0))) (look (l .constraints) s) (y .1)
   where
-    go : (o : Option Constraint) → constrain l at s c o ≡ done l′ → Passed t (suc k) l′
-    go none f =
+    go : child-count c ≤ max-fields → (o : Option Constraint) → constrain l at s c o ≡ done l′ → Passed t (suc k) l′
+    go n none f =
         let x = bind-done (add-all (l .sites) at (children s c)) _ l′ f in
+        let u = length-all (l .sites) at (children s c) (x .0) (x .1) in
+        let v = below-length (child-count c) (child s c) in
+        let w = P .grown in
         let q = done-once (x .2) in
-        let h = put-few s c (l .constraints) in
+        let h = put-long s c (l .constraints) in
         let g = P .few in
         rw (← q) (record {
           widens = widens-both t (l .sites) (x .0) (P .widens) (add-all-widens (l .sites) at (children s c) (x .0) (P .widens .fits) (x .1));
           rising = put-rising 0 s c (l .constraints) (omega arith) (P .rising);
           few = omega arith;
+          grown = omega arith;
           equal = P .equal;
         })
-    go (some d) f =
+    go n (some d) f =
         let x = demand-done (same-constraint c d) (Unreachable s s) _ l′ f in
         let q = done-once (x .1) in
         let g = P .few in
-        rw (← q) (record { widens = P .widens; rising = P .rising; few = omega arith; equal = P .equal })
+        let w = P .grown in
+        rw (← q) (record { widens = P .widens; rising = P .rising; few = omega arith; grown = omega arith; equal = P .equal })
 item-passed t k l at (Equal a b) l′ P e =
     let x = demand-done (known (l .sites) a) (Unknown a) _ l′ e in
     let y = demand-done (known (l .sites) b) (Unknown b) _ l′ (x .1) in
@@ -128,7 +128,8 @@ item-passed t k l at (Equal a b) l′ P e =
     let ha = ltb-true a (length (l .sites)) (x .0) in
     let hb = ltb-true b (length (l .sites)) (y .0) in
     let g = P .few in
-    rw (← q) (record { widens = P .widens; rising = P .rising; few = omega arith; equal = λ p m. go ha hb p (List·Memᴰ·append-cases (l .equalities) m) })
+    let w = P .grown in
+    rw (← q) (record { widens = P .widens; rising = P .rising; few = omega arith; grown = omega arith; equal = λ p m. go ha hb p (List·Memᴰ·append-cases (l .equalities) m) })
   where
     go : a < length (l .sites) → b < length (l .sites) → (p : ℕ × ℕ) → List·Memᴰ p (l .equalities) ⊎ List·Memᴰ p ((a, b) ∷ []) → (p .0 < max-sites) × (p .1 < max-sites)
     go ha hb p (inl m) = P .equal p m

@@ -2,12 +2,12 @@
 use mathlib.Core.Path.{_≡_}
 use mathlib.Core.Option.{none, some}
 use mathlib.Core.List.{List}
-use Prim.Native.Nat.{ℕ, _+_, _<_, _≤_}
+use Prim.Native.Nat.{ℕ, _+_, _<_, _≤_, min}
 use lib.ListN.{length, getD, set}
 use lib.Dec.{eqb}
 use Rattle.paper.specs.declared.Constraint.{Constraint}
 use Rattle.paper.specs.Words.{if_then_else_, below, put, look}
-use Rattle.paper.specs.Numbers.{max-sites, max-equal, Outcome, done, refused, _>>=_}
+use Rattle.paper.specs.Numbers.{max-sites, max-fields, max-equal, Outcome, done, refused, _>>=_}
 use Rattle.paper.specs.Sites.{Sites, child-count, child, children, number-of, add-all}
 use Rattle.paper.specs.Tables.{Rising}
 use Rattle.paper.specs.Loading.{Constraints, Labels, Solving, lowest, join-all, like-children, take-class, grow-all, give-all, join-children}
@@ -16,23 +16,23 @@ use Rattle.classes.specs.Well.{has-up}
 use Rattle.growth.specs.Tail.{table}
 use Rattle.closing.specs.Holding.{shape-in}
 use Rattle.holders.specs.Entries.{entries}
-use Rattle.holders.specs.declared.Answer.the-variants as answer
 use Rattle.items.specs.Shown.{shown}
 use Rattle.tying.specs.Tied.{Tied}
 use Rattle.tying.specs.Rows.{row}
 use Rattle.tying.specs.Taking.{LabelsBelow}
 use Rattle.loading.specs.Rounding.{GoodRow, Listed}
 use Rattle.loading.specs.declared.Solved.{Solved}
+use Rattle.loading.specs.declared.Ended.the-variants as ended
 use Rattle.loading.specs.declared.rounds.Grown.{Grown}
 use Rattle.loading.specs.declared.rounds.Picked.{Picked}
 
 -- ---- the lists
 
 pub record Laid (n : ℕ) (tail : List ℕ) (t : ℕ) (sites rows words : List ℕ) (held : ℕ) : Type 0 where
-  pub long : max-sites ≤ length tail
+  pub long : t ≤ length tail
   pub fits : n + t ≤ max-sites
-  pub long-sites : max-sites ≤ length sites
-  pub long-rows : max-sites ≤ length rows
+  pub long-sites : held ≤ length sites
+  pub long-rows : length sites ≤ length rows
   pub rising : Rising 0 (shown sites rows words held)
   pub inside : (i : ℕ) → i < held → getD sites i 0 < n + t
   pub good : (i : ℕ) → i < held → GoodRow words (getD rows i 0)
@@ -47,15 +47,21 @@ pub record Stood (m : List ℕ) (n : ℕ) (tail : List ℕ) (t : ℕ) (sites row
 
 -- how a step ends: as paper's does
 abbrev pub Ends : List ℕ → ℕ → List ℕ → List ℕ → List ℕ → List ℕ → List ℕ → List ℕ → ℕ → Solved → Outcome Solving → Type 0
-Ends m n tail sites rows words p r c x (done s) = (x .answer ≡ answer.Fine) × Stood m n tail (x .tail) sites rows words (x .held) p r c s
-Ends m n tail sites rows words p r c x (refused e) = x .answer ≡ answer.Refused e
+Ends m n tail sites rows words p r c x (done s) = (x .answer ≡ ended.Fine) × Stood m n tail (x .tail) sites rows words (x .held) p r c s
+Ends m n tail sites rows words p r c x (refused e) = x .answer ≡ ended.Refused e
 
 -- ---- one constraint for one member
 
+-- room for the children of one more site, and for that site
+pub record Spare (tail : List ℕ) (t : ℕ) (sites : List ℕ) (held : ℕ) : Type 0 where
+  pub words : min max-sites (t + max-fields) ≤ length tail
+  pub site : held < max-sites → held < length sites
+
 -- the lists have room to put s
 pub record Roomy (sites rows : List ℕ) (held s : ℕ) : Type 0 where
-  pub long-sites : max-sites ≤ length sites
-  pub long-rows : max-sites ≤ length rows
+  pub room : held < max-sites → held < length sites
+  pub long-sites : held ≤ length sites
+  pub long-rows : length sites ≤ length rows
   pub rising : Rising 0 (entries sites rows held)
   pub inside : (i : ℕ) → i < held → getD sites i 0 < max-sites
   pub site : s < max-sites
@@ -72,8 +78,8 @@ pub record Grew (m : List ℕ) (n t : ℕ) (sites rows words : List ℕ) (held r
   pub kids : Kids u x (shape-in words row) (g .kids)
 
 abbrev pub Grows : List ℕ → ℕ → ℕ → List ℕ → List ℕ → List ℕ → ℕ → ℕ → ℕ → List ℕ → List ℕ → List ℕ → Grown → Outcome Sites → Type 0
-Grows m n t sites rows words held row x tail′ sites′ rows′ g (done u) = (g .state .answer ≡ answer.Fine) × Grew m n t sites rows words held row x tail′ sites′ rows′ g u
-Grows m n t sites rows words held row x tail′ sites′ rows′ g (refused e) = g .state .answer ≡ answer.Refused e
+Grows m n t sites rows words held row x tail′ sites′ rows′ g (done u) = (g .state .answer ≡ ended.Fine) × Grew m n t sites rows words held row x tail′ sites′ rows′ g u
+Grows m n t sites rows words held row x tail′ sites′ rows′ g (refused e) = g .state .answer ≡ ended.Refused e
 
 -- ---- like-numbered children
 
@@ -124,6 +130,11 @@ pub record Noted (p sites rows : List ℕ) (i : ℕ) (noted : List ℕ) : Type 0
   pub long : length noted ≡ max-sites
   pub none : (z : ℕ) → z < max-sites → getD noted z 0 ≡ 65535 → (j : ℕ) → j < i → rep p (getD sites j 0) ≡ z → ⊥
   pub some : (z : ℕ) → z < max-sites → (getD noted z 0 ≡ 65535 → ⊥) → (j : ℕ) × (j < i) × (rep p (getD sites j 0) ≡ z) × (getD noted z 0 ≡ getD rows j 0) × ((h : ℕ) → h < j → rep p (getD sites h 0) ≡ z → ⊥)
+
+-- only roots of the constrained sites from i on are noted at
+pub record Stained (p sites : List ℕ) (i held : ℕ) (noted : List ℕ) : Type 0 where
+  pub long : length noted ≡ max-sites
+  pub stain : (z : ℕ) → z < max-sites → (getD noted z 0 ≡ 65535 → ⊥) → (j : ℕ) × (i ≤ j) × (j < held) × (rep p (getD sites j 0) ≡ z)
 
 abbrev pub marked : List ℕ → ℕ → ℕ → List ℕ
 marked l z row = if eqb (getD l z 0) 65535 then set l z row else l

@@ -1,5 +1,6 @@
 -- What the rounds need of the lent lists, and what they leave.
 use mathlib.Core.Path.{_≡_}
+use mathlib.Core.Logic.{_⊎_}
 use mathlib.Core.List.{List, []}
 use Prim.Native.Nat.{ℕ, _+_, _*_, _<_, _≤_}
 use lib.ListN.{length, getD}
@@ -12,10 +13,10 @@ use Rattle.paper.specs.Loading.{Solving, Labels, join-all, rounds}
 use Rattle.kept.specs.Packing.{InRange}
 use Rattle.growth.specs.Tail.{table}
 use Rattle.closing.specs.Holding.{shape-in, eqs-in}
-use Rattle.holders.specs.declared.Answer.{Answer}
-use Rattle.holders.specs.declared.Answer.the-variants as answer
 use Rattle.items.specs.Shown.{shown}
 use Rattle.loading.specs.declared.Solved.{Solved}
+use Rattle.loading.specs.declared.Ended.{Ended}
+use Rattle.loading.specs.declared.Ended.the-variants as ended
 
 -- the constraint of row i: one that the code's types hold, with few enough fields
 pub record GoodRow (words : List ℕ) (i : ℕ) : Type 0 where
@@ -25,10 +26,10 @@ pub record GoodRow (words : List ℕ) (i : ℕ) : Type 0 where
 
 -- what the rounds start with
 pub record Proper (m : List ℕ) (n : ℕ) (tail : List ℕ) (t : ℕ) (sites rows words : List ℕ) (held : ℕ) (eqs : List ℕ) : Type 0 where
-  pub long : max-sites ≤ length tail
+  pub long : t ≤ length tail
   pub fits : n + t ≤ max-sites
-  pub long-sites : max-sites ≤ length sites
-  pub long-rows : max-sites ≤ length rows
+  pub long-sites : held ≤ length sites
+  pub long-rows : length sites ≤ length rows
   pub rising : Rising 0 (shown sites rows words held)
   pub inside : (i : ℕ) → i < held → getD sites i 0 < n + t
   pub good : (i : ℕ) → i < held → GoodRow words (getD rows i 0)
@@ -49,12 +50,24 @@ pub record Listed (equal low : List ℕ) (k : Labels) : Type 0 where
 pub record Solves (m : List ℕ) (n : ℕ) (tail sites rows words equal low : List ℕ) (x : Solved) (s : Solving) : Type 0 where
   pub sites-are : table m n tail (x .tail) ≡ s .sites
   pub fits : n + x .tail ≤ max-sites
+  pub few : x .held ≤ n + x .tail
   pub constraints-are : shown sites rows words (x .held) ≡ s .constraints
   pub good : (i : ℕ) → i < x .held → GoodRow words (getD rows i 0)
   pub number : x .equal ≡ length (s .classes)
   pub classes-are : Listed equal low (s .classes)
+  pub long-tail : x .tail ≤ length tail
   pub long-sites : x .held ≤ length sites
+  pub long-rows : x .held ≤ length rows
 
 abbrev pub Rounds : List ℕ → ℕ → List ℕ → List ℕ → List ℕ → List ℕ → List ℕ → List ℕ → Solved → Outcome Solving → Type 0
-Rounds m n tail sites rows words equal low x (done s) = (x .answer ≡ answer.Fine) × Solves m n tail sites rows words equal low x s
-Rounds m n tail sites rows words equal low x (refused e) = x .answer ≡ answer.Refused e
+Rounds m n tail sites rows words equal low x (done s) = (x .answer ≡ ended.Fine) × Solves m n tail sites rows words equal low x s
+Rounds m n tail sites rows words equal low x (refused e) = x .answer ≡ ended.Refused e
+
+-- a lent list is shorter than a table may be
+abbrev pub Scant : List ℕ → List ℕ → Type 0
+Scant tail sites = (length tail < max-sites) ⊎ (length sites < max-sites)
+
+-- what is told, unless the lent lists were too short for the rule: then nothing is known of it
+pub record Unless (a : Ended) (tail sites : List ℕ) (P : Type 0) : Type 0 where
+  pub short : a ≡ ended.Short → Scant tail sites
+  pub told : (a ≡ ended.Short → ⊥) → P

@@ -1,17 +1,20 @@
 // Loading a rule into a set whose sites and kept rules lie in lent memory.
 // The lent table is only read until the rule is kept: new sites wait as words of a tail.
 ghost use mathlib.Core.Path.{_≡_};
-ghost use mathlib.Core.List.{_∷_, []};
-ghost use Prim.Native.Nat.{ℕ, _+_, _*_, _<_, _≤_};
+ghost use mathlib.Core.List.{List, _∷_, []};
+ghost use Prim.Native.Nat.{ℕ, _+_, _*_, _<_, _≤_, min};
 ghost use lib.ListN.{length, getD, take};
-ghost use Rattle.paper.specs.Numbers.{max-sites, max-items, max-constrained, max-equal};
+ghost use Rattle.paper.specs.Numbers.{max-sites, max-items, max-constrained, max-equal, done};
+ghost use Rattle.paper.specs.declared.Item.{Item};
 ghost use Rattle.paper.specs.Sites.{body};
+ghost use Rattle.paper.specs.Loading as P;
 ghost use Rattle.kept.specs.Stored.{written};
 ghost use Rattle.sites.specs.Slots.{slot, put, store};
 ghost use Rattle.growth.specs.Tail.{site-of-word};
-ghost use Rattle.loading.specs.Rounding.{Rounds};
+ghost use Rattle.handed.specs.Items.{items-in, rule-in};
+ghost use Rattle.loading.specs.Rounding.{Rounds, Unless};
 ghost use Rattle.loading.specs.Whole.{load-in, loaded-as, sites-after, words-after};
-ghost use Rattle.loading.specs.Parts.{has-place, admitted, answer-as, worked, settled, ChildWord, Lent, Left, SameTo, Keepable, gathered, new-sites};
+ghost use Rattle.loading.specs.Parts.{has-place, admitted, answer-as, worked, settled, ChildWord, Lent, Left, SameTo, Keepable, Finishable, Finishes, Answers, Tries, gathered, new-sites};
 use closing::Verdict;
 use holders::Answer;
 use items::Progress;
@@ -27,18 +30,31 @@ const SLOT: usize = 32;
 
 pub mod rounds;
 
+// How the rounds end. Short: the lent lists are too short for the rule, of which nothing else is known.
+pub enum Ended {
+    Fine,
+    Short,
+    Refused(Refusal),
+}
+
 // What the rounds leave: how many words the tail has, how many sites are constrained, how many are equal; or why the rule is refused.
 pub struct Solved {
     pub tail: u16,
     pub held: usize,
     pub equal: usize,
-    pub answer: Answer,
+    pub answer: Ended,
 }
 
 // How many sites there are then, or why the rule is refused.
 pub enum Loaded {
     Kept(u16),
     Refused(Refusal),
+}
+
+// What came of a rule with lent lists.
+pub enum Tried {
+    Done(Loaded),
+    Short,
 }
 
 fn size(x: u16) -> usize
@@ -92,13 +108,13 @@ fn admit(n: u16, words: &[u64], kept: u32, place: u32, count: u8) -> Answer
 }
 
 fn refuse(why: Refusal) -> Solved
-    ensures { λ r. ⌜ r .answer ≡ Answer.Refused why ⌝ }
+    ensures { λ r. ⌜ r .answer ≡ Ended.Refused why ⌝ }
 {
     Solved {
         tail: 0,
         held: 0,
         equal: 0,
-        answer: Answer::Refused(why),
+        answer: Ended::Refused(why),
     }
 }
 
@@ -126,10 +142,10 @@ fn normalise(
     a: Progress,
     equal: &mut [u16],
     low: &mut [u16],
-    rule: Rule,
+    count: u8,
 ) -> Solved
-    requires { ⌜ Left (now m) n (now tail) (now sites) (now rows) (now shapes) (now kids) (now eqs) (now equal) (now low) a rule ⌝ }
-    ensures { λ r. ⌜ Rounds (now (m .entry)) n (now (tail .exit)) (now (sites .exit)) (now (rows .exit)) (now (shapes .entry)) (now (equal .exit)) (now (low .exit)) r (worked (now (m .entry)) n rule) ⌝ }
+    requires { ⌜ ((is : List Item) × Left (now m) n (now tail) (now sites) (now rows) (now shapes) (now kids) (now eqs) (now equal) (now low) a count is) ⌝ }
+    ensures { λ r. ⌜ Unless (r .answer) (now (tail .entry)) (now (sites .entry)) ((is : List Item) → Left (now (m .entry)) n (now (tail .entry)) (now (sites .entry)) (now (rows .entry)) (now (shapes .entry)) (now (kids .entry)) (now (eqs .entry)) (now (equal .entry)) (now (low .entry)) a count is → Rounds (now (m .entry)) n (now (tail .exit)) (now (sites .exit)) (now (rows .exit)) (now (shapes .entry)) (now (equal .exit)) (now (low .exit)) r (worked (now (m .entry)) n count is)) ⌝ }
 {
     let held = a.held;
     let k = a.equal;
@@ -144,7 +160,7 @@ fn normalise(
         n,
         tail,
         a.tail,
-        rule.count as u32,
+        count as u32,
         sites,
         rows,
         held,
@@ -168,14 +184,26 @@ fn solve(
     shapes: &mut [u64],
     equal: &mut [u16],
     low: &mut [u16],
-    rule: Rule,
+    items: &[u64],
+    count: u8,
 ) -> Solved
-    requires { ⌜ Lent n (now tail) (now sites) (now rows) (now shapes) (now equal) (now low) rule ⌝ }
-    ensures { λ r. ⌜ Rounds (now (m .entry)) n (now (tail .exit)) (now (sites .exit)) (now (rows .exit)) (now (shapes .exit)) (now (equal .exit)) (now (low .exit)) r (worked (now (m .entry)) n rule) ⌝ }
+    requires { ⌜ Lent (now tail) (now sites) (now rows) × ((3 * max-items ≤ length (now shapes)) × ((max-equal ≤ length (now equal)) × (max-equal ≤ length (now low)))) ⌝ }
+    ensures { λ r. ⌜ Unless (r .answer) (now (tail .entry)) (now (sites .entry)) (Rounds (now (m .entry)) n (now (tail .exit)) (now (sites .exit)) (now (rows .exit)) (now (shapes .exit)) (now (equal .exit)) (now (low .exit)) r (worked (now (m .entry)) n count (items-in (now (items .entry)) (min count max-items)))) ⌝ }
 {
     let mut kids = [0u16; 256];
     let mut eqs = [0u16; 64];
-    let a = items::load_items(m, n, tail, sites, rows, shapes, &mut kids, &mut eqs, rule);
+    let a = items::load_items(
+        m,
+        n,
+        tail,
+        sites,
+        rows,
+        shapes,
+        &mut kids,
+        &mut eqs,
+        items,
+        count,
+    );
     let answer = a.answer;
     if let Answer::Refused(why) = answer {
         return refuse(why);
@@ -192,7 +220,7 @@ fn solve(
         a,
         equal,
         low,
-        rule,
+        count,
     )
 }
 
@@ -321,40 +349,29 @@ fn keep(
     );
 }
 
-// Loads a rule over the n sites of m and the `kept` rules of `words`. A refused rule changes nothing.
-pub fn load(m: &mut [u8], n: u16, words: &mut [u64], kept: u32, rule: Rule) -> Loaded
-    ensures { λ r. ⌜ r ≡ loaded-as (load-in (now (m .entry)) n (now (words .entry)) kept rule) ⌝ }
-    ensures { λ _. ⌜ now (m .exit) ≡ sites-after (now (m .entry)) n (load-in (now (m .entry)) n (now (words .entry)) kept rule) ⌝ }
-    ensures { λ _. ⌜ now (words .exit) ≡ words-after (now (words .entry)) kept (load-in (now (m .entry)) n (now (words .entry)) kept rule) ⌝ }
+// The checks of the result, and what is written of a rule that passes them.
+fn finish(
+    m: &mut [u8],
+    n: u16,
+    words: &mut [u64],
+    kept: u32,
+    place: u32,
+    priority: u64,
+    count: u8,
+    tail: &[u64],
+    sites: &[u16],
+    rows: &[u16],
+    shapes: &[u64],
+    equal: &[u16],
+    low: &[u16],
+    s: Solved,
+) -> Loaded
+    requires { ⌜ Finishable n (now tail) (now sites) (now rows) (now shapes) (now equal) (now low) s ⌝ }
+    ensures { λ r. ⌜ Finishes (now (m .entry)) n (now (words .entry)) kept place priority (now (tail .entry)) (now (sites .entry)) (now (rows .entry)) (now (shapes .entry)) (now (equal .entry)) (now (low .entry)) s r (now (m .exit)) (now (words .exit)) (settled (n + s .tail) (s .held) (s .equal) (length (now (m .entry))) count) ⌝ }
 {
-    let first = admit(n, words, kept, rule.place, rule.count);
-    if let Answer::Refused(why) = first {
-        return Loaded::Refused(why);
-    }
-    let mut tail = [0u64; SITES];
-    let mut sites = [0u16; SITES];
-    let mut rows = [0u16; SITES];
-    let mut shapes = [0u64; 96];
-    let mut equal = [0u16; EQUALS];
-    let mut low = [0u16; EQUALS];
-    let s = solve(
-        m,
-        n,
-        &mut tail,
-        &mut sites,
-        &mut rows,
-        &mut shapes,
-        &mut equal,
-        &mut low,
-        rule,
-    );
-    let answer = s.answer;
-    if let Answer::Refused(why) = answer {
-        return Loaded::Refused(why);
-    }
     let total = size(n) + size(s.tail);
     let room = m.len();
-    let last = settle(total, s.held, s.equal, room, rule.count);
+    let last = settle(total, s.held, s.equal, room, count);
     if let Answer::Refused(why) = last {
         return Loaded::Refused(why);
     }
@@ -363,16 +380,190 @@ pub fn load(m: &mut [u8], n: u16, words: &mut [u64], kept: u32, rule: Rule) -> L
         n,
         words,
         kept,
-        rule.place,
-        rule.priority,
-        &tail,
-        &sites,
-        &rows,
-        &shapes,
-        &equal,
-        &low,
+        place,
+        priority,
+        tail,
+        sites,
+        rows,
+        shapes,
+        equal,
+        low,
         s,
     );
     let many = total as u16;
     Loaded::Kept(many)
+}
+
+// Loads an admitted rule with the lent lists. Where they are too short for it nothing is written.
+fn attempt(
+    m: &mut [u8],
+    n: u16,
+    words: &mut [u64],
+    kept: u32,
+    place: u32,
+    priority: u64,
+    count: u8,
+    items: &[u64],
+    tail: &mut [u64],
+    sites: &mut [u16],
+    rows: &mut [u16],
+) -> Tried
+    requires { ⌜ Lent (now tail) (now sites) (now rows) × (admitted n (now words) kept place count ≡ done tt) ⌝ }
+    ensures { λ r. ⌜ Tries (now (m .entry)) n (now (words .entry)) kept (rule-in (now (items .entry)) place priority count) (now (tail .entry)) (now (sites .entry)) (now (m .exit)) (now (words .exit)) r ⌝ }
+{
+    let mut shapes = [0u64; 96];
+    let mut equal = [0u16; EQUALS];
+    let mut low = [0u16; EQUALS];
+    let s = solve(
+        m,
+        n,
+        tail,
+        sites,
+        rows,
+        &mut shapes,
+        &mut equal,
+        &mut low,
+        items,
+        count,
+    );
+    let answer = s.answer;
+    match answer {
+        Ended::Short => Tried::Short,
+        Ended::Refused(why) => Tried::Done(Loaded::Refused(why)),
+        Ended::Fine => {
+            let out = finish(
+                m,
+                n,
+                words,
+                kept,
+                place,
+                priority,
+                count,
+                tail,
+                sites,
+                rows,
+                &shapes,
+                &equal,
+                &low,
+                s,
+            );
+            Tried::Done(out)
+        }
+    }
+}
+
+// Loads an admitted rule with lists that are never too short.
+fn at_large(
+    m: &mut [u8],
+    n: u16,
+    words: &mut [u64],
+    kept: u32,
+    place: u32,
+    priority: u64,
+    count: u8,
+    items: &[u64],
+) -> Loaded
+    requires { ⌜ admitted n (now words) kept place count ≡ done tt ⌝ }
+    ensures { λ r. ⌜ Answers (now (m .entry)) n (now (words .entry)) kept (rule-in (now (items .entry)) place priority count) r (now (m .exit)) (now (words .exit)) ⌝ }
+{
+    let mut tail = [0u64; SITES];
+    let mut sites = [0u16; SITES];
+    let mut rows = [0u16; SITES];
+    let a = attempt(
+        m,
+        n,
+        words,
+        kept,
+        place,
+        priority,
+        count,
+        items,
+        &mut tail,
+        &mut sites,
+        &mut rows,
+    );
+    let Tried::Done(out) = a else {
+        return Loaded::Kept(n);
+    };
+    out
+}
+
+// Loads a rule, whose items are held as words, over the n sites of m and the `kept` rules of `words`. A refused rule changes nothing.
+// A rule that is kept has at most 32 constrained sites, so short lists do for it. Past them the rule is refused, and full lists tell why.
+pub fn load_handed(
+    m: &mut [u8],
+    n: u16,
+    words: &mut [u64],
+    kept: u32,
+    place: u32,
+    priority: u64,
+    count: u8,
+    items: &[u64],
+) -> Loaded
+    ensures { λ r. ⌜ r ≡ loaded-as (load-in (now (m .entry)) n (now (words .entry)) kept (rule-in (now (items .entry)) place priority count)) ⌝ }
+    ensures { λ _. ⌜ now (m .exit) ≡ sites-after (now (m .entry)) n (load-in (now (m .entry)) n (now (words .entry)) kept (rule-in (now (items .entry)) place priority count)) ⌝ }
+    ensures { λ _. ⌜ now (words .exit) ≡ words-after (now (words .entry)) kept (load-in (now (m .entry)) n (now (words .entry)) kept (rule-in (now (items .entry)) place priority count)) ⌝ }
+{
+    let first = admit(n, words, kept, place, count);
+    if let Answer::Refused(why) = first {
+        return Loaded::Refused(why);
+    }
+    let mut tail = [0u64; 256];
+    let mut sites = [0u16; 64];
+    let mut rows = [0u16; 64];
+    let a = attempt(
+        m,
+        n,
+        words,
+        kept,
+        place,
+        priority,
+        count,
+        items,
+        &mut tail,
+        &mut sites,
+        &mut rows,
+    );
+    let Tried::Done(out) = a else {
+        return at_large(m, n, words, kept, place, priority, count, items);
+    };
+    out
+}
+
+// Holds the items of a rule as words.
+fn hold(rule: Rule, out: &mut [u64])
+    requires { ⌜ 4 * max-items ≤ length (now out) ⌝ }
+    ensures { λ _. ⌜ items-in (now (out .exit)) (min (rule .count) max-items) ≡ P.written rule .items ⌝ }
+{
+    let count = rule.count;
+    let mut k: u8 = 0;
+    while k < 32 {
+        if count <= k {
+            return;
+        }
+        let e = rule.entries[k as usize];
+        let i = e.item;
+        handed::hold_item(out, k, i);
+        k += 1;
+    }
+}
+
+// Loads a rule over the n sites of m and the `kept` rules of `words`. A refused rule changes nothing.
+pub fn load(m: &mut [u8], n: u16, words: &mut [u64], kept: u32, rule: Rule) -> Loaded
+    ensures { λ r. ⌜ r ≡ loaded-as (load-in (now (m .entry)) n (now (words .entry)) kept rule) ⌝ }
+    ensures { λ _. ⌜ now (m .exit) ≡ sites-after (now (m .entry)) n (load-in (now (m .entry)) n (now (words .entry)) kept rule) ⌝ }
+    ensures { λ _. ⌜ now (words .exit) ≡ words-after (now (words .entry)) kept (load-in (now (m .entry)) n (now (words .entry)) kept rule) ⌝ }
+{
+    let mut items = [0u64; 128];
+    hold(rule, &mut items);
+    load_handed(
+        m,
+        n,
+        words,
+        kept,
+        rule.place,
+        rule.priority,
+        rule.count,
+        &items,
+    )
 }
