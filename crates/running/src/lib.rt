@@ -32,14 +32,23 @@ const NEED: usize = 655360;
 // A finding as bytes: a mask names at most 63 others.
 const FINDING: usize = 512;
 
-// Where reading and writing stand: the reader, what is held of the open line, bytes of output not yet written, whether the sheet goes on, whether it
-// had a finding.
-struct Flow {
-    reader: Reader,
-    held: Held,
+// Bytes of output not yet written, whether the sheet goes on, whether it had a finding.
+struct Marks {
     filled: usize,
     open: bool,
     found: bool,
+}
+
+// Where reading and writing stand.
+struct Flow {
+    reader: Reader,
+    marks: Marks,
+}
+
+// Where a chunk leaves off: what is held of its last line too.
+struct Left {
+    flow: Flow,
+    held: Held,
 }
 
 // ---- buffers
@@ -198,17 +207,19 @@ fn put_pairs(words: &[u64], rules: u32, out: &mut [u8], at: usize) -> usize {
     n
 }
 
-// What a line was, for `kept`: the set before it and after it, and the findings that it gave.
+// What a line was, for `kept`: where the reader stood before it and after it, and the findings that it gave.
 fn put_event(
     e: Event,
-    before: OpenSet,
-    after: OpenSet,
+    stood: Stands,
+    stands: Stands,
     m: &[u8],
     words: &[u64],
     found: &[u8],
     out: &mut [u8],
     at: usize,
 ) -> usize {
+    let before = open_set(stood);
+    let after = open_set(stands);
     match e {
         Event::Begun => listing::put_set(out, at, after.term, after.flags),
         Event::Kept {
@@ -233,8 +244,8 @@ fn put_event(
 fn put_step(
     how: How,
     e: Event,
-    before: OpenSet,
-    after: OpenSet,
+    stood: Stands,
+    stands: Stands,
     m: &[u8],
     words: &[u64],
     found: &[u8],
@@ -244,7 +255,7 @@ fn put_step(
     match how {
         How::Check => put_text(out, at, found),
         How::Explain => put_all_explained(found, false, out, at),
-        How::Kept => put_event(e, before, after, m, words, found, out, at),
+        How::Kept => put_event(e, stood, stands, m, words, found, out, at),
     }
 }
 
@@ -253,7 +264,8 @@ fn put_step(
 // A line of the open sheet.
 fn take_line(
     how: How,
-    f: Flow,
+    reader: Reader,
+    marks: Marks,
     text: &[u8],
     m: &mut [u8],
     words: &mut [u64],
@@ -262,23 +274,22 @@ fn take_line(
     room: &mut [u8],
     out: &mut [u8],
 ) -> Flow {
-    let reader = f.reader;
-    let stood = reader.stands;
-    let before = open_set(stood);
-    let at = spare(out, f.filled);
+    let at = spare(out, marks.filled);
     let s = sheets::step(reader, text, m, words, items, table, room, 0);
     let to = s.to;
     let e = s.event;
     let r = s.reader;
+    let stood = reader.stands;
     let stands = r.stands;
     let found = part(room, 0, to);
-    let filled = put_step(how, e, before, open_set(stands), m, words, found, out, at);
+    let filled = put_step(how, e, stood, stands, m, words, found, out, at);
     Flow {
         reader: r,
-        held: pieces::nothing(),
-        filled,
-        open: goes_on(e),
-        found: f.found || 0 < to,
+        marks: Marks {
+            filled,
+            open: goes_on(e),
+            found: marks.found || 0 < to,
+        },
     }
 }
 
@@ -296,17 +307,17 @@ fn is_clean(before: bool, found: &[u8]) -> bool {
 // The sheet ends. One that stopped has been answered.
 fn end_sheet(
     how: How,
-    f: Flow,
+    reader: Reader,
+    marks: Marks,
+    held: Held,
     table: &[[u64; WORDS]; TERMS],
     room: &mut [u8],
     out: &mut [u8],
 ) -> usize {
-    let at = spare(out, f.filled);
-    if !f.open {
+    let at = spare(out, marks.filled);
+    if !marks.open {
         return at;
     }
-    let reader = f.reader;
-    let held = f.held;
     let s = State {
         reader,
         held,
@@ -316,7 +327,7 @@ fn end_sheet(
     let found = part(room, 0, to);
     match how {
         How::Check => put_text(out, at, found),
-        How::Explain => put_all_explained(found, is_clean(f.found, found), out, at),
+        How::Explain => put_all_explained(found, is_clean(marks.found, found), out, at),
         How::Kept => put_last(table, found, out, at),
     }
 }
@@ -353,13 +364,13 @@ fn terms_of(terms: &[u16], n: u16) -> &[u16] {
 fn fresh(table: &mut [[u64; WORDS]; TERMS], filled: usize) -> Flow {
     let s = reading::begin(table);
     let reader = s.reader;
-    let held = s.held;
     Flow {
         reader,
-        held,
-        filled,
-        open: true,
-        found: false,
+        marks: Marks {
+            filled,
+            open: true,
+            found: false,
+        },
     }
 }
 
@@ -383,12 +394,13 @@ fn is_border(text: &[u8]) -> bool {
 // A border: the sheet before it ends.
 fn next_sheet(
     how: How,
-    f: Flow,
+    reader: Reader,
+    marks: Marks,
     table: &mut [[u64; WORDS]; TERMS],
     room: &mut [u8],
     out: &mut [u8],
 ) -> Flow {
-    let n = end_sheet(how, f, table, room, out);
+    let n = end_sheet(how, reader, marks, pieces::nothing(), table, room, out);
     let filled = put_text(out, n, b"----\n");
     fresh(table, filled)
 }
@@ -397,7 +409,8 @@ fn next_sheet(
 fn take_text(
     how: How,
     many: bool,
-    f: Flow,
+    reader: Reader,
+    marks: Marks,
     text: &[u8],
     m: &mut [u8],
     words: &mut [u64],
@@ -408,71 +421,21 @@ fn take_text(
 ) -> Flow {
     if many {
         if is_border(text) {
-            return next_sheet(how, unheld(f), table, room, out);
+            return next_sheet(how, reader, marks, table, room, out);
         }
     }
-    if f.open {
-        return take_line(how, f, text, m, words, items, table, room, out);
+    if marks.open {
+        return take_line(how, reader, marks, text, m, words, items, table, room, out);
     }
-    unheld(f)
+    Flow { reader, marks }
 }
 
-// Nothing of a line is held.
-fn unheld(f: Flow) -> Flow {
-    let reader = f.reader;
-    Flow {
-        reader,
-        held: pieces::nothing(),
-        filled: f.filled,
-        open: f.open,
-        found: f.found,
+// A line: what was held of it, with its rest; or, where nothing was, the part of the chunk that it is.
+fn line_of<'a>(held: &'a [u8], here: &'a [u8]) -> &'a [u8] {
+    if 0 < held.len() {
+        return held;
     }
-}
-
-// A line has ended, of which something may be held.
-fn end_line(
-    how: How,
-    many: bool,
-    f: Flow,
-    rest: &[u8],
-    m: &mut [u8],
-    words: &mut [u64],
-    items: &mut [u64],
-    table: &mut [[u64; WORDS]; TERMS],
-    room: &mut [u8],
-    out: &mut [u8],
-) -> Flow {
-    let held = f.held;
-    if held.length == 0 {
-        return take_text(how, many, f, rest, m, words, items, table, room, out);
-    }
-    let h = pieces::hold(held, rest);
-    let bytes = h.bytes;
-    take_text(
-        how,
-        many,
-        f,
-        part(&bytes, 0, h.length),
-        m,
-        words,
-        items,
-        table,
-        room,
-        out,
-    )
-}
-
-// A line goes on in the next chunk.
-fn hold_rest(f: Flow, rest: &[u8]) -> Flow {
-    let reader = f.reader;
-    let h = f.held;
-    Flow {
-        reader,
-        held: pieces::hold(h, rest),
-        filled: f.filled,
-        open: f.open,
-        found: f.found,
-    }
+    here
 }
 
 // The lines of a chunk. Each turn takes a line, so that there are no more turns than bytes.
@@ -480,6 +443,7 @@ fn feed(
     how: How,
     many: bool,
     f: Flow,
+    held: Held,
     bytes: &[u8],
     m: &mut [u8],
     words: &mut [u64],
@@ -487,20 +451,34 @@ fn feed(
     table: &mut [[u64; WORDS]; TERMS],
     room: &mut [u8],
     out: &mut [u8],
-) -> Flow {
-    let mut g = f;
+) -> Left {
+    let mut to = line_end(bytes, 0);
+    let first = pieces::hold(held, part(bytes, 0, to));
+    if bytes.len() <= to {
+        return Left {
+            flow: f,
+            held: first,
+        };
+    }
+    let line = first.bytes;
+    let mut n = first.length;
+    let mut reader = f.reader;
+    let mut marks = f.marks;
     let mut from: usize = 0;
     let mut turns = bytes.len();
     while 0 < turns {
-        let to = line_end(bytes, from);
         if bytes.len() <= to {
-            return hold_rest(g, part(bytes, from, to));
+            return Left {
+                flow: Flow { reader, marks },
+                held: pieces::hold(pieces::nothing(), part(bytes, from, to)),
+            };
         }
-        let next = end_line(
+        let next = take_text(
             how,
             many,
-            g,
-            part(bytes, from, to),
+            reader,
+            marks,
+            line_of(part(&line, 0, n), part(bytes, from, to)),
             m,
             words,
             items,
@@ -508,11 +486,19 @@ fn feed(
             room,
             out,
         );
-        g = next;
+        n = 0;
         from = std::num::wrapping_add_usize(to, 1);
+        to = line_end(bytes, from);
+        let r = next.reader;
+        reader = r;
+        let k = next.marks;
+        marks = k;
         turns -= 1;
     }
-    g
+    Left {
+        flow: Flow { reader, marks },
+        held: pieces::nothing(),
+    }
 }
 
 // A proved loop has to end, and nothing says that a file does: the turns count down from a number that no run uses up.
@@ -528,18 +514,24 @@ fn read_all(
     room: &mut [u8],
     out: &mut [u8],
     bytes: &mut [u8],
-) -> Flow {
-    let mut g = f;
+) -> Left {
+    let mut g = Left {
+        flow: f,
+        held: pieces::nothing(),
+    };
     let mut turns = u64::MAX;
     while 0 < turns {
         let n = io::read_full(fd, bytes);
         if n == 0 {
             return g;
         }
+        let flow = g.flow;
+        let held = g.held;
         let next = feed(
             how,
             many,
-            g,
+            flow,
+            held,
             part(bytes, 0, n),
             m,
             words,
@@ -569,7 +561,11 @@ fn run_in(
 ) {
     let f = fresh(table, 0);
     let g = read_all(fd, how, many, f, m, words, items, table, room, out, bytes);
-    let n = end_sheet(how, g, table, room, out);
+    let flow = g.flow;
+    let reader = flow.reader;
+    let marks = flow.marks;
+    let held = g.held;
+    let n = end_sheet(how, reader, marks, held, table, room, out);
     flush(out, n);
 }
 
