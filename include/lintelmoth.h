@@ -7,7 +7,8 @@
  * - The result is 01's number: 0 done, or why the call is refused. `answer` is lent for the words that go with it, at least LINTEL_ANSWER of them:
  *   the answer where the number is 0, else what 01 tells with that number. What a call does not name here is 0; words after the first
  *   LINTEL_ANSWER are left alone.
- * - A refused call leaves all lent memory but `answer` as it was. LINTEL_SHORT leaves `answer` too.
+ * - A refused call leaves all lent memory but `answer` as it was; of lintel_sheet_check the room and the working memory too are excepted. LINTEL_SHORT
+ *   leaves `answer` too.
  * - A slice is a pointer and a count of elements (not bytes). A pointer must not be null, with a count of 0 either. A part whose size is written
  *   in brackets is that many elements, and has no count.
  */

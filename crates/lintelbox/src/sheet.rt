@@ -1,10 +1,7 @@
 // The sheet calls. Between two pieces of a sheet all that is kept of it lies in lent memory: the state (words and the bytes of a held line), the open set,
 // the items of its open rule, the term table.
 ghost use mathlib.Core.Path.{_≡_};
-ghost use mathlib.Core.Bool.{Bool};
 ghost use mathlib.Core.List.{[]};
-ghost use Prim.Native.Nat.{ℕ};
-ghost use lib.ListN.{length};
 ghost use Rattle.paper.specs.Words.{if_then_else_};
 ghost use Rattle.recursion.specs.Table.{no-edges};
 ghost use Rattle.ended.specs.Sets.{end-room};

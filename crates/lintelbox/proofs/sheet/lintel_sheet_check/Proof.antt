@@ -11,13 +11,13 @@ lends-requires : tie.Need-lends-requires
 lends-requires c κs = search needs
 
 same-length : tie.Need-same-length
-same-length c = search needs
+same-length c = refl
 
 same-length-2 : tie.Need-same-length-2
-same-length-2 c = search needs
+same-length-2 c = refl
 
 same-length-3 : tie.Need-same-length-3
-same-length-3 c = search needs
+same-length-3 c = refl
 
 returns : tie.Need-returns
 returns c = check-short _ _ _ _ _ (first-no _ _ (no-of _ _ (c .before .lends .ensures) (c .if1 .taken)))
@@ -26,19 +26,19 @@ writes-requires : tie.Need-writes-requires
 writes-requires c κs = search needs
 
 same-length-4 : tie.Need-same-length-4
-same-length-4 c = search needs
+same-length-4 c = refl
 
 same-length-5 : tie.Need-same-length-5
-same-length-5 c = search needs
+same-length-5 c = refl
 
 same-length-6 : tie.Need-same-length-6
-same-length-6 c = search needs
+same-length-6 c = refl
 
 same-length-7 : tie.Need-same-length-7
-same-length-7 c = search needs
+same-length-7 c = refl
 
 same-length-8 : tie.Need-same-length-8
-same-length-8 c = search needs
+same-length-8 c = refl
 
 returns-2 : tie.Need-returns-2
 returns-2 c = check-short _ _ _ _ _ (second-no _ _ (yes-of _ _ (c .before .before .before .before .before .lends .ensures) (c .before .before .before .before .if1 .left)) (no-of _ _ (c .before .writes .ensures) (c .if2 .taken)))

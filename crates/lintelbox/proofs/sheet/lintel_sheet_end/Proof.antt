@@ -17,10 +17,10 @@ writes-requires : tie.Need-writes-requires
 writes-requires c κs = search needs
 
 same-length : tie.Need-same-length
-same-length c = search needs
+same-length c = refl
 
 same-length-2 : tie.Need-same-length-2
-same-length-2 c = search needs
+same-length-2 c = refl
 
 returns-2 : tie.Need-returns-2
 returns-2 c = end-short _ _ _ _ _ _ (second-no _ _ (yes-of _ _ (c .before .before .before .before .before .keeps .ensures) (c .before .before .before .before .if1 .left)) (no-of _ _ (c .before .writes .ensures) (c .if2 .taken)))

@@ -1,4 +1,5 @@
 -- `lintelbox::sheet::lintel_sheet_feed` meets its contract. Assumes nothing.
+use mathlib.Core.Path.{refl}
 use Rattle.lintelbox.proofs.Crossing.{first-no, second-no, both-yes, done-as}
 use Rattle.lintelbox.proofs.Feeding.{writes-long, said-there, feed-short, fed-there, feed-says}
 use Rattle.paused.proofs.Reading.{no-of, yes-of, put-there}
@@ -10,10 +11,10 @@ keeps-requires : tie.Need-keeps-requires
 keeps-requires c κs = search needs
 
 same-length : tie.Need-same-length
-same-length c = search needs
+same-length c = refl
 
 same-length-2 : tie.Need-same-length-2
-same-length-2 c = search needs
+same-length-2 c = refl
 
 returns : tie.Need-returns
 returns c = feed-short _ _ _ _ _ _ _ (first-no _ _ (no-of _ _ (c .before .keeps .ensures) (c .if1 .taken)))
@@ -22,19 +23,19 @@ lends-requires : tie.Need-lends-requires
 lends-requires c κs = search needs
 
 same-length-3 : tie.Need-same-length-3
-same-length-3 c = search needs
+same-length-3 c = refl
 
 same-length-4 : tie.Need-same-length-4
-same-length-4 c = search needs
+same-length-4 c = refl
 
 same-length-5 : tie.Need-same-length-5
-same-length-5 c = search needs
+same-length-5 c = refl
 
 same-length-6 : tie.Need-same-length-6
-same-length-6 c = search needs
+same-length-6 c = refl
 
 same-length-7 : tie.Need-same-length-7
-same-length-7 c = search needs
+same-length-7 c = refl
 
 returns-2 : tie.Need-returns-2
 returns-2 c = feed-short _ _ _ _ _ _ _ (second-no _ _ (yes-of _ _ (c .before .before .before .before .before .before .keeps .ensures) (c .before .before .before .before .before .if1 .left)) (first-no _ _ (no-of _ _ (c .before .lends .ensures) (c .if2 .taken))))
@@ -43,25 +44,25 @@ writes-requires : tie.Need-writes-requires
 writes-requires c κs = search needs
 
 same-length-8 : tie.Need-same-length-8
-same-length-8 c = search needs
+same-length-8 c = refl
 
 same-length-9 : tie.Need-same-length-9
-same-length-9 c = search needs
+same-length-9 c = refl
 
 same-length-10 : tie.Need-same-length-10
-same-length-10 c = search needs
+same-length-10 c = refl
 
 same-length-11 : tie.Need-same-length-11
-same-length-11 c = search needs
+same-length-11 c = refl
 
 same-length-12 : tie.Need-same-length-12
-same-length-12 c = search needs
+same-length-12 c = refl
 
 same-length-13 : tie.Need-same-length-13
-same-length-13 c = search needs
+same-length-13 c = refl
 
 same-length-14 : tie.Need-same-length-14
-same-length-14 c = search needs
+same-length-14 c = refl
 
 returns-3 : tie.Need-returns-3
 returns-3 c = feed-short _ _ _ _ _ _ _ (second-no _ _ (yes-of _ _ (c .before .before .before .before .before .before .before .before .before .before .keeps .ensures) (c .before .before .before .before .before .before .before .before .before .if1 .left)) (second-no _ _ (yes-of _ _ (c .before .before .before .before .before .lends .ensures) (c .before .before .before .before .if2 .left)) (no-of _ _ (c .before .writes .ensures) (c .if3 .taken))))
