@@ -36,14 +36,14 @@ fn item_bytes(i: &Item) -> Vec<u8> {
     }
 }
 
-/// Set k is of term k.
+/// Set k is of term k. No place is used twice in the sheet: the Rust takes rules of one place, even of two sets, for one.
 pub fn text(sets: &[Written]) -> Vec<u8> {
     let mut out = vec![];
     for (term, set) in sets.iter().enumerate() {
         line(&mut out, &[1, 0, term as u8, 0]);
         set.sites.iter().for_each(|s| line(&mut out, &site_bytes(s)));
         for (i, (priority, items)) in set.rules.iter().enumerate() {
-            let place = 10 * (i as u32 + 1);
+            let place = 1000 * term as u32 + 10 * (i as u32 + 1);
             line(&mut out, &[&[3], &place.to_be_bytes()[..], &priority.to_be_bytes(), &[items.len() as u8]].concat());
             items.iter().for_each(|i| line(&mut out, &item_bytes(i)));
         }
