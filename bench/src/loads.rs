@@ -189,13 +189,27 @@ pub fn flat(items: usize, rules: usize) -> Written {
     Written { sites, rules: (0..rules).map(|i| (0, rule(i))).collect() }
 }
 
-/// As many sites as may be, site s with fields 8s + 1 to 8s + 8; rules that go down three structures, whose children are all there, to an integer.
-pub fn full(rules: usize) -> Written {
+/// As many sites as may be, site s with fields 8s + 1 to 8s + 8.
+fn full_table() -> Vec<Site> {
     let mut sites = vec![Site::Argument(0)];
     while sites.len() + 8 <= SITES {
         let source = (sites.len() - 1) / 8;
         sites.extend((0..8).map(|f| Site::Field(source, f)));
     }
+    sites
+}
+
+/// In a full table, rules that make two fields equal, one of them a structure: one round, and sixteen equal sites.
+pub fn full_equal(rules: usize) -> Written {
+    let rule = |i: usize| {
+        let one = 1 + i % 4;
+        vec![Item::Is(0, Shape::Structure(0, 8)), Item::Equal(one, one + 4), Item::Is(one, Shape::Structure(i as u16, 8))]
+    };
+    Written { sites: full_table(), rules: (0..rules).map(|i| (i as i64, rule(i))).collect() }
+}
+
+/// In a full table, rules that go down three structures, whose children are all there, to an integer.
+pub fn full(rules: usize) -> Written {
     let rules = (0..rules)
         .map(|i| {
             let one = 1 + i % 8;
@@ -205,5 +219,5 @@ pub fn full(rules: usize) -> Written {
             (0, items)
         })
         .collect();
-    Written { sites, rules }
+    Written { sites: full_table(), rules }
 }

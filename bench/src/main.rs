@@ -361,6 +361,7 @@ fn loads(b: &mut Bench) {
     loading(b, "16 rules, a class of 4 sites with 8 fields", &[loads::wide(4, 8, 16)]);
     loading(b, "16 rules, a class of 31 sites without fields", &[loads::wide(31, 0, 16)]);
     loading(b, "64 rules of 4 items in a set of 1,017 sites", &[loads::full(64)]);
+    loading(b, "64 rules of 3 items, one an equality, in a set of 1,017 sites", &[loads::full_equal(64)]);
     loading(b, "64 rules of 32 integers", &[loads::flat(32, 64)]);
     title("How loading grows");
     for n in [8, 16, 32, 64] {

@@ -16,6 +16,9 @@ static uint64_t state[LINTEL_STATE], ended[LINTEL_STATE], lent_items[LINTEL_ITEM
 static uint8_t held[LINTEL_HELD], lent_sites[LINTEL_SITES_ROOM], all[2 * LINTEL_STEP_ROOM];
 static char sheet[16384];
 static const uint64_t wide[] = {65536, 1, 0, 0, 65537, 2, 0, 0, 65538, 3, 0, 0, 1, 65543, 8, 0};
+/* The same class, and each of the eight fields a structure of eight: more sites than the loader's short lists hold. */
+static const uint64_t large[] = {65536, 1, 0, 0, 65537, 2, 0, 0, 65538, 3, 0, 0, 0, 65543, 8, 0, 4,  65544, 8, 0, 5,  65544, 8, 0,
+                                 6,     65544, 8, 0, 7, 65544, 8, 0, 8, 65544, 8, 0, 9, 65544, 8, 0, 10, 65544, 8, 0, 11, 65544, 8, 0};
 static const uint8_t body[] = {9, 0, 1, 1, 0, 9};
 
 static void nothing(void) {}
@@ -32,6 +35,8 @@ static void unfold(void) { lintel_unfold(sites, sizeof sites, LINTEL_SITES, LINT
 static void unfold_any(void) { lintel_unfold(any, sizeof any, LINTEL_SITES, LINTEL_SITES - 1, room, sizeof room, answer, LINTEL_ANSWER); }
 static void load(void) { lintel_load(set, sizeof set, 16, kept, sizeof kept / 8, 0, 1, 0, items, many * LINTEL_ITEM, many, answer, LINTEL_ANSWER); }
 static void load_wide(void) { lintel_load(flat, sizeof flat, 4, kept, sizeof kept / 8, 0, 1, 0, wide, 4 * LINTEL_ITEM, 4, answer, LINTEL_ANSWER); }
+static uint32_t too_large(void) { return lintel_load(flat, sizeof flat, 4, kept, sizeof kept / 8, 0, 1, 0, large, 12 * LINTEL_ITEM, 12, answer, LINTEL_ANSWER); }
+static void load_large(void) { too_large(); }
 static void overlap(void) { lintel_may_overlap(words, sizeof words / 8, 3, 60, answer, LINTEL_ANSWER); }
 static void total(void) { lintel_total_constraints(words, sizeof words / 8, 3, answer, LINTEL_ANSWER); }
 static void report(void) { lintel_report(words, sizeof words / 8, LINTEL_RULES, 0, room, sizeof room, answer, LINTEL_ANSWER); }
@@ -68,6 +73,7 @@ static const struct {
     {"lintel_unfold, of bytes that no call made", unfold_any},
     {"lintel_load, a chain of 14 fields under two equal sites", load},
     {"lintel_load, a class of 4 sites with 8 fields", load_wide},
+    {"lintel_load, the same with 8 fields in each", load_large},
     {"lintel_may_overlap", overlap},
     {"lintel_total_constraints", total},
     {"lintel_report", report},
@@ -183,6 +189,7 @@ int main(void) {
     if (answer[0] != 30) return 1;
     load_wide();
     if (answer[0] != 36) return 1;
+    if (too_large() != 7) return 1;
     begin();
     feed();
     if (answer[1] != 17086 || !state[LINTEL_STOPPED]) return 1;
