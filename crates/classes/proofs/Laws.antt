@@ -37,10 +37,10 @@ has-none z = refl
 
 -- ---- what it means that a call was done
 
-never : {A : Type 0} {B : Type 0} {e : _} {b : B} → _≡_ {A = Outcome B} (refused e) (done b) → A
+pub never : {A : Type 0} {B : Type 0} {e : _} {b : B} → _≡_ {A = Outcome B} (refused e) (done b) → A
 never e = absurd (let z : _≡_ {A = ℕ} 0 1 = cc in omega arith)
 
-same-done : {A : Type 0} {a b : A} → done a ≡ done b → a ≡ b
+pub same-done : {A : Type 0} {a b : A} → done a ≡ done b → a ≡ b
 same-done e = cc
 
 pub record Merges (c : Classes) (x y : ℕ) (d : Classes) : Type 0 where

@@ -18,4 +18,5 @@ pub mod Reading
 pub mod Stepping
 pub mod Labelled
 pub mod Room
+pub mod Listed
 pub mod Tables

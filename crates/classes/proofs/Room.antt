@@ -40,7 +40,7 @@ sweep-leaves (suc j) p r z g =
     let i = sweep-leaves j p r z g in
     halve-leaves max-sites (sweep j p r .parents) j z (subst⁻¹ (λ (w : ℕ). max-sites ≤ w) i g) ∙ i
 
-sweep-idle : (j : ℕ) (p : List ℕ) (r : ℕ) → j < max-sites → max-sites ≤ up p j → sweep (suc j) p r ≡ sweep j p r
+pub sweep-idle : (j : ℕ) (p : List ℕ) (r : ℕ) → j < max-sites → max-sites ≤ up p j → sweep (suc j) p r ≡ sweep j p r
 unfolding sweep halve-in
 sweep-idle j p r h g =
     let i = sweep-leaves j p r j g in
@@ -59,7 +59,7 @@ module _ (k : ℕ) (p : List ℕ) (r : ℕ) (n : (z : ℕ) → k ≤ z → z < m
       go (yes e) ih = ap (λ (i : ℕ). sweep i p r) (sym e)
       go (no d) ih = sweep-idle j p r (omega arith) (n j (omega arith) (omega arith)) ∙ ih (omega arith)
 
-kept : (c : Classes) (x z : ℕ) → max-sites ≤ up (c .parents) z → max-sites ≤ up (halved c x .after .parents) z
+pub kept : (c : Classes) (x z : ℕ) → max-sites ≤ up (c .parents) z → max-sites ≤ up (halved c x .after .parents) z
 unfolding halved halve-in
 kept c x z g = subst⁻¹ (λ (w : ℕ). max-sites ≤ w) (halve-leaves max-sites (c .parents) x z g) g
 

@@ -1,5 +1,6 @@
 -- What the contracts and the laws of `classes` cite, beside paper's Classes.
 pub mod Answers
+pub mod Listed
 pub mod Turns
 pub mod Well
 pub mod Equal

@@ -10,6 +10,7 @@ ghost use Rattle.paper.specs.declared.Found.the-variants.{At};
 ghost use Rattle.paper.specs.Numbers.{max-sites};
 ghost use Rattle.paper.specs.Classes as C;
 ghost use Rattle.classes.specs.Answers.{of, root-in, rep, looked, sought, joined, same, noted, Sweeps, taken};
+ghost use Rattle.classes.specs.Listed.{sweep-of, taken-of};
 use paper::Found;
 use paper::Refusal;
 use paper::SITES;
@@ -306,6 +307,28 @@ fn sweep(parents: &mut [u16; SITES], r: u16, k: u16, members: &mut [u16]) -> usi
     n
 }
 
+// The updating find on the first k of the listed sites, in their order. Those with the root r are listed in members: how many.
+fn sweep_listed(
+    parents: &mut [u16; SITES],
+    r: u16,
+    sites: &[u16],
+    k: usize,
+    members: &mut [u16],
+) -> usize
+    requires { ⌜ (k ≤ length (now sites)) × (k ≤ length (now members)) ⌝ }
+    ensures { λ n. ⌜ Sweeps (sweep-of (now (sites .entry)) k (now (parents .entry)) r) (now (members .entry)) (now (parents .exit)) (now (members .exit)) n ⌝ }
+{
+    let mut n: usize = 0;
+    let mut at: usize = 0;
+    while at < k {
+        let y = sites[at];
+        let f = halve_in(parents, y);
+        n = note(members, n, f, r, y);
+        at += 1;
+    }
+    n
+}
+
 // Takes the members out of every class.
 fn unjoin(parents: &mut [u16; SITES], members: &[u16])
     requires { ⌜ ((i : ℕ) → i < length (now members) → getD (now members) i 0 < max-sites) ⌝ }
@@ -331,6 +354,22 @@ fn less(n: u16, m: usize) -> u16
     if m < wide(n) { n - m as u16 } else { 0 }
 }
 
+fn fewer(n: usize, m: usize) -> usize
+    ensures { λ r. ⌜ r ≡ min n m ⌝ }
+{
+    if n < m { n } else { m }
+}
+
+// Takes the members out of every class, and out of the count.
+fn take_out(parents: &mut [u16; SITES], count: &mut u16, members: &[u16])
+    requires { ⌜ ((i : ℕ) → i < length (now members) → getD (now members) i 0 < max-sites) ⌝ }
+    ensures { λ _. ⌜ (now (parents .exit) ≡ C.unjoin (now (parents .entry)) (now (members .entry))) × (now (count .exit) ≡ now (count .entry) - length (now (members .entry))) ⌝ }
+{
+    unjoin(parents, members);
+    let n = *count;
+    *count = less(n, members.len());
+}
+
 // Takes x's class apart and lists its members, ascending. The sites looked at are those that `members` has room for.
 pub fn remove_set_of_in(
     parents: &mut [u16; SITES],
@@ -349,9 +388,31 @@ pub fn remove_set_of_in(
     };
     let k = least(members.len());
     let n = sweep(parents, r, k, members);
-    unjoin(parents, &members[..n]);
-    let m = *count;
-    *count = less(m, n);
+    take_out(parents, count, &members[..n]);
+    Taken::Members(n)
+}
+
+// The same, looking only at the listed sites, as many of them as `members` has room for.
+// Where these ascend and hold every joined site, that takes what a look at all sites takes (proofs/Listed.antt, `remove-listed`).
+pub fn remove_listed_in(
+    parents: &mut [u16; SITES],
+    count: &mut u16,
+    x: u16,
+    sites: &[u16],
+    members: &mut [u16],
+) -> Taken
+    ensures { λ r. ⌜ ((R : List ℕ) → (C.classes (now (parents .exit)) R (now (count .exit)), now (members .exit), r) ≡ taken-of (C.classes (now (parents .entry)) R (now (count .entry))) (now (sites .entry)) (now (members .entry)) x) ⌝ }
+{
+    if SITES <= wide(x) {
+        return Taken::Refused(Refusal::Unknown { site: x });
+    }
+    let f = halve_in(parents, x);
+    let Found::At(r) = f else {
+        return Taken::Members(0);
+    };
+    let k = fewer(members.len(), sites.len());
+    let n = sweep_listed(parents, r, sites, k, members);
+    take_out(parents, count, &members[..n]);
     Taken::Members(n)
 }
 

@@ -1,4 +1,4 @@
--- A class taken out: what classes::remove_set_of_in lists is what paper calls the members, and it leaves what paper's `dissolve` leaves.
+-- A class taken out: what classes::remove_set_of_in and remove_listed_in list is what paper calls the members, and they leave what paper's `dissolve` leaves.
 use mathlib.Core.Path.{_≡_, refl, sym, ap, _∙_, subst, subst⁻¹}
 use mathlib.Core.Bool.{true, false}
 use mathlib.Core.Option.{Option, none, some}
@@ -13,21 +13,23 @@ use borrow.Author.Tests.{lt-ltb, ltb-false, eq-eqb, eqb-true, ne-eqb}
 use Rattle.paper.specs.declared.Found.{Found}
 use Rattle.paper.specs.declared.Found.the-variants.{At, Nothing}
 use Rattle.paper.specs.Words.{keep, below, look}
-use Rattle.paper.specs.Numbers.{max-sites, done}
+use Rattle.paper.specs.Numbers.{max-sites, Outcome, done}
 use Rattle.paper.specs.Classes.{Classes, classes, up, find-in, is-at, Removed, halved, remove-at, remove-below, remove-set-of}
 use Rattle.paper.specs.Loading.{Labels, lowest, members, dissolve}
 use Rattle.paper.specs.Labels.{never}
 use Rattle.paper.specs.Tables.{Fine, of-keep, in-keep, keep-rising, look-in, in-look, lowest-is, dissolved, undissolved, dissolve-fine}
 use Rattle.classes.specs.declared.Taken.{Taken}
 use Rattle.classes.specs.declared.Taken.the-variants as K
-use Rattle.classes.specs.Answers.{or-self, rep, over, taken}
+use Rattle.classes.specs.Answers.{or-self, rep, over, taken, taken-by}
+use Rattle.classes.specs.Listed.{remove-of, taken-of}
 use Rattle.classes.specs.Well.{has-up, in-class, dropped}
 use Rattle.classes.specs.Equal.{Holds, TakesOut, sites-below}
 use Rattle.classes.proofs.Uniting.{is-joined, joined-has}
 use Rattle.classes.proofs.Laws.{remove-takes}
 use Rattle.classes.proofs.Room.{remove-room}
+use Rattle.classes.proofs.Listed.{Listed, remove-listed, remove-few}
 use Rattle.classes.proofs.Tables.{remove-dissolves}
-use Rattle.tying.specs.Tied.{has-label, Tied, tied-fine, label-some, label-none}
+use Rattle.tying.specs.Tied.{has-label, Tied, tied-fine, label-some, label-none, some-label}
 use Rattle.tying.specs.Rows.{rising-same, rising-once, keep-most, below-length, row, row-rising, in-row, of-row, row-firsts}
 
 no-bool : {A : Type 0} → true ≡ false → A
@@ -187,34 +189,60 @@ pub record Takes (p r : List ℕ) (n : ℕ) (k : Labels) (low : ℕ) (m m′ : L
   pub front : take (length (members k low)) m′ ≡ members k low
   pub each : (i : ℕ) → i < length (members k low) → getD m′ i 0 ≡ getD (members k low) i 0
 
--- at each call of classes::remove_set_of_in, at the lowest member of a class: m has room for every joined site
+-- at each removal, at the lowest member of a class, that is paper's and has room for the members
+module _ {p r : List ℕ} {n : ℕ} {k : Labels} (T : Tied p r n k) (low : ℕ) (own : look k low ≡ some low) (m : List ℕ) where
+  abbrev whole : Removed
+  whole = remove-at max-sites (halved (classes p r n) low .after) (halved (classes p r n) low .found)
+
+  same : whole .members ≡ members k low
+  same = removed-members T low own whole (is-set T low own)
+
+  takes : (o : Outcome Removed) → o ≡ remove-set-of (classes p r n) low → length (members k low) ≤ length m
+      → (p′ : List ℕ) (n′ : ℕ) (m′ : List ℕ) (t : Taken) → _≡_ {A = Classes × List ℕ × Taken} (classes p′ r n′, m′, t) (taken-by (classes p r n) m o)
+      → Takes p′ r n′ k low m m′ t
+  takes o is room p′ n′ m′ t e = record {
+    tied = subst⁻¹ (λ (c : Classes). Tied (c .parents) (c .ranks) (c .count) (dissolve k low)) (ap (λ (w : Classes × List ℕ × Taken). w .0) all) (removed-tied T low own whole (is-set T low own));
+    answer = ap (λ (w : Classes × List ℕ × Taken). w .2) all ∙ ap (λ (l : List ℕ). K.Members (length l)) same;
+    list = list;
+    room = room;
+    same-length = ap length list ∙ (simp (length-append, length-drop) (omega (arith, room)));
+    front = ap (take (length (members k low))) list ∙ take-append-seam (members k low) (drop (length (members k low)) m);
+    each = λ i h. ap (λ (l : List ℕ). getD l i 0) list ∙ List·getD-append (members k low) (drop (length (members k low)) m) 0 i h;
+  }
+    where
+      all : _≡_ {A = Classes × List ℕ × Taken} (classes p′ r n′, m′, t) (whole .after, over m (whole .members), K.Members (length (whole .members)))
+      all = e ∙ ap (taken-by (classes p r n) m) (is ∙ is-set T low own)
+
+      list : m′ ≡ over m (members k low)
+      list = ap (λ (w : Classes × List ℕ × Taken). w .1) all ∙ ap (over m) same
+
+-- at each call of classes::remove_set_of_in: m has room for every joined site
 pub tied-take : {p r : List ℕ} {n : ℕ} {k : Labels} → Tied p r n k → (low : ℕ) → look k low ≡ some low → (m : List ℕ) → LabelsBelow k (length m)
     → (p′ : List ℕ) (n′ : ℕ) (m′ : List ℕ) (t : Taken) → _≡_ {A = Classes × List ℕ × Taken} (classes p′ r n′, m′, t) (taken (classes p r n) m low)
     → Takes p′ r n′ k low m m′ t
-tied-take {p} {r} {n} {k} T low own m B p′ n′ m′ t e = record {
-  tied = subst⁻¹ (λ (c : Classes). Tied (c .parents) (c .ranks) (c .count) (dissolve k low)) (ap (λ (w : Classes × List ℕ × Taken). w .0) all) (removed-tied T low own q (is-set T low own));
-  answer = ap (λ (w : Classes × List ℕ × Taken). w .2) all ∙ ap (λ (l : List ℕ). K.Members (length l)) same;
-  list = list;
-  room = room;
-  same-length = ap length list ∙ (simp (length-append, length-drop) (omega (arith, room)));
-  front = ap (take (length (members k low))) list ∙ take-append-seam (members k low) (drop (length (members k low)) m);
-  each = λ i h. ap (λ (l : List ℕ). getD l i 0) list ∙ List·getD-append (members k low) (drop (length (members k low)) m) 0 i h;
-}
+tied-take {p} {r} {n} {k} T low own m B = takes T low own m (remove-below (min (length m) max-sites) (classes p r n) low) (is-below T low own (length m) B) room
   where
-    q : Removed
-    q = remove-at max-sites (halved (classes p r n) low .after) (halved (classes p r n) low .found)
-
-    is : remove-below (min (length m) max-sites) (classes p r n) low ≡ done q
-    is = is-below T low own (length m) B ∙ is-set T low own
-
-    all : _≡_ {A = Classes × List ℕ × Taken} (classes p′ r n′, m′, t) (q .after, over m (q .members), K.Members (length (q .members)))
-    all = rw is at e
-
-    same : q .members ≡ members k low
-    same = removed-members T low own q (is-set T low own)
-
-    list : m′ ≡ over m (members k low)
-    list = ap (λ (w : Classes × List ℕ × Taken). w .1) all ∙ ap (over m) same
-
     room : length (members k low) ≤ length m
     room = let w = members-few T low own (min (length m) max-sites) (omega arith) (λ z v l. let a = B z v l in let b = T .inside z v l in omega arith) in omega arith
+
+-- at each call of classes::remove_listed_in: the list ascends and has every joined site, and m has room for it
+pub tied-take-listed : {p r : List ℕ} {n : ℕ} {k : Labels} → Tied p r n k → (low : ℕ) → look k low ≡ some low → (xs m : List ℕ) → length xs ≤ length m
+    → ((i j : ℕ) → i < j → j < length xs → getD xs i 0 < getD xs j 0) → ((i : ℕ) → i < length xs → getD xs i 0 < max-sites)
+    → ((z v : ℕ) → look k z ≡ some v → (i : ℕ) × (i < length xs) × (getD xs i 0 ≡ z))
+    → (p′ : List ℕ) (n′ : ℕ) (m′ : List ℕ) (t : Taken) → _≡_ {A = Classes × List ℕ × Taken} (classes p′ r n′, m′, t) (taken-of (classes p r n) xs m low)
+    → Takes p′ r n′ k low m m′ t
+tied-take-listed {p} {r} {n} {k} T low own xs m h a b has = takes T low own m (remove-of xs (min (length m) (length xs)) (classes p r n) low) is room
+  where
+    all-listed : (z : ℕ) → z < max-sites → up p z < max-sites → Listed xs z
+    all-listed z g u = has z (lowest k z) (some-label k z (sym (T .joined z g) ∙ lt-ltb (up p z) max-sites u))
+
+    is : remove-of xs (min (length m) (length xs)) (classes p r n) low ≡ remove-set-of (classes p r n) low
+    is =
+        let e : min (length m) (length xs) ≡ length xs = omega arith in
+        ap (λ (j : ℕ). remove-of xs j (classes p r n) low) e ∙ remove-listed (classes p r n) low xs a b all-listed
+
+    room : length (members k low) ≤ length m
+    room =
+        let w = remove-few xs (min (length m) (length xs)) (classes p r n) low (whole T low own m) (is ∙ is-set T low own) in
+        let l = ap length (same T low own m) in
+        omega arith

@@ -6,7 +6,7 @@ use native.Mathlib.Omega.{arith}
 use lib.ListN.{length}
 use Rattle.paper.specs.Classes.{sweep}
 use Rattle.classes.specs.Answers.{Sweeps}
-use Rattle.classes.proofs.Taking.{sweep-start, sweep-room, sweep-length, sweep-turn}
+use Rattle.classes.proofs.Taking.{sweep-within, swept-room, swept-length, sweep-start, sweep-turn}
 use Rattle.classes.proofs.sweep.Statement.{statement}
 use Rattle.classes.proofs.sweep.Tie as tie
 use Rattle.classes.proofs.sweep.Reads as reads
@@ -27,7 +27,7 @@ halve-in-requires : tie.Need-halve-in-requires Inv-loop μ-loop
 halve-in-requires c κs = search needs
 
 note-requires : tie.Need-note-requires Inv-loop μ-loop
-note-requires c κs = sweep-room _ _ _ _ _ _ _ (c .before .before .before .before .loop .inv .1) (omega arith)
+note-requires c κs = swept-room (c .before .before .before .before .loop .inv .1) (sweep-within _ _ _) (omega arith)
 
 add-y : tie.Need-add-y Inv-loop μ-loop
 add-y c = omega arith
@@ -36,10 +36,10 @@ loop-less : tie.Need-loop-less Inv-loop μ-loop
 loop-less c = omega arith
 
 loop-again : tie.Need-loop-again Inv-loop μ-loop
-loop-again c = (omega arith, sweep-turn _ _ _ _ _ _ _ (c .before .before .before .before .before .before .before .loop .inv .1) (omega arith) _ _ _ _ (c .before .before .before .before .halve-in .ensures) (c .before .before .note .ensures))
+loop-again c = (omega arith, sweep-turn _ _ _ _ _ _ _ (omega arith) _ _ _ _ (c .before .before .before .before .before .before .before .loop .inv .1) (c .before .before .before .before .halve-in .ensures) (c .before .before .note .ensures))
 
 same-length : tie.Need-same-length Inv-loop μ-loop
-same-length c = sweep-length _ _ _ _ _ _ _ (c .before .loop .inv .1) (omega arith)
+same-length c = swept-length (c .before .loop .inv .1) (sweep-within _ _ _) (omega arith)
 
 returns : tie.Need-returns Inv-loop μ-loop
 returns c =
