@@ -1,2 +1,3 @@
 -- Laws of the constrained sites.
 pub mod Placing
+pub mod Adding
