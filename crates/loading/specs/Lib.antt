@@ -4,6 +4,7 @@ pub mod Parts
 pub mod RoundState
 pub mod RoundLaws
 pub mod RoundGive
+pub mod RoundList
 pub mod RoundStep
 pub mod RoundTurn
 pub mod RoundPick

@@ -16,6 +16,7 @@ use Rattle.classes.specs.Well.{has-up}
 use Rattle.growth.specs.Tail.{table}
 use Rattle.closing.specs.Holding.{shape-in}
 use Rattle.holders.specs.Entries.{entries}
+use Rattle.holders.specs.Among.{Among, Climbs}
 use Rattle.items.specs.Shown.{shown}
 use Rattle.tying.specs.Tied.{Tied}
 use Rattle.tying.specs.Rows.{row}
@@ -37,18 +38,39 @@ pub record Laid (n : ℕ) (tail : List ℕ) (t : ℕ) (sites rows words : List �
   pub inside : (i : ℕ) → i < held → getD sites i 0 < n + t
   pub good : (i : ℕ) → i < held → GoodRow words (getD rows i 0)
 
+-- the first `many` of js are sites, ascending
+pub record Lined (js : List ℕ) (many : ℕ) : Type 0 where
+  pub long : many ≤ length js
+  pub climbs : Climbs js many
+  pub inside : (i : ℕ) → i < many → getD js i 0 < max-sites
+
+-- i of xs were listed with them
+pub record Lining (js : List ℕ) (many : ℕ) (xs : List ℕ) (i : ℕ) (js′ : List ℕ) (many′ : ℕ) : Type 0 where
+  pub lined : Lined js′ many′
+  pub same : length js′ ≡ length js
+  pub stay : (z : ℕ) → Among js many z → Among js′ many′ z
+  pub here : (k : ℕ) → k < i → Among js′ many′ (getD xs k 0)
+  pub most : many′ ≤ many + i
+
+-- every joined site is listed; others may be
+abbrev pub Covers : List ℕ → List ℕ → ℕ → Type 0
+Covers p js many = (z : ℕ) → z < max-sites → getD p z 0 < max-sites → Among js many z
+
 -- the lists and the classes tell s
-pub record Stood (m : List ℕ) (n : ℕ) (tail : List ℕ) (t : ℕ) (sites rows words : List ℕ) (held : ℕ) (p r : List ℕ) (c : ℕ) (s : Solving) : Type 0 where
+pub record Stood (m : List ℕ) (n : ℕ) (tail : List ℕ) (t : ℕ) (sites rows words : List ℕ) (held : ℕ) (p r : List ℕ) (c : ℕ) (js : List ℕ) (many : ℕ) (s : Solving) : Type 0 where
   pub laid : Laid n tail t sites rows words held
   pub sites-are : table m n tail t ≡ s .sites
   pub constraints-are : shown sites rows words held ≡ s .constraints
   pub tied : Tied p r c (s .classes)
   pub labelled : LabelsBelow (s .classes) (n + t)
+  pub lined : Lined js many
+  pub among : (z v : ℕ) → look (s .classes) z ≡ some v → Among js many z
+  pub wide : length sites ≤ length js
 
 -- how a step ends: as paper's does
-abbrev pub Ends : List ℕ → ℕ → List ℕ → List ℕ → List ℕ → List ℕ → List ℕ → List ℕ → ℕ → Solved → Outcome Solving → Type 0
-Ends m n tail sites rows words p r c x (done s) = (x .answer ≡ ended.Fine) × Stood m n tail (x .tail) sites rows words (x .held) p r c s
-Ends m n tail sites rows words p r c x (refused e) = x .answer ≡ ended.Refused e
+abbrev pub Ends : List ℕ → ℕ → List ℕ → List ℕ → List ℕ → List ℕ → List ℕ → List ℕ → ℕ → List ℕ → Solved → Outcome Solving → Type 0
+Ends m n tail sites rows words p r c js x (done s) = (x .answer ≡ ended.Fine) × Stood m n tail (x .tail) sites rows words (x .held) p r c js (x .equal) s
+Ends m n tail sites rows words p r c js x (refused e) = x .answer ≡ ended.Refused e
 
 -- ---- one constraint for one member
 
@@ -76,6 +98,7 @@ pub record Grew (m : List ℕ) (n t : ℕ) (sites rows words : List ℕ) (held r
   pub sites-are : table m n tail′ (g .state .tail) ≡ u
   pub shown-are : shown sites′ rows′ words (g .state .held) ≡ put x (shape-in words row) (shown sites rows words held)
   pub kids : Kids u x (shape-in words row) (g .kids)
+  pub eight : length (g .kids) ≡ max-fields
 
 abbrev pub Grows : List ℕ → ℕ → ℕ → List ℕ → List ℕ → List ℕ → ℕ → ℕ → ℕ → List ℕ → List ℕ → List ℕ → Grown → Outcome Sites → Type 0
 Grows m n t sites rows words held row x tail′ sites′ rows′ g (done u) = (g .state .answer ≡ ended.Fine) × Grew m n t sites rows words held row x tail′ sites′ rows′ g u
@@ -107,8 +130,8 @@ left at low c ns s =
     done (record { sites = u; constraints = give-all ns c (s .constraints); classes = join-children u low c ns (s .classes) })
 
 -- the lowest member is low, with its children `of`
-pub record Led (m : List ℕ) (n : ℕ) (tail : List ℕ) (t : ℕ) (sites rows words : List ℕ) (held : ℕ) (p r : List ℕ) (c : ℕ) (of : List ℕ) (row low : ℕ) (s : Solving) : Type 0 where
-  pub stood : Stood m n tail t sites rows words held p r c s
+pub record Led (m : List ℕ) (n : ℕ) (tail : List ℕ) (t : ℕ) (sites rows words : List ℕ) (held : ℕ) (p r : List ℕ) (c : ℕ) (js : List ℕ) (many : ℕ) (of : List ℕ) (row low : ℕ) (s : Solving) : Type 0 where
+  pub stood : Stood m n tail t sites rows words held p r c js many s
   pub good : GoodRow words row
   pub kids : Kids (s .sites) low (shape-in words row) of
 
@@ -117,13 +140,12 @@ Within ms b = (i : ℕ) → i < length ms → getD ms i 0 < b
 
 -- ---- the next class
 
-pub record Sights (p sites rows : List ℕ) (held count : ℕ) : Type 0 where
+pub record Sights (p sites rows : List ℕ) (held : ℕ) : Type 0 where
   pub reps : (x : ℕ) → x < max-sites → rep p x < max-sites
   pub long-sites : held ≤ length sites
   pub long-rows : held ≤ length rows
   pub inside : (i : ℕ) → i < held → getD sites i 0 < max-sites
   pub small : (i : ℕ) → i < held → getD rows i 0 < 65535
-  pub few : count ≤ max-sites
 
 -- noted has, by root, the row of the first of i constrained sites of its class
 pub record Noted (p sites rows : List ℕ) (i : ℕ) (noted : List ℕ) : Type 0 where
@@ -139,17 +161,17 @@ pub record Stained (p sites : List ℕ) (i held : ℕ) (noted : List ℕ) : Type
 abbrev pub marked : List ℕ → ℕ → ℕ → List ℕ
 marked l z row = if eqb (getD l z 0) 65535 then set l z row else l
 
--- the first of `count` sites that is joined and whose class has a row
-pub record Picks (p noted : List ℕ) (count : ℕ) (x : Picked) : Type 0 where
-  pub before : (z : ℕ) → z < count → z < x .low → getD p z 0 < max-sites → getD noted (rep p z) 0 ≡ 65535
-  pub here : x .low < max-sites → (x .low < count) × (getD p (x .low) 0 < max-sites) × (getD noted (rep p (x .low)) 0 ≡ x .row) × (x .row ≡ 65535 → ⊥)
+-- the first site that is joined and whose class has a row
+pub record Picks (p noted : List ℕ) (x : Picked) : Type 0 where
+  pub before : (z : ℕ) → z < max-sites → z < x .low → getD p z 0 < max-sites → getD noted (rep p z) 0 ≡ 65535
+  pub here : x .low < max-sites → (getD p (x .low) 0 < max-sites) × (getD noted (rep p (x .low)) 0 ≡ x .row) × (x .row ≡ 65535 → ⊥)
 
 pub record Chosen (k : Labels) (cs : Constraints) (rows words : List ℕ) (held : ℕ) (x : Picked) : Type 0 where
   pub none : max-sites ≤ x .low → take-class k cs k ≡ none
   pub some : x .low < max-sites → (take-class k cs k ≡ some (x .low, shape-in words (x .row))) × (look k (x .low) ≡ some (x .low)) × ((i : ℕ) × (i < held) × (x .row ≡ getD rows i 0))
 
-abbrev pub Chooses : List ℕ → List ℕ → List ℕ → ℕ → ℕ → Picked → Type 0
-Chooses p sites rows held count x = (words r : List ℕ) (c : ℕ) (k : Labels) → Tied p r c k → LabelsBelow k count → Chosen k (shown sites rows words held) rows words held x
+abbrev pub Chooses : List ℕ → List ℕ → List ℕ → ℕ → Picked → Type 0
+Chooses p sites rows held x = (words r : List ℕ) (c : ℕ) (k : Labels) → Tied p r c k → Chosen k (shown sites rows words held) rows words held x
 
 -- ---- the equal sites
 

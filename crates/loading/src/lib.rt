@@ -38,6 +38,7 @@ pub enum Ended {
 }
 
 // What the rounds leave: how many words the tail has, how many sites are constrained, how many are equal; or why the rule is refused.
+// Between two rounds `equal` counts the sites that may be joined, which are listed.
 pub struct Solved {
     pub tail: u16,
     pub held: usize,
@@ -136,6 +137,8 @@ fn normalise(
     tail: &mut [u64],
     sites: &mut [u16],
     rows: &mut [u16],
+    joined: &mut [u16],
+    list: &mut [u16],
     shapes: &[u64],
     kids: &[u16],
     eqs: &[u16],
@@ -145,6 +148,7 @@ fn normalise(
     count: u8,
 ) -> Solved
     requires { ⌜ ((is : List Item) × Left (now m) n (now tail) (now sites) (now rows) (now shapes) (now kids) (now eqs) (now equal) (now low) a count is) ⌝ }
+    requires { ⌜ (length (now sites) ≤ length (now joined)) × (length (now joined) ≤ length (now list)) ⌝ }
     ensures { λ r. ⌜ Unless (r .answer) (now (tail .entry)) (now (sites .entry)) ((is : List Item) → Left (now (m .entry)) n (now (tail .entry)) (now (sites .entry)) (now (rows .entry)) (now (shapes .entry)) (now (kids .entry)) (now (eqs .entry)) (now (equal .entry)) (now (low .entry)) a count is → Rounds (now (m .entry)) n (now (tail .exit)) (now (sites .exit)) (now (rows .exit)) (now (shapes .entry)) (now (equal .exit)) (now (low .exit)) r (worked (now (m .entry)) n count is)) ⌝ }
 {
     let held = a.held;
@@ -153,7 +157,7 @@ fn normalise(
     if let Verdict::Refused(told) = v {
         return refuse(told);
     }
-    let mut joined = [0u16; EQUALS];
+    let mut found = [0u16; EQUALS];
     let mut lowest = [0u16; EQUALS];
     let s = rounds::rounds(
         m,
@@ -166,10 +170,12 @@ fn normalise(
         held,
         shapes,
         &eqs[..k],
-        &mut joined,
+        joined,
+        list,
+        &mut found,
         &mut lowest,
     );
-    copy(&joined, equal);
+    copy(&found, equal);
     copy(&lowest, low);
     s
 }
@@ -181,6 +187,8 @@ fn solve(
     tail: &mut [u64],
     sites: &mut [u16],
     rows: &mut [u16],
+    joined: &mut [u16],
+    list: &mut [u16],
     shapes: &mut [u64],
     equal: &mut [u16],
     low: &mut [u16],
@@ -188,6 +196,7 @@ fn solve(
     count: u8,
 ) -> Solved
     requires { ⌜ Lent (now tail) (now sites) (now rows) × ((3 * max-items ≤ length (now shapes)) × ((max-equal ≤ length (now equal)) × (max-equal ≤ length (now low)))) ⌝ }
+    requires { ⌜ (length (now sites) ≤ length (now joined)) × (length (now joined) ≤ length (now list)) ⌝ }
     ensures { λ r. ⌜ Unless (r .answer) (now (tail .entry)) (now (sites .entry)) (Rounds (now (m .entry)) n (now (tail .exit)) (now (sites .exit)) (now (rows .exit)) (now (shapes .exit)) (now (equal .exit)) (now (low .exit)) r (worked (now (m .entry)) n count (items-in (now (items .entry)) (min count max-items)))) ⌝ }
 {
     let mut kids = [0u16; 256];
@@ -214,6 +223,8 @@ fn solve(
         tail,
         sites,
         rows,
+        joined,
+        list,
         shapes,
         &kids,
         &eqs,
@@ -407,8 +418,11 @@ fn attempt(
     tail: &mut [u64],
     sites: &mut [u16],
     rows: &mut [u16],
+    joined: &mut [u16],
+    list: &mut [u16],
 ) -> Tried
     requires { ⌜ Lent (now tail) (now sites) (now rows) × (admitted n (now words) kept place count ≡ done tt) ⌝ }
+    requires { ⌜ (length (now sites) ≤ length (now joined)) × (length (now joined) ≤ length (now list)) ⌝ }
     ensures { λ r. ⌜ Tries (now (m .entry)) n (now (words .entry)) kept (rule-in (now (items .entry)) place priority count) (now (tail .entry)) (now (sites .entry)) (now (m .exit)) (now (words .exit)) r ⌝ }
 {
     let mut shapes = [0u64; 96];
@@ -420,6 +434,8 @@ fn attempt(
         tail,
         sites,
         rows,
+        joined,
+        list,
         &mut shapes,
         &mut equal,
         &mut low,
@@ -469,6 +485,8 @@ fn at_large(
     let mut tail = [0u64; SITES];
     let mut sites = [0u16; SITES];
     let mut rows = [0u16; SITES];
+    let mut joined = [0u16; SITES];
+    let mut list = [0u16; SITES];
     let a = attempt(
         m,
         n,
@@ -481,6 +499,8 @@ fn at_large(
         &mut tail,
         &mut sites,
         &mut rows,
+        &mut joined,
+        &mut list,
     );
     let Tried::Done(out) = a else {
         return Loaded::Kept(n);
@@ -511,6 +531,8 @@ pub fn load_handed(
     let mut tail = [0u64; 256];
     let mut sites = [0u16; 64];
     let mut rows = [0u16; 64];
+    let mut joined = [0u16; 80];
+    let mut list = [0u16; 80];
     let a = attempt(
         m,
         n,
@@ -523,6 +545,8 @@ pub fn load_handed(
         &mut tail,
         &mut sites,
         &mut rows,
+        &mut joined,
+        &mut list,
     );
     let Tried::Done(out) = a else {
         return at_large(m, n, words, kept, place, priority, count, items);

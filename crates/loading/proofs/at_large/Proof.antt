@@ -14,8 +14,14 @@ slice-aggregate-attempt-2 c = search needs
 slice-aggregate-attempt-3 : tie.Need-slice-aggregate-attempt-3
 slice-aggregate-attempt-3 c = search needs
 
+slice-aggregate-attempt-4 : tie.Need-slice-aggregate-attempt-4
+slice-aggregate-attempt-4 c = search needs
+
+slice-aggregate-attempt-5 : tie.Need-slice-aggregate-attempt-5
+slice-aggregate-attempt-5 c = search needs
+
 attempt-requires : tie.Need-attempt-requires
-attempt-requires c κs = (lent-all, c .before .before .before .before .before .before .before .before .pre)
+attempt-requires c κs = ((lent-all, c .before .before .before .before .before .before .before .before .before .before .pre), (omega arith, omega arith))
 
 enum-known-a : tie.Need-enum-known-a
 enum-known-a c = search needs
@@ -30,7 +36,7 @@ same-length-2 : tie.Need-same-length-2
 same-length-2 c = search needs
 
 returns : tie.Need-returns
-returns c = absurd (never-scant (tried-short _ _ _ _ _ _ _ _ _ _ (c .before .before .before .before .before .before .before .before .before .attempt .ensures) (c .enum-told .given .1) .0))
+returns c = absurd (never-scant (tried-short _ _ _ _ _ _ _ _ _ _ (c .before .before .before .before .before .before .before .before .before .before .before .attempt .ensures) (c .enum-told .given .1) .0))
 
 same-length-3 : tie.Need-same-length-3
 same-length-3 c = search needs
@@ -39,7 +45,7 @@ same-length-4 : tie.Need-same-length-4
 same-length-4 c = search needs
 
 returns-2 : tie.Need-returns-2
-returns-2 c = tried-done _ _ _ _ _ _ _ _ _ _ (c .before .before .before .before .before .before .before .before .before .before .attempt .ensures) _ (c .before .a .given .1)
+returns-2 c = tried-done _ _ _ _ _ _ _ _ _ _ (c .before .before .before .before .before .before .before .before .before .before .before .before .attempt .ensures) _ (c .before .a .given .1)
 
 pub at-large-spec : {M : Type 1} → statement M
 at-large-spec =
@@ -48,6 +54,8 @@ at-large-spec =
     slice-aggregate-attempt
     slice-aggregate-attempt-2
     slice-aggregate-attempt-3
+    slice-aggregate-attempt-4
+    slice-aggregate-attempt-5
     attempt-requires
     enum-known-a
     enum-told

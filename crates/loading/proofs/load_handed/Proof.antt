@@ -1,4 +1,5 @@
 -- `loading::load_handed` meets its contract. Assumes nothing.
+use native.Mathlib.Omega.{arith}
 use borrow.Author.Needs.{needs}
 use Rattle.handed.specs.Items.{rule-in}
 use Rattle.handed.proofs.Laws.{rule-written}
@@ -30,8 +31,14 @@ slice-aggregate-attempt-2 c = search needs
 slice-aggregate-attempt-3 : tie.Need-slice-aggregate-attempt-3
 slice-aggregate-attempt-3 c = search needs
 
+slice-aggregate-attempt-4 : tie.Need-slice-aggregate-attempt-4
+slice-aggregate-attempt-4 c = search needs
+
+slice-aggregate-attempt-5 : tie.Need-slice-aggregate-attempt-5
+slice-aggregate-attempt-5 c = search needs
+
 attempt-requires : tie.Need-attempt-requires
-attempt-requires c κs = (lent-few, (admits-so _ _ _ _ _ _ (c .before .before .before .before .before .before .before .admit .ensures) (c .before .before .before .before .before .enum-told .given .1)))
+attempt-requires c κs = ((lent-few, (admits-so _ _ _ _ _ _ (c .before .before .before .before .before .before .before .before .before .admit .ensures) (c .before .before .before .before .before .before .before .enum-told .given .1))), (omega arith, omega arith))
 
 enum-known-a : tie.Need-enum-known-a
 enum-known-a c = search needs
@@ -40,7 +47,7 @@ enum-told-2 : tie.Need-enum-told-2
 enum-told-2 c = search needs
 
 at-large-requires : tie.Need-at-large-requires
-at-large-requires c κs = still-admitted _ _ _ _ _ _ _ _ _ _ (c .before .before .before .before .before .before .before .before .before .before .before .attempt .ensures) _ _ (c .before .before .enum-told2 .given .1) (admits-so _ _ _ _ _ _ (c .before .before .before .before .before .before .before .before .before .before .before .before .before .before .before .before .before .before .before .admit .ensures) (c .before .before .before .before .before .before .before .before .before .before .before .before .before .before .before .before .before .enum-told .given .1))
+at-large-requires c κs = still-admitted _ _ _ _ _ _ _ _ _ _ (c .before .before .before .before .before .before .before .before .before .before .before .before .before .attempt .ensures) _ _ (c .before .before .enum-told2 .given .1) (admits-so _ _ _ _ _ _ (c .before .before .before .before .before .before .before .before .before .before .before .before .before .before .before .before .before .before .before .before .before .before .before .admit .ensures) (c .before .before .before .before .before .before .before .before .before .before .before .before .before .before .before .before .before .before .before .before .before .enum-told .given .1))
 
 same-length-2 : tie.Need-same-length-2
 same-length-2 c = search needs
@@ -49,7 +56,7 @@ same-length-3 : tie.Need-same-length-3
 same-length-3 c = search needs
 
 returns-2 : tie.Need-returns-2
-returns-2 c = then-large _ _ _ _ _ _ _ _ _ _ (c .before .before .before .before .before .before .before .before .before .before .before .before .before .before .before .before .attempt .ensures) (c .before .before .before .before .before .before .before .enum-told2 .given .1) _ _ _ (c .before .before .before .before .at-large .ensures)
+returns-2 c = then-large _ _ _ _ _ _ _ _ _ _ (c .before .before .before .before .before .before .before .before .before .before .before .before .before .before .before .before .before .before .attempt .ensures) (c .before .before .before .before .before .before .before .enum-told2 .given .1) _ _ _ (c .before .before .before .before .at-large .ensures)
 
 same-length-4 : tie.Need-same-length-4
 same-length-4 c = search needs
@@ -58,7 +65,7 @@ same-length-5 : tie.Need-same-length-5
 same-length-5 c = search needs
 
 returns-3 : tie.Need-returns-3
-returns-3 c = tried-done _ _ _ _ _ _ _ _ _ _ (c .before .before .before .before .before .before .before .before .before .before .attempt .ensures) _ (c .before .a .given .1)
+returns-3 c = tried-done _ _ _ _ _ _ _ _ _ _ (c .before .before .before .before .before .before .before .before .before .before .before .before .attempt .ensures) _ (c .before .a .given .1)
 
 pub load-handed-spec : {M : Type 1} → statement M
 load-handed-spec =
@@ -72,6 +79,8 @@ load-handed-spec =
     slice-aggregate-attempt
     slice-aggregate-attempt-2
     slice-aggregate-attempt-3
+    slice-aggregate-attempt-4
+    slice-aggregate-attempt-5
     attempt-requires
     enum-known-a
     enum-told-2
