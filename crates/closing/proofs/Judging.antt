@@ -22,10 +22,11 @@ use Rattle.closing.specs.declared.Verdict.the-variants.{Passes, Refused}
 use Rattle.closing.specs.Holding.{Held, held, bare, how-many, holders-to, holders-in, eqs-in, class-check, stray, checked, verdict-of, merge-each}
 use Rattle.closing.specs.Growing.{One, Inside, Closed}
 use Rattle.closing.specs.Meeting.{Reps, ClashIs, Seated}
-use Rattle.closing.specs.Search.{Ready, WalksIs}
+use Rattle.closing.specs.Search.{Ready, AllNamed, WalksIs}
 use Rattle.closing.proofs.Reading.{or-first, stray-append, told-stray, told-clean}
 use Rattle.closing.proofs.Joining.{Starts, written-starts}
 use Rattle.closing.proofs.Turning.{exactly}
+use Rattle.closing.proofs.Naming.{all-named}
 use Rattle.closing.proofs.Answering.{answer-clash, answer-walks}
 
 starts-as : (eqs : List ℕ) (hs : List Holder) (c : Classes) → Inside eqs → c ≡ merge-each no-classes (eqs-in eqs) → Starts eqs hs c (length eqs / 2)
@@ -82,6 +83,9 @@ module _ (H : Held) (eqs p r : List ℕ) (n : ℕ) (I : Inside eqs × (Inside (H
   judge-clash x a b ex K =
       let K' : ClashIs (bare (H .sites) (H .rows) (H .words)) q (how-many H) (At a b) = rw (ex, em) at K in
       answer-clash H (eqs-in eqs) q (how-many H) (exactly H eqs (classes p r n) q s k (how-many H) S C') (I .1 .0) (I .1 .1) a b K'
+
+  pub judge-named : (boss : List ℕ) → Seated (bare (H .sites) (H .rows) (H .words)) q boss m → AllNamed q boss eqs (H .sites) (H .kids)
+  judge-named boss T = all-named H eqs q (how-many H) (exactly H eqs (classes p r n) q s k (how-many H) S C') (reps-of H p q s k w C) boss m T
 
   pub judge-walks : (boss : List ℕ) (y : ℕ) (v : Verdict) → Seated (bare (H .sites) (H .rows) (H .words)) q boss m → y ≡ m → WalksIs H q boss y v → verdict-of v ≡ class-check (eqs-in eqs) (holders-in H)
   judge-walks boss y v T ey W =

@@ -5,6 +5,7 @@ pub mod Turning
 pub mod Seating
 pub mod Settling
 pub mod Searching
+pub mod Naming
 pub mod Answering
 pub mod Climbing
 pub mod Judging

@@ -6,7 +6,7 @@ use mathlib.Core.Logic.{_⊎_, inl, inr, ⊎-elim}
 use Prim.Native.Nat.{ℕ, zero, suc, _+_, _*_, _≤_, _<_}
 use native.Mathlib.Omega.{arith}
 use native.Mathlib.Decide.{ℕ-discrete, decLt}
-use lib.ListN.{getD, set, length, length-set, replicate, length-replicate, getD-replicate}
+use lib.ListN.{getD, set, length, length-set}
 use lib.Seq.{getD-set-same, getD-set-other}
 use lib.Dec.{ltb, eqb}
 use borrow.Author.Count.{below-more}
@@ -16,7 +16,7 @@ use Rattle.classes.specs.Answers.{rep}
 use Rattle.classes.specs.Well.{cnt, bit}
 use Rattle.classes.proofs.Counting.{cnt-mono, cnt-add, cnt-one, cnt-ext, cnt-le}
 use Rattle.closing.specs.Holding.{Held, held, chart, kid-count, kid-in, row-of, count-of, kid-of}
-use Rattle.closing.specs.Search.{Edge, Path, edge, then, Ready, Visited, Visit, old, new, Extends, Marks, Lowest}
+use Rattle.closing.specs.Search.{Edge, Path, edge, then, Ready, Visited, Visit, old, new, Extends, Marks, Listed, Fresh}
 use Rattle.closing.proofs.Reading.{few-kids, kid-inside}
 
 cnt-true : (n : ℕ) → cnt (λ y. true) n ≡ n
@@ -134,18 +134,27 @@ module _ (H : Held) (p boss : List ℕ) where
   no-marks seen x h y e o = let t = e .there in omega arith
 
   -- the start
-  pub visited-none : (l : ℕ) → Visited H p boss l (replicate max-sites 0) (replicate max-sites 0) 0
-  visited-none l = record {
-    seen-long = length-replicate {A = ℕ} max-sites 0;
-    queue-long = length-replicate {A = ℕ} max-sites 0;
+  pub visited-none : (l : ℕ) (seen queue : List ℕ) → Fresh seen queue → Visited H p boss l seen queue 0
+  visited-none l seen queue F = record {
+    seen-long = F .seen-long;
+    queue-long = F .queue-long;
     room =
-        let c = cnt-mono (λ y. true) (λ y. eqb (getD (replicate max-sites 0) y 0) 0) max-sites (λ y k. let u = ap bit (eq-eqb (getD (replicate max-sites 0) y 0) 0 (getD-replicate {A = ℕ} max-sites y 0 0 k)) in omega arith) in
-        let d = cnt-le (λ y. eqb (getD (replicate max-sites 0) y 0) 0) max-sites in
+        let c = cnt-mono (λ y. true) (λ y. eqb (getD seen y 0) 0) max-sites (λ y k. let u = ap bit (eq-eqb (getD seen y 0) 0 (F .clean y k)) in omega arith) in
+        let d = cnt-le (λ y. eqb (getD seen y 0) 0) max-sites in
         let e = cnt-true max-sites in
         omega arith;
     sites = λ k g. absurd (omega arith);
     sound = λ k g. absurd (omega arith);
-    found = λ z h n. absurd (n (getD-replicate {A = ℕ} max-sites z 0 0 h));
+    found = λ z h n. absurd (n (F .clean z h));
+  }
+
+  pub visited-listed : (l : ℕ) (seen queue : List ℕ) (tail : ℕ) → Visited H p boss l seen queue tail → Listed seen queue tail
+  visited-listed l seen queue tail X = record {
+    seen-long = X .seen-long;
+    queue-long = X .queue-long;
+    few = tail-le l seen queue tail X;
+    sites = X .sites;
+    found = X .found;
   }
 
   -- the end: a closed set of marks holds all that is reached
@@ -248,14 +257,30 @@ no-holder H p boss l i e h = (λ o. let z : _≡_ {A = ℕ} 0 1 = cc in absurd (
     go k (edge e) = let t = e .there in omega arith
     go k (then e w) = let t = e .there in omega arith
 
--- the loop of endless
-pub lowest-at : (H : Held) (p boss : List ℕ) (z l : ℕ) (t : Bool) → l ≡ rep p z → ((k : ℕ) → k < z → Path H p boss (rep p k) (rep p k) → ⊥)
-    → (t ≡ true → Path H p boss l l) × (t ≡ false → Path H p boss l l → ⊥) → t ≡ true → Lowest H p boss z
-lowest-at H p boss z l t e N T o = record { least = λ k h _. N k h; returns = λ _. rw e at (T .0 o) }
+-- the loop of wipe: what is marked stands in queue from i on
+pub record WipedTo (seen queue : List ℕ) (tail i : ℕ) : Type 0 where
+  pub seen-long : length seen ≡ max-sites
+  pub found : (z : ℕ) → z < max-sites → (getD seen z 0 ≡ 0 → ⊥) → (k : ℕ) × (i ≤ k) × (k < tail) × (getD queue k 0 ≡ z)
 
-pub lowest-on : (H : Held) (p boss : List ℕ) (z l : ℕ) (t : Bool) → l ≡ rep p z → ((k : ℕ) → k < z → Path H p boss (rep p k) (rep p k) → ⊥)
-    → (t ≡ true → Path H p boss l l) × (t ≡ false → Path H p boss l l → ⊥) → t ≡ false → (k : ℕ) → k < z + 1 → Path H p boss (rep p k) (rep p k) → ⊥
-lowest-on H p boss z l t e N T o = below-more _ _ N (rw e at (T .1 o))
+pub wiped-none : (seen queue : List ℕ) (tail : ℕ) → Listed seen queue tail → WipedTo seen queue tail 0
+wiped-none seen queue tail L = record { seen-long = L .seen-long; found = λ z h n. let w = L .found z h n in (w .0, omega arith, w .1, w .2) }
 
-pub lowest-none : (H : Held) (p boss : List ℕ) (z : ℕ) → z ≡ max-sites → ((k : ℕ) → k < z → Path H p boss (rep p k) (rep p k) → ⊥) → Lowest H p boss max-sites
-lowest-none H p boss z e N = record { least = λ k h _. N k (omega arith); returns = λ h. absurd (omega arith) }
+pub wiped-step : (seen queue : List ℕ) (tail i z : ℕ) → z ≡ getD queue i 0 → z < max-sites → WipedTo seen queue tail i → WipedTo (set seen z 0) queue tail (i + 1)
+wiped-step seen queue tail i z e hz W = record { seen-long = length-set seen z 0 ∙ W .seen-long; found = λ y h n. by y h n (ℕ-discrete y z) }
+  where
+    later : (y : ℕ) → (y ≡ z → ⊥) → (k : ℕ) → i ≤ k → getD queue k 0 ≡ y → Dec (k ≡ i) → i + 1 ≤ k
+    later y d k a b (yes q) = absurd (d (sym b ∙ (ap (λ (u : ℕ). getD queue u 0) q ∙ sym e)))
+    later y d k a b (no q) = omega arith
+
+    by : (y : ℕ) → y < max-sites → (getD (set seen z 0) y 0 ≡ 0 → ⊥) → Dec (y ≡ z) → (k : ℕ) × (i + 1 ≤ k) × (k < tail) × (getD queue k 0 ≡ y)
+    by y h n (yes q) = absurd (n (ap (λ (k : ℕ). getD (set seen z 0) k 0) q ∙ getD-set-same seen z 0 0 (let g = W .seen-long in omega arith)))
+    by y h n (no d) =
+        let w = W .found y h (λ o. n (getD-set-other seen z y 0 0 d ∙ o)) in
+        (w .0, later y d (w .0) (w .1) (w .3) (ℕ-discrete (w .0) i), w .2, w .3)
+
+pub wiped-done : (seen queue : List ℕ) (tail i : ℕ) → i ≡ tail → length queue ≡ max-sites → WipedTo seen queue tail i → Fresh seen queue
+wiped-done seen queue tail i e q W = record { seen-long = W .seen-long; queue-long = q; clean = λ z h. by z h (ℕ-discrete (getD seen z 0) 0) }
+  where
+    by : (z : ℕ) → z < max-sites → Dec (getD seen z 0 ≡ 0) → getD seen z 0 ≡ 0
+    by z h (yes o) = o
+    by z h (no n) = let w = W .found z h n in let a = w .1 in let b = w .2 in absurd (omega arith)

@@ -77,7 +77,7 @@ module _ (H : Held) where
       subst (λ (n : ℕ). List·Memᴰ (kid-of H g f, kid-of H h f) (zip (below (count-of H g) (kid-of H g)) (below n (kid-of H h)))) (same-count g h e)
       (rw zip-below (in-below (count-of H g) (λ i. (kid-of H g i, kid-of H h i)) f l))
 
-  of-zip : (g h : ℕ) → shape-of H g ≡ shape-of H h → (x : ℕ × ℕ) → List·Memᴰ x (zip (holder-in H g .kids) (holder-in H h .kids))
+  pub of-zip : (g h : ℕ) → shape-of H g ≡ shape-of H h → (x : ℕ × ℕ) → List·Memᴰ x (zip (holder-in H g .kids) (holder-in H h .kids))
       → (f : ℕ) × (f < count-of H g) × (x ≡ (kid-of H g f, kid-of H h f))
   of-zip g h e x l =
       let l' : List·Memᴰ x (zip (below (count-of H g) (kid-of H g)) (below (count-of H g) (kid-of H h))) =

@@ -1,6 +1,7 @@
 -- Check 6 over the classes of parents p: from root to root by the children of each class's first holder.
 use mathlib.Core.Path.{_≡_}
 use mathlib.Core.Bool.{Bool, true, false}
+use mathlib.Core.Logic.{_⊎_}
 use mathlib.Core.List.{List}
 use Prim.Native.Nat.{ℕ, _+_, _≤_, _<_}
 use lib.ListN.{getD, set, length}
@@ -73,6 +74,59 @@ pub record Extends (seen queue : List ℕ) (tail : ℕ) (seen' queue' : List ℕ
 -- the edges of x lead to marks
 abbrev pub Marks : Held → List ℕ → List ℕ → List ℕ → ℕ → Type 0
 Marks H p boss seen x = (y : ℕ) → Edge H p boss x y → getD seen y 0 ≡ 0 → ⊥
+
+-- the marked roots are among the first tail of queue
+pub record Listed (seen queue : List ℕ) (tail : ℕ) : Type 0 where
+  pub seen-long : length seen ≡ max-sites
+  pub queue-long : length queue ≡ max-sites
+  pub few : tail ≤ max-sites
+  pub sites : (k : ℕ) → k < tail → getD queue k 0 < max-sites
+  pub found : (z : ℕ) → z < max-sites → (getD seen z 0 ≡ 0 → ⊥) → (k : ℕ) × (k < tail) × (getD queue k 0 ≡ z)
+
+-- there is no mark
+pub record Fresh (seen queue : List ℕ) : Type 0 where
+  pub seen-long : length seen ≡ max-sites
+  pub queue-long : length queue ≡ max-sites
+  pub clean : (z : ℕ) → z < max-sites → getD seen z 0 ≡ 0
+
+-- ---- from all of them
+
+-- what one search leaves to the next: in calm are only roots from which no walk returns
+pub record Searched (H : Held) (p boss seen queue calm : List ℕ) : Type 0 where
+  pub fresh : Fresh seen queue
+  pub none : (z : ℕ) → z < max-sites → (getD calm z 0 ≡ 0 → ⊥) → Path H p boss z z → ⊥
+
+-- a walk from the class of z returns
+abbrev pub Returns : Held → List ℕ → List ℕ → ℕ → Type 0
+Returns H p boss z = Path H p boss (rep p z) (rep p z)
+
+-- r is a site whose class returns, or max-sites
+pub record Told (H : Held) (p boss : List ℕ) (r : ℕ) : Type 0 where
+  pub within : r ≤ max-sites
+  pub returns : r < max-sites → Returns H p boss r
+
+-- 0 is for itself, so that unused numbers cost nothing
+pub record Lower (H : Held) (p boss : List ℕ) (best z r : ℕ) : Type 0 where
+  pub told : Told H p boss r
+  pub down : r ≤ best
+  pub past : (z ≡ 0 → ⊥) → z < r → Returns H p boss z → ⊥
+
+-- of the first i numbers of xs
+pub record LowestOf (H : Held) (p boss xs : List ℕ) (i best r : ℕ) : Type 0 where
+  pub told : Told H p boss r
+  pub down : r ≤ best
+  pub past : (k : ℕ) → k < i → (getD xs k 0 ≡ 0 → ⊥) → getD xs k 0 < r → Returns H p boss (getD xs k 0) → ⊥
+
+abbrev pub Among : List ℕ → ℕ → Type 0
+Among xs z = (k : ℕ) × (k < length xs) × (getD xs k 0 ≡ z)
+
+-- what lies past the end of a list is 0
+abbrev pub Named : List ℕ → List ℕ → List ℕ → ℕ → Type 0
+Named eqs sites kids z = (z ≡ 0) ⊎ (Among eqs z ⊎ (Among sites z ⊎ Among kids z))
+
+-- each site whose class has a holder is named
+pub record AllNamed (p boss eqs sites kids : List ℕ) : Type 0 where
+  pub named : (z : ℕ) → z < max-sites → getD boss (rep p z) 0 < max-sites → Named eqs sites kids z
 
 -- r is the lowest site whose class returns; max-sites or more: there is none
 pub record Lowest (H : Held) (p boss : List ℕ) (r : ℕ) : Type 0 where

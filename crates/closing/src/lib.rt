@@ -16,7 +16,7 @@ ghost use Rattle.classes.specs.Well.{Well};
 ghost use Rattle.closing.specs.Holding.{held, bare, chart, shape-in, kid-count, kid-in, site-of, row-of, how-many, holders-in, eqs-in, class-check, stray, checked, verdict-of, merge-each};
 ghost use Rattle.closing.specs.Growing.{Inside, Equates, JoinsKids, mate, Meets, SweptTo, Closed};
 ghost use Rattle.closing.specs.Meeting.{Reps, Unlike, ClashIs, BossTo, Seated};
-ghost use Rattle.closing.specs.Search.{Path, Ready, Safe, Over, Keeps, Visited, Visit, Extends, Marks, Lowest, WalksIs};
+ghost use Rattle.closing.specs.Search.{Path, Ready, Safe, Over, Keeps, Visited, Visit, Extends, Marks, Listed, Fresh, Searched, Told, Lower, LowestOf, AllNamed, Lowest, WalksIs};
 use classes::Joined;
 use kept::word;
 use paper::FIELDS;
@@ -482,64 +482,178 @@ fn visit_kids(
     t
 }
 
-// Whether a walk from the class of the root l returns to it.
+// Takes the marks of the first tail roots of queue away: there are no others.
+fn wipe(seen: &mut [u8; SITES], queue: &[u16; SITES], tail: usize)
+    requires { ⌜ Listed (now seen) (now queue) tail ⌝ }
+    ensures { λ _. ⌜ Fresh (now (seen .exit)) (now (queue .entry)) ⌝ }
+{
+    for k in 0..tail {
+        let z = wide(queue[k]);
+        seen[z] = 0;
+    }
+}
+
+// Whether a walk from the class of the root l returns to it. No marks are left in seen.
 fn returning(
     p: &[u16; SITES],
     boss: &[u16; SITES],
     rows: &[u16],
     words: &[u64],
     kids: &[u16],
+    seen: &mut [u8; SITES],
+    queue: &mut [u16; SITES],
     l: u16,
 ) -> bool
     requires { ⌜ Ready (now p) (now kids) ⌝ }
     requires { ⌜ l < max-sites ⌝ }
+    requires { ⌜ Fresh (now seen) (now queue) ⌝ }
     ensures { λ t. ⌜ (t ≡ true → Path (chart (now (rows .entry)) (now (words .entry)) (now (kids .entry))) (now (p .entry)) (now (boss .entry)) l l) × (t ≡ false → Path (chart (now (rows .entry)) (now (words .entry)) (now (kids .entry))) (now (p .entry)) (now (boss .entry)) l l → ⊥) ⌝ }
+    ensures { λ t. ⌜ Fresh (now (seen .exit)) (now (queue .exit)) ⌝ }
 {
     // a class without a holder leads nowhere
     if NEVER <= boss[wide(l)] {
         return false;
     }
-    let mut seen = [0u8; SITES];
-    let mut queue = [0u16; SITES];
-    let mut tail = visit_kids(p, boss, rows, words, kids, l, &mut seen, &mut queue, 0, l);
+    let mut tail = visit_kids(p, boss, rows, words, kids, l, seen, queue, 0, l);
     let mut head: usize = 0;
     while head < tail {
         let x = queue[head];
-        tail = visit_kids(
-            p,
-            boss,
-            rows,
-            words,
-            kids,
-            l,
-            &mut seen,
-            &mut queue,
-            tail,
-            x,
-        );
+        tail = visit_kids(p, boss, rows, words, kids, l, seen, queue, tail, x);
         head += 1;
     }
-    seen[wide(l)] != 0
+    let back = seen[wide(l)] != 0;
+    wipe(seen, queue, tail);
+    back
 }
 
-// The lowest site from whose class a walk returns, NEVER where there is none.
-fn endless(p: &[u16; SITES], boss: &[u16; SITES], rows: &[u16], words: &[u64], kids: &[u16]) -> u16
+// z, if it is below best and a walk from its class returns, or else best. In calm are the roots from which none does, so that each is searched once.
+// Unused numbers of a list are 0: they are passed over, and 0 is looked at by itself.
+fn lower(
+    p: &[u16; SITES],
+    boss: &[u16; SITES],
+    rows: &[u16],
+    words: &[u64],
+    kids: &[u16],
+    seen: &mut [u8; SITES],
+    queue: &mut [u16; SITES],
+    calm: &mut [u8; SITES],
+    best: u16,
+    z: u16,
+) -> u16
     requires { ⌜ Ready (now p) (now kids) ⌝ }
+    requires { ⌜ Searched (chart (now rows) (now words) (now kids)) (now p) (now boss) (now seen) (now queue) (now calm) ⌝ }
+    requires { ⌜ Told (chart (now rows) (now words) (now kids)) (now p) (now boss) best ⌝ }
+    ensures { λ r. ⌜ Searched (chart (now (rows .entry)) (now (words .entry)) (now (kids .entry))) (now (p .entry)) (now (boss .entry)) (now (seen .exit)) (now (queue .exit)) (now (calm .exit)) ⌝ }
+    ensures { λ r. ⌜ Lower (chart (now (rows .entry)) (now (words .entry)) (now (kids .entry))) (now (p .entry)) (now (boss .entry)) best z r ⌝ }
+{
+    if z == 0 {
+        return best;
+    }
+    if best <= z {
+        return best;
+    }
+    let l = classes::rep_in(p, z);
+    let i = wide(l);
+    if calm[i] != 0 {
+        return best;
+    }
+    if returning(p, boss, rows, words, kids, seen, queue, l) {
+        return z;
+    }
+    calm[i] = 1;
+    best
+}
+
+// The lowest of best and the numbers of xs, but 0, from whose class a walk returns.
+fn lowest_of(
+    p: &[u16; SITES],
+    boss: &[u16; SITES],
+    rows: &[u16],
+    words: &[u64],
+    kids: &[u16],
+    seen: &mut [u8; SITES],
+    queue: &mut [u16; SITES],
+    calm: &mut [u8; SITES],
+    xs: &[u16],
+    best: u16,
+) -> u16
+    requires { ⌜ Ready (now p) (now kids) ⌝ }
+    requires { ⌜ Searched (chart (now rows) (now words) (now kids)) (now p) (now boss) (now seen) (now queue) (now calm) ⌝ }
+    requires { ⌜ Told (chart (now rows) (now words) (now kids)) (now p) (now boss) best ⌝ }
+    ensures { λ r. ⌜ Searched (chart (now (rows .entry)) (now (words .entry)) (now (kids .entry))) (now (p .entry)) (now (boss .entry)) (now (seen .exit)) (now (queue .exit)) (now (calm .exit)) ⌝ }
+    ensures { λ r. ⌜ LowestOf (chart (now (rows .entry)) (now (words .entry)) (now (kids .entry))) (now (p .entry)) (now (boss .entry)) (now (xs .entry)) (length (now (xs .entry))) best r ⌝ }
+{
+    let mut r = best;
+    for k in 0..xs.len() {
+        let x = xs[k];
+        r = lower(p, boss, rows, words, kids, seen, queue, calm, r, x);
+    }
+    r
+}
+
+// As endless, in lent memory.
+fn lowest_named(
+    p: &[u16; SITES],
+    boss: &[u16; SITES],
+    eqs: &[u16],
+    sites: &[u16],
+    rows: &[u16],
+    words: &[u64],
+    kids: &[u16],
+    seen: &mut [u8; SITES],
+    queue: &mut [u16; SITES],
+    calm: &mut [u8; SITES],
+) -> u16
+    requires { ⌜ Ready (now p) (now kids) ⌝ }
+    requires { ⌜ AllNamed (now p) (now boss) (now eqs) (now sites) (now kids) ⌝ }
+    requires { ⌜ Searched (chart (now rows) (now words) (now kids)) (now p) (now boss) (now seen) (now queue) (now calm) ⌝ }
     ensures { λ z. ⌜ Lowest (chart (now (rows .entry)) (now (words .entry)) (now (kids .entry))) (now (p .entry)) (now (boss .entry)) z ⌝ }
 {
-    for z in 0..NEVER {
-        let l = classes::rep_in(p, z);
-        if returning(p, boss, rows, words, kids, l) {
-            return z;
-        }
+    let l = classes::rep_in(p, 0);
+    if returning(p, boss, rows, words, kids, seen, queue, l) {
+        return 0;
     }
-    NEVER
+    let a = lowest_of(p, boss, rows, words, kids, seen, queue, calm, sites, NEVER);
+    let b = lowest_of(p, boss, rows, words, kids, seen, queue, calm, eqs, a);
+    lowest_of(p, boss, rows, words, kids, seen, queue, calm, kids, b)
+}
+
+// The lowest site from whose class a walk returns, NEVER where there is none. A site whose class has a holder is 0 or a number of eqs, sites or kids.
+fn endless(
+    p: &[u16; SITES],
+    boss: &[u16; SITES],
+    eqs: &[u16],
+    sites: &[u16],
+    rows: &[u16],
+    words: &[u64],
+    kids: &[u16],
+) -> u16
+    requires { ⌜ Ready (now p) (now kids) ⌝ }
+    requires { ⌜ AllNamed (now p) (now boss) (now eqs) (now sites) (now kids) ⌝ }
+    ensures { λ z. ⌜ Lowest (chart (now (rows .entry)) (now (words .entry)) (now (kids .entry))) (now (p .entry)) (now (boss .entry)) z ⌝ }
+{
+    let mut seen = [0u8; SITES];
+    let mut queue = [0u16; SITES];
+    let mut calm = [0u8; SITES];
+    lowest_named(
+        p,
+        boss,
+        eqs,
+        sites,
+        rows,
+        words,
+        kids,
+        &mut seen,
+        &mut queue,
+        &mut calm,
+    )
 }
 
 // Check 6 of the classes of m holders.
 fn walks(
     p: &[u16; SITES],
     boss: &[u16; SITES],
+    eqs: &[u16],
     sites: &[u16],
     rows: &[u16],
     words: &[u64],
@@ -548,12 +662,13 @@ fn walks(
 ) -> Verdict
     requires { ⌜ Ready (now p) (now kids) ⌝ }
     requires { ⌜ Inside (now sites) ⌝ }
+    requires { ⌜ AllNamed (now p) (now boss) (now eqs) (now sites) (now kids) ⌝ }
     ensures { λ v. ⌜ WalksIs (held (now (sites .entry)) (now (rows .entry)) (now (words .entry)) (now (kids .entry))) (now (p .entry)) (now (boss .entry)) m v ⌝ }
 {
     if settled(p, boss, sites, rows, words, kids, m) {
         return Verdict::Passes;
     }
-    let z = endless(p, boss, rows, words, kids);
+    let z = endless(p, boss, eqs, sites, rows, words, kids);
     if z < NEVER {
         return Verdict::Refused(Refusal::Endless { site: z });
     }
@@ -653,7 +768,7 @@ fn judge(eqs: &[u16], sites: &[u16], rows: &[u16], words: &[u64], kids: &[u16]) 
     let c = conflict(&p, sites, rows, words, &mut boss, m);
     match c {
         Clash::At(s, t) => Verdict::Refused(Refusal::Unreachable { site: s, other: t }),
-        Clash::Nothing => walks(&p, &boss, sites, rows, words, kids, wide(m)),
+        Clash::Nothing => walks(&p, &boss, eqs, sites, rows, words, kids, wide(m)),
     }
 }
 

@@ -3,7 +3,7 @@ use borrow.Author.Needs.{needs}
 use native.Mathlib.Omega.{arith}
 use mathlib.Core.Path.{_≡_, refl}
 use Rattle.closing.specs.Holding.{held}
-use Rattle.closing.proofs.Judging.{start-well, reps-of, judge-clash, judge-walks}
+use Rattle.closing.proofs.Judging.{start-well, reps-of, judge-clash, judge-named, judge-walks}
 use Rattle.closing.proofs.judge.Statement.{statement}
 use Rattle.closing.proofs.judge.Tie as tie
 
@@ -37,7 +37,7 @@ wide-requires-2 c κs = tt
 
 walks-requires : tie.Need-walks-requires
 walks-requires c κs =
-    (record { reps = reps-of _ _ _ _ _ _ (c .before .before .before .before .before .before .before .before .close .ensures); inside = c .before .before .before .before .before .before .before .before .before .before .before .before .before .before .before .before .before .before .before .before .before .before .before .pre .1 .1 }, c .before .before .before .before .before .before .before .before .before .before .before .before .before .before .before .before .before .before .before .before .before .before .before .pre .1 .0)
+    (record { reps = reps-of _ _ _ _ _ _ (c .before .before .before .before .before .before .before .before .close .ensures); inside = c .before .before .before .before .before .before .before .before .before .before .before .before .before .before .before .before .before .before .before .before .before .before .before .pre .1 .1 }, (c .before .before .before .before .before .before .before .before .before .before .before .before .before .before .before .before .before .before .before .before .before .before .before .pre .1 .0, judge-named (held (c .before .before .before .before .before .before .before .before .before .before .before .before .before .before .before .before .before .before .before .before .before .before .before .args .sites .now) (c .before .before .before .before .before .before .before .before .before .before .before .before .before .before .before .before .before .before .before .before .before .before .before .args .rows .now) (c .before .before .before .before .before .before .before .before .before .before .before .before .before .before .before .before .before .before .before .before .before .before .before .args .words .now) (c .before .before .before .before .before .before .before .before .before .before .before .before .before .before .before .before .before .before .before .before .before .before .before .args .kids .now)) (c .before .before .before .before .before .before .before .before .before .before .before .before .before .before .before .before .before .before .before .before .before .before .before .args .eqs .now) _ _ _ (c .before .before .before .before .before .before .before .before .before .before .before .before .before .before .before .before .before .before .before .before .before .before .before .pre) (c .before .before .before .before .before .before .before .before .before .before .before .before .before .written .ensures) _ _ (c .before .before .before .before .before .before .before .before .before .before .before .before .before .before .before .before .before .most .ensures) (c .before .before .before .before .before .before .before .before .before .wide .ensures) _ _ _ (c .before .before .before .before .before .before .before .before .close .ensures) _ (c .before .before .before .before .before .conflict .ensures .1 (c .before .before .before .enum-told .given .1))))
 
 returns : tie.Need-returns
 returns c =
