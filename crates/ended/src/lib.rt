@@ -183,9 +183,8 @@ pub fn write_found(t: &[[u64; WORDS]; TERMS], e: Ended, room: &mut [u8], at: usi
     if room.len() - END_ROOM < at {
         return Room::Short;
     }
-    let table = *t;
     let recs = e.recs;
-    let list = recursion::findings(table, recs);
+    let list = recursion::findings(t, &recs);
     let n = list.count as usize;
     let terms = list.terms;
     let end = write_terms(&terms, n, room, at);

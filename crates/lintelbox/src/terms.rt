@@ -94,9 +94,7 @@ pub extern "C" fn lintel_cyclic_terms(
     if answer.len() < ANSWER {
         return SHORT;
     }
-    let t = *table;
-    let marks = *recs;
-    let l = recursion::findings(t, marks);
+    let l = recursion::findings(table, recs);
     let all = l.terms;
     put_terms(found, &all);
     say(answer, done(wide(l.count), 0))

@@ -9,10 +9,10 @@ use native.Mathlib.Omega.{arith}
 use native.Mathlib.Decide.{ℕ-discrete}
 use Rattle.paper.specs.Words.{keep, below, joined, Edges, Walk, one, more, returns}
 use Rattle.paper.specs.Walks.{returns-is}
-use Rattle.recursion.specs.Table.{terms, Square, marked, numbers, edges-in, Closure}
-use Rattle.recursion.specs.Loops.{pass, reach-to}
+use Rattle.recursion.specs.Table.{terms, Square, row, marked, numbers, edges-in, Closure}
+use Rattle.recursion.specs.Loops.{Unmarked-to, Unmarked, pass, reach-to}
 use Rattle.recursion.proofs.Lists.{no-way, mem-keep, in-below, Below, at, of-below, mem-numbers, in-joined, Within, of-list, of-joined, in-map, Mapped, mapped, of-map}
-use Rattle.recursion.proofs.Marks.{Whole, via, via-two, Passed, pass-law}
+use Rattle.recursion.proofs.Marks.{row-of, row-empty, via, via-two, Passed, pass-law}
 
 -- ---- the edges of a table
 
@@ -54,22 +54,17 @@ closed : ℕ → (ℕ → ℕ → Bool) → ℕ → ℕ → Bool
 closed zero e a b = e a b
 closed (suc n) e a b = via (closed n e) n a b
 
-reach-law : (n : ℕ) (t : Square) → Whole t → n * 2 ≤ terms
-    → Whole (reach-to n t) × ((a b : ℕ) → a < terms → b < terms → marked (reach-to n t) a b ≡ closed (n * 2) (marked t) a b)
+reach-law : (n : ℕ) (t : Square) → n * 2 ≤ terms → (a b : ℕ) → a < terms → b < terms → marked (reach-to n t) a b ≡ closed (n * 2) (marked t) a b
 unfolding reach-to closed
-reach-law zero t W l = (W, λ a b ha hb. refl)
-reach-law (suc n) t W l =
+reach-law zero t l a b ha hb = refl
+reach-law (suc n) t l a b ha hb =
     let m : suc n * 2 ≡ suc (suc (n * 2)) = omega arith in
-    let I = reach-law n t W (omega arith) in
-    let J = pass-law (reach-to n t) (n * 2) (I .0) (omega arith) in
+    let I = reach-law n t (omega arith) in
     let k : n * 2 < terms = omega arith in
-    let k′ : n * 2 + 1 < terms = omega arith in (
-      J .whole,
-      λ a b ha hb.
-          J .marks a b ha hb
-          ∙ simp (I .1 a b ha hb, I .1 a (n * 2) ha k, I .1 (n * 2) b k hb, I .1 a (n * 2 + 1) ha k′, I .1 (n * 2) (n * 2 + 1) k k′, I .1 (n * 2 + 1) b k′ hb, I .1 (n * 2 + 1) (n * 2) k′ k)
-          (twice (n * 2) a b ∙ ap (λ (v : ℕ). closed v (marked t) a b) (sym m)),
-    )
+    let k′ : n * 2 + 1 < terms = omega arith in
+    pass-law (reach-to n t) (n * 2) (omega arith) a b ha hb
+    ∙ simp (I a b ha hb, I a (n * 2) ha k, I (n * 2) b k hb, I a (n * 2 + 1) ha k′, I (n * 2) (n * 2 + 1) k k′, I (n * 2 + 1) b k′ hb, I (n * 2 + 1) (n * 2) k′ k)
+    (twice (n * 2) a b ∙ ap (λ (v : ℕ). closed v (marked t) a b) (sym m))
   where
     twice : (i a b : ℕ) → via-two (closed i (marked t)) i a b ≡ closed (suc (suc i)) (marked t) a b
     twice i a b = rw add-one refl
@@ -141,13 +136,25 @@ module _ (t : Square) where
   walk-closed {a} {b} (more {b = c} m w) =
       let E = of-edges t a c m in through (marked t) terms a c b (E .to) (kept (marked t) terms a c (E .mark)) (walk-closed w)
 
--- ---- what `reach` makes
+-- ---- what `close` makes
 
-pub reach-closes : (t : Square) → Whole t → Closure t (reach-to (terms / 2) t)
+pub reach-closes : (t : Square) → Closure t (reach-to (terms / 2) t)
 unfolding Closure
-reach-closes t W a b ha hb =
-    let e = reach-law (terms / 2) t W (omega arith) .1 a b ha hb in
+reach-closes t a b ha hb =
+    let e = reach-law (terms / 2) t (omega arith) a b ha hb in
     (λ h. closed-walk t terms a b (omega arith) ha hb (sym e ∙ h), λ w. e ∙ walk-closed t w)
+
+-- a table without edges is closed
+pub unmarked-closed : (t : Square) → Unmarked t → Closure t t
+unfolding Closure Unmarked-to
+unmarked-closed t N a b ha hb = (λ m. no-way (sym m ∙ none a b ha hb), λ w. no-way (out w))
+  where
+    none : (x y : ℕ) → x < terms → y < terms → marked t x y ≡ false
+    none x y hx hy = sym (row-of t x y) ∙ row-empty (row t x) y (N x hx) hy
+
+    out : {x : ℕ} → Walk (edges-in t) x b → true ≡ false
+    out {x} (one m) = let E = of-edges t x b m in sym (E .mark) ∙ none x b (E .from) (E .to)
+    out {x} (more {b = c} m w) = let E = of-edges t x c m in sym (E .mark) ∙ none x c (E .from) (E .to)
 
 -- two tests that hold together are equal
 pub same-test : (x y : Bool) → (x ≡ true → y ≡ true) → (y ≡ true → x ≡ true) → x ≡ y

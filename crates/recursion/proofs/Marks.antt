@@ -52,6 +52,14 @@ put-row r j b l hj hb = go (ℕ-discrete (b / 64) (j / 64)) (ℕ-discrete b j)
         let q : eqb b j ≡ false = ne-eqb b j (λ o. n (ap (λ (v : ℕ). v / 64) o)) in
         ap (λ (v : ℕ). bit v (b % 64)) (getD-set-other r (j / 64) (b / 64) w 0 n) ∙ sym (ap (λ (x : Bool). bit (getD r (b / 64) 0) (b % 64) || x) q ∙ or-false _)
 
+set-marks : (t : Square) (i : ℕ) → i < length t → (r : List ℕ) (a b : ℕ) → marked (set t i r) a b ≡ (if eqb a i then in-row r b else marked t a b)
+unfolding marked
+set-marks t i l r a b = go (ℕ-discrete a i)
+  where
+    go : Dec (a ≡ i) → in-row (row (set t i r) a) b ≡ (if eqb a i then in-row r b else in-row (row t a) b)
+    go (yes e) = simp (eq-eqb a i e) (ap (λ (x : List ℕ). in-row x b) (ap (row (set t i r)) e ∙ getD-set-same t i r [] l))
+    go (no d) = simp (ne-eqb a i d) (ap (λ (x : List ℕ). in-row x b) (getD-set-other t i a r [] d))
+
 module _ (t : Square) (W : Whole t) (i : ℕ) (hi : i < terms) where
   set-whole : (r : List ℕ) → length r ≡ words → Whole (set t i r)
   set-whole r l = record { rows = length-set t i r ∙ W .rows; words = λ a h. go a h (ℕ-discrete a i) }
@@ -60,21 +68,13 @@ module _ (t : Square) (W : Whole t) (i : ℕ) (hi : i < terms) where
       go a h (yes e) = ap length (ap (row (set t i r)) e ∙ getD-set-same t i r [] (omega (arith, W .rows))) ∙ l
       go a h (no d) = ap length (getD-set-other t i a r [] d) ∙ W .words a h
 
-  set-marks : (r : List ℕ) (a b : ℕ) → marked (set t i r) a b ≡ (if eqb a i then in-row r b else marked t a b)
-  unfolding marked
-  set-marks r a b = go (ℕ-discrete a i)
-    where
-      go : Dec (a ≡ i) → in-row (row (set t i r) a) b ≡ (if eqb a i then in-row r b else in-row (row t a) b)
-      go (yes e) = simp (eq-eqb a i e) (ap (λ (x : List ℕ). in-row x b) (ap (row (set t i r)) e ∙ getD-set-same t i r [] (omega (arith, W .rows))))
-      go (no d) = simp (ne-eqb a i d) (ap (λ (x : List ℕ). in-row x b) (getD-set-other t i a r [] d))
-
   pub put-whole : (j : ℕ) → Whole (with-mark t i j)
   unfolding with-mark row-with
   put-whole j = set-whole (row-with (row t i) j) (length-set (row t i) (j / 64) _ ∙ W .words i hi)
 
   pub put-marks : (j a b : ℕ) → j < terms → b < terms → marked (with-mark t i j) a b ≡ (marked t a b || (eqb a i && eqb b j))
   unfolding with-mark marked
-  put-marks j a b hj hb = set-marks (row-with (row t i) j) a b ∙ go (ℕ-discrete a i)
+  put-marks j a b hj hb = set-marks t i (omega (arith, W .rows)) (row-with (row t i) j) a b ∙ go (ℕ-discrete a i)
     where
       go : Dec (a ≡ i) → (if eqb a i then in-row (row-with (row t i) j) b else marked t a b) ≡ (marked t a b || (eqb a i && eqb b j))
       go (yes e) = simp (eq-eqb a i e) (put-row (row t i) j b (W .words i hi) hj hb ∙ ap (λ (y : ℕ). in-row (row t y) b || eqb b j) (sym e))
@@ -94,9 +94,16 @@ pub none-marks : (a b : ℕ) → a < terms → b < terms → marked no-edges a b
 unfolding marked no-edges
 none-marks a b h k = ap (λ (r : List ℕ). in-row r b) (getD-replicate terms a no-marks [] h) ∙ none-row b k
 
-row-of : (t : Square) (a b : ℕ) → in-row (row t a) b ≡ marked t a b
+pub row-of : (t : Square) (a b : ℕ) → in-row (row t a) b ≡ marked t a b
 unfolding marked
 row-of t a b = refl
+
+-- what has a mark is one of the table's rows, however many those are: what lies behind a reference tells no length
+row-there : (t : Square) (a b : ℕ) → marked t a b ≡ true → a < length t
+unfolding marked in-row
+row-there [] a b m = no-way (sym m ∙ zero-bit (b % 64))
+row-there (r ∷ t) zero b m = omega arith
+row-there (r ∷ t) (suc a) b m = let l = row-there t a b m in omega arith
 
 -- ---- two rows together
 
@@ -111,10 +118,6 @@ word-both x y (suc (suc (suc (suc q)))) h = absurd (omega arith)
 pub both-row : (x y : List ℕ) (b : ℕ) → b < terms → in-row (both-of x y) b ≡ (in-row x b || in-row y b)
 unfolding in-row
 both-row x y b h = ap (λ (v : ℕ). bit v (b % 64)) (word-both x y (b / 64) (omega arith)) ∙ or-bit (getD x (b / 64) 0) (getD y (b / 64) 0) (b % 64)
-
-both-words : (x y : List ℕ) → length (both-of x y) ≡ words
-unfolding both-of
-both-words x y = refl
 
 word-zero : (r : List ℕ) (q : ℕ) → has-some r ≡ false → q < words → getD r q 0 ≡ 0
 unfolding has-some
@@ -193,9 +196,8 @@ nothing false true false = refl
 nothing false false true = refl
 nothing false false false = refl
 
-pub record Through (n : ℕ) (t u : Square) (k : ℕ) : Type 0 where
-  pub whole : Whole u
-  pub marks : (a b : ℕ) → b < terms → marked u a b ≡ (if ltb a n then via-two (marked t) k a b else marked t a b)
+abbrev pub Through : ℕ → Square → Square → ℕ → Type 0
+Through n t u k = (a b : ℕ) → b < terms → marked u a b ≡ (if ltb a n then via-two (marked t) k a b else marked t a b)
 
 -- what row i is joined by
 record Rows (t : Square) (k : ℕ) (one other two : List ℕ) : Type 0 where
@@ -205,11 +207,11 @@ record Rows (t : Square) (k : ℕ) (one other two : List ℕ) : Type 0 where
 
 module _ (n : ℕ) (t u : Square) (k : ℕ) (one other two : List ℕ) (R : Rows t k one other two) (I : Through n t u k) (hn : n < terms) (hk : k + 1 < terms) where
   own-row : (b : ℕ) → b < terms → marked u n b ≡ marked t n b
-  own-row b h = I .marks n b h ∙ simp (le-ltb n n (omega arith))
+  own-row b h = I n b h ∙ simp (le-ltb n n (omega arith))
 
   -- the rows but n
   rest : (a b : ℕ) → b < terms → (a ≡ n → ⊥) → marked u a b ≡ (if ltb a (suc n) then via-two (marked t) k a b else marked t a b)
-  rest a b h d = I .marks a b h ∙ go (decLt a n)
+  rest a b h d = I a b h ∙ go (decLt a n)
     where
       go : Dec (a < n) → (if ltb a n then via-two (marked t) k a b else marked t a b) ≡ (if ltb a (suc n) then via-two (marked t) k a b else marked t a b)
       go (yes l) = simp (lt-ltb a n l, lt-ltb a (suc n) (omega arith))
@@ -219,22 +221,19 @@ module _ (n : ℕ) (t u : Square) (k : ℕ) (one other two : List ℕ) (R : Rows
   at-n v a b e q = simp (lt-ltb a (suc n) (omega arith)) (subst⁻¹ (λ (y : ℕ). marked v y b ≡ via-two (marked t) k y b) e q)
 
   -- a row that joins row n
-  join-marks : (r : List ℕ) (b : ℕ) → b < terms → marked (join-at u n r) n b ≡ (marked t n b || in-row r b)
+  join-marks : n < length u → (r : List ℕ) (b : ℕ) → b < terms → marked (join-at u n r) n b ≡ (marked t n b || in-row r b)
   unfolding join-at
-  join-marks r b h =
-      set-marks u (I .whole) n hn (both-of (row u n) r) n b
+  join-marks l r b h =
+      set-marks u n l (both-of (row u n) r) n b
       ∙ simp (eq-eqb n n refl) (both-row (row u n) r b h ∙ ap (λ (x : Bool). x || in-row r b) (row-of u n b ∙ own-row b h))
 
-  joins : (r : List ℕ) → ((b : ℕ) → b < terms → (marked t n b || in-row r b) ≡ via-two (marked t) k n b) → Through (suc n) t (join-at u n r) k
+  joins : n < length u → (r : List ℕ) → ((b : ℕ) → b < terms → (marked t n b || in-row r b) ≡ via-two (marked t) k n b) → Through (suc n) t (join-at u n r) k
   unfolding join-at
-  joins r f = record {
-    whole = set-whole u (I .whole) n hn (both-of (row u n) r) (both-words _ _);
-    marks = λ a b h. by a b h (ℕ-discrete a n);
-  }
+  joins l r f a b h = by a b h (ℕ-discrete a n)
     where
       by : (a b : ℕ) → b < terms → Dec (a ≡ n) → marked (join-at u n r) a b ≡ (if ltb a (suc n) then via-two (marked t) k a b else marked t a b)
-      by a b h (yes o) = at-n (join-at u n r) a b o (join-marks r b h ∙ f b h)
-      by a b h (no d) = set-marks u (I .whole) n hn (both-of (row u n) r) a b ∙ simp (ne-eqb a n d) (rest a b h d)
+      by a b h (yes o) = at-n (join-at u n r) a b o (join-marks l r b h ∙ f b h)
+      by a b h (no d) = set-marks u n l (both-of (row u n) r) a b ∙ simp (ne-eqb a n d) (rest a b h d)
 
   step : Through (suc n) t (join-by u n k one other two) k
   unfolding join-by
@@ -243,12 +242,12 @@ module _ (n : ℕ) (t u : Square) (k : ℕ) (one other two : List ℕ) (R : Rows
       go : (p : Bool) → marked u n k ≡ p → (q : Bool) → marked u n (k + 1) ≡ q
           → Through (suc n) t (if p then (if q then join-at u n two else join-at u n one) else (if q then join-at u n other else u)) k
       go true p true q =
-          joins two (λ b h. simp (R .two-is b h, sym (own-row k (omega arith)) ∙ p, sym (own-row (k + 1) hk) ∙ q) (each (marked t n b) (marked t k b) (marked t (k + 1) b) (marked t k (k + 1)) (marked t (k + 1) k)))
+          joins (row-there u n k p) two (λ b h. simp (R .two-is b h, sym (own-row k (omega arith)) ∙ p, sym (own-row (k + 1) hk) ∙ q) (each (marked t n b) (marked t k b) (marked t (k + 1) b) (marked t k (k + 1)) (marked t (k + 1) k)))
       go true p false q =
-          joins one (λ b h. simp (R .one-is b h, sym (own-row k (omega arith)) ∙ p, sym (own-row (k + 1) hk) ∙ q) (first (marked t n b) (marked t k b) (marked t (k + 1) b) (marked t k (k + 1)) (marked t (k + 1) k)))
+          joins (row-there u n k p) one (λ b h. simp (R .one-is b h, sym (own-row k (omega arith)) ∙ p, sym (own-row (k + 1) hk) ∙ q) (first (marked t n b) (marked t k b) (marked t (k + 1) b) (marked t k (k + 1)) (marked t (k + 1) k)))
       go false p true q =
-          joins other (λ b h. simp (R .other-is b h, sym (own-row k (omega arith)) ∙ p, sym (own-row (k + 1) hk) ∙ q) (second (marked t n b) (marked t k b) (marked t (k + 1) b) (marked t k (k + 1)) (marked t (k + 1) k)))
-      go false p false q = record { whole = I .whole; marks = λ a b h. by a b h (ℕ-discrete a n) }
+          joins (row-there u n (k + 1) q) other (λ b h. simp (R .other-is b h, sym (own-row k (omega arith)) ∙ p, sym (own-row (k + 1) hk) ∙ q) (second (marked t n b) (marked t k b) (marked t (k + 1) b) (marked t k (k + 1)) (marked t (k + 1) k)))
+      go false p false q = λ a b h. by a b h (ℕ-discrete a n)
         where
           by : (a b : ℕ) → b < terms → Dec (a ≡ n) → marked u a b ≡ (if ltb a (suc n) then via-two (marked t) k a b else marked t a b)
           by a b h (yes o) =
@@ -257,11 +256,11 @@ module _ (n : ℕ) (t u : Square) (k : ℕ) (one other two : List ℕ) (R : Rows
               ∙ simp (sym (own-row k (omega arith)) ∙ p, sym (own-row (k + 1) hk) ∙ q) (neither (marked t n b) (marked t k b) (marked t (k + 1) b) (marked t k (k + 1)) (marked t (k + 1) k)))
           by a b h (no d) = rest a b h d
 
-join-law : (n : ℕ) (t : Square) (k : ℕ) (one other two : List ℕ) → Rows t k one other two → Whole t → n ≤ terms → k + 1 < terms → Through n t (join-to n t k one other two) k
+join-law : (n : ℕ) (t : Square) (k : ℕ) (one other two : List ℕ) → Rows t k one other two → n ≤ terms → k + 1 < terms → Through n t (join-to n t k one other two) k
 unfolding join-to
-join-law zero t k one other two R W l h = record { whole = W; marks = λ a b g. simp (le-ltb a 0 (omega arith)) }
-join-law (suc n) t k one other two R W l h =
-    step n t (join-to n t k one other two) k one other two R (join-law n t k one other two R W (omega arith) h) l h
+join-law zero t k one other two R l h = λ a b g. simp (le-ltb a 0 (omega arith))
+join-law (suc n) t k one other two R l h =
+    step n t (join-to n t k one other two) k one other two R (join-law n t k one other two R (omega arith) h) l h
 
 module _ (t : Square) (k : ℕ) (hk : k + 1 < terms) where
   abbrev two-rows : List ℕ
@@ -288,20 +287,19 @@ module _ (t : Square) (k : ℕ) (hk : k + 1 < terms) where
       parts true y q = no-way q
       parts false y q = (refl, q)
 
-pub record Passed (t u : Square) (k : ℕ) : Type 0 where
-  pub whole : Whole u
-  pub marks : (a b : ℕ) → a < terms → b < terms → marked u a b ≡ via-two (marked t) k a b
+abbrev pub Passed : Square → Square → ℕ → Type 0
+Passed t u k = (a b : ℕ) → a < terms → b < terms → marked u a b ≡ via-two (marked t) k a b
 
-pub pass-law : (t : Square) (k : ℕ) → Whole t → k + 1 < terms → Passed t (pass t k) k
+pub pass-law : (t : Square) (k : ℕ) → k + 1 < terms → Passed t (pass t k) k
 unfolding pass
-pass-law t k W h = go (has-some (two-rows t k h)) refl
+pass-law t k h = go (has-some (two-rows t k h)) refl
   where
     go : (m : Bool) → has-some (two-rows t k h) ≡ m
         → Passed t (if m then join-to terms t k (widen (row t k) (k + 1) (two-rows t k h)) (widen (row t (k + 1)) k (two-rows t k h)) (two-rows t k h) else t) k
     go true e =
-        let J = join-law terms t k _ _ _ (rows t k h) W (omega arith) h in
-        record { whole = J .whole; marks = λ a b ha hb. J .marks a b hb ∙ simp (lt-ltb a terms ha) }
-    go false e = record { whole = W; marks = λ a b ha hb. by a b hb }
+        let J = join-law terms t k _ _ _ (rows t k h) (omega arith) h in
+        λ a b ha hb. J a b hb ∙ simp (lt-ltb a terms ha)
+    go false e = λ a b ha hb. by a b hb
       where
         by : (a b : ℕ) → b < terms → marked t a b ≡ via-two (marked t) k a b
         by a b hb =

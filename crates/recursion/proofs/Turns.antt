@@ -4,6 +4,7 @@ use mathlib.Core.Bool.{Bool, true, false, _&&_, not}
 use mathlib.Core.List.{List, [], _∷_}
 use Prim.Native.Nat.{ℕ, zero, suc, _+_, _*_, _/_, _%_, _^_, _≤_, _<_}
 use native.Mathlib.Omega.{arith}
+use native.Mathlib.Decide.{ℕ-discrete}
 use native.Mathlib.Numerals.{add-one}
 use native.Mathlib.Nat.{one-mul}
 use lib.ListN.{getD, set}
@@ -17,7 +18,7 @@ use Rattle.paper.specs.declared.Refusal.the-variants.{TermTooHigh}
 use Rattle.recursion.specs.declared.Added.the-variants as Added-is
 use Rattle.recursion.specs.declared.Asked.the-variants as Asked-is
 use Rattle.recursion.specs.Table.{terms, Square, row, in-row, marked, row-with, with-mark, edges-in, if-term, with-edge, with-term, has-edge, is-cyclic, left, bare, added, asked}
-use Rattle.recursion.specs.Loops.{both-of, has-some, join-at, join-by, join-to, widen, pass, reach-to, on-diagonal}
+use Rattle.recursion.specs.Loops.{both-of, has-some, Unmarked-to, join-at, join-by, join-to, widen, pass, reach-to, on-diagonal}
 
 -- ---- a mark, read and written
 
@@ -169,6 +170,18 @@ module _ (t : Square) (k : ℕ) where
 pub reach-turn : (t₀ t u : Square) (n : ℕ) → t ≡ reach-to n t₀ → u ≡ pass t (n * 2) → u ≡ reach-to (n + 1) t₀
 unfolding reach-to
 reach-turn t₀ t u n q e = rw (add-one, ← q) e
+
+pub unmarked-none : (t : Square) → Unmarked-to 0 t
+unfolding Unmarked-to
+unmarked-none t a h = absurd (omega arith)
+
+pub unmarked-turn : (t : Square) (n : ℕ) → Unmarked-to n t → has-some (row t n) ≡ false → Unmarked-to (n + 1) t
+unfolding Unmarked-to
+unmarked-turn t n N m a h = go (ℕ-discrete a n)
+  where
+    go : Dec (a ≡ n) → has-some (row t a) ≡ false
+    go (yes e) = rw e m
+    go (no d) = N a (omega arith)
 
 pub diagonal-in : (t : Square) (but : List ℕ) (i : ℕ) {x : Bool} → marked t i i ≡ true → x ≡ in-row but i → not x ≡ on-diagonal t but i
 unfolding on-diagonal

@@ -1,7 +1,8 @@
 -- What the loops make, by count. The private functions' contracts cite these; the public ones say what they mean.
+use mathlib.Core.Path.{_≡_}
 use mathlib.Core.Bool.{Bool, true, false, _&&_, not}
 use mathlib.Core.List.{List, [], _∷_}
-use Prim.Native.Nat.{ℕ, zero, suc, _+_, _*_}
+use Prim.Native.Nat.{ℕ, zero, suc, _+_, _*_, _<_}
 use lib.ListN.{getD, set}
 use lib.Dec.{eqb}
 use lib.Bits.{bitOr}
@@ -15,6 +16,13 @@ both-of a b =
 
 unfoldable pub has-some : List ℕ → Bool
 has-some r = not (eqb (bitOr (bitOr (bitOr (getD r 0 0) (getD r 1 0)) (getD r 2 0)) (getD r 3 0)) 0)
+
+-- no row has a mark; of the first n rows
+unfoldable pub Unmarked-to : ℕ → Square → Type 0
+Unmarked-to n t = (a : ℕ) → a < n → has-some (row t a) ≡ false
+
+abbrev pub Unmarked : Square → Type 0
+Unmarked t = Unmarked-to terms t
 
 -- r joins row i
 unfoldable pub join-at : Square → ℕ → List ℕ → Square

@@ -4,9 +4,10 @@
 use paper::Refusal;
 use paper::TERMS;
 ghost use mathlib.Core.Path.{_≡_};
+ghost use mathlib.Core.Bool.{false};
 ghost use Prim.Native.Nat.{_+_, _<_};
 ghost use Rattle.recursion.specs.Table.{terms, in-row, marked, no-edges, with-edge, with-term, has-edge, is-cyclic, left, bare, Closure, cyclic-terms, unflagged, added, asked, listed};
-ghost use Rattle.recursion.specs.Loops.{both-of, has-some, join-at, join-by, join-to, widen, pass, on-diagonal, list-to};
+ghost use Rattle.recursion.specs.Loops.{both-of, has-some, Unmarked, join-at, join-by, join-to, widen, pass, on-diagonal, list-to};
 
 // The words of a row, 64 marks to a word.
 pub const WORDS: usize = TERMS / 64;
@@ -190,26 +191,33 @@ fn through(t: &mut [[u64; WORDS]; TERMS], k: usize)
     }
 }
 
+// The table becomes that of who reaches whom. In place, since a copy is 8 KB.
+fn close(t: &mut [[u64; WORDS]; TERMS])
+    ensures { λ _. ⌜ Closure (now (t .entry)) (now (t .exit)) ⌝ }
+{
+    for h in 0..TERMS / 2 {
+        through(t, h * 2);
+    }
+}
+
 // Who reaches whom by a walk of one or more edges.
 pub fn reach(mut t: [[u64; WORDS]; TERMS]) -> [[u64; WORDS]; TERMS]
     ensures { λ r. ⌜ Closure t r ⌝ }
 {
-    for h in 0..TERMS / 2 {
-        through(&mut t, h * 2);
-    }
+    close(&mut t);
     t
 }
 
 // Whether a walk of one or more edges returns to a term.
-pub fn cyclic(t: [[u64; WORDS]; TERMS], term: u16) -> Asked
+pub fn cyclic(mut t: [[u64; WORDS]; TERMS], term: u16) -> Asked
     ensures { λ r. ⌜ asked r ≡ is-cyclic t term ⌝ }
 {
     let a = term as usize;
     if a >= TERMS {
         return Asked::Refused(Refusal::TermTooHigh { asked: term as u32 });
     }
-    let u = reach(t);
-    Asked::Answer(has(&u, a, a))
+    close(&mut t);
+    Asked::Answer(has(&t, a, a))
 }
 
 // Whether term i reaches itself and is not among the others.
@@ -239,18 +247,35 @@ fn list(t: &[[u64; WORDS]; TERMS], but: &[u64; WORDS]) -> Listed
 }
 
 // The cyclic terms.
-pub fn cyclic_terms(t: [[u64; WORDS]; TERMS]) -> Listed
+pub fn cyclic_terms(mut t: [[u64; WORDS]; TERMS]) -> Listed
     ensures { λ r. ⌜ r ≡ listed (cyclic-terms t) ⌝ }
 {
-    let u = reach(t);
+    close(&mut t);
     let none = [0u64; WORDS];
-    list(&u, &none)
+    list(&t, &none)
 }
 
-// The cyclic terms without rec, where `recs` marks the terms with rec.
-pub fn findings(t: [[u64; WORDS]; TERMS], recs: [u64; WORDS]) -> Listed
-    ensures { λ r. ⌜ r ≡ listed (unflagged t recs) ⌝ }
+// Whether a table has an edge.
+fn has_edges(t: &[[u64; WORDS]; TERMS]) -> bool
+    ensures { λ b. ⌜ (b ≡ false → Unmarked (now (t .entry))) ⌝ }
 {
-    let u = reach(t);
-    list(&u, &recs)
+    for i in 0..TERMS {
+        let r = t[i];
+        if has_some(r) {
+            return true;
+        }
+    }
+    false
+}
+
+// The cyclic terms without rec, where `recs` marks the terms with rec. The table is copied once, and not at all where no edge runs.
+pub fn findings(t: &[[u64; WORDS]; TERMS], recs: &[u64; WORDS]) -> Listed
+    ensures { λ r. ⌜ r ≡ listed (unflagged (now (t .entry)) (now (recs .entry))) ⌝ }
+{
+    if has_edges(t) {
+        let mut u = *t;
+        close(&mut u);
+        return list(&u, recs);
+    }
+    list(t, recs)
 }

@@ -5,15 +5,15 @@ use Rattle.recursion.proofs.Answers.{cyclic-listed}
 use Rattle.recursion.proofs.cyclic_terms.Statement.{statement}
 use Rattle.recursion.proofs.cyclic_terms.Tie as tie
 
-reach-requires : tie.Need-reach-requires
-reach-requires c κs = search needs
+close-requires : tie.Need-close-requires
+close-requires c κs = search needs
 
 list-requires : tie.Need-list-requires
 list-requires c κs = search needs
 
 returns : tie.Need-returns
 unfolding no-marks
-returns c = c .list .ensures ∙ ap listed (cyclic-listed _ _ (c .before .before .before .reach .ensures))
+returns c = c .list .ensures ∙ ap listed (cyclic-listed _ _ (c .before .before .before .close .ensures))
 
 pub cyclic-terms-spec : {M : Type 1} → statement M
-cyclic-terms-spec = tie.close (tie.spec reach-requires list-requires returns)
+cyclic-terms-spec = tie.close (tie.spec close-requires list-requires returns)

@@ -41,7 +41,7 @@ same-length-2 : tie.Need-same-length-2
 same-length-2 c = search needs
 
 returns-3 : tie.Need-returns-3
-returns-3 c = (past _ _ _ _ _ (enough _ _ (c .before .before .before .before .before .before .before .before .before .before .before .before .before .before .before .before .if1 .left)) (via _ _ _ _ _ (c .before .before .say .ensures) (done-as _ _ _ _ _ (c .before .before .before .done .ensures) (c .before .before .before .before .wide .ensures ∙ ap (λ (l : Listed). l .count) (c .before .before .before .before .before .before .before .before .before .before .before .before .findings .ensures) ∙ listed-count _) refl)), went _ _ _ _ (both-yes _ _ (enough _ _ (c .before .before .before .before .before .before .before .before .before .before .before .before .before .before .before .before .if1 .left)) (enough _ _ (c .before .before .before .before .before .before .before .before .before .before .before .before .before .before .before .if2 .left))) (c .before .before .before .before .before .before .before .before .put-terms .ensures ∙ ap (λ (l : Listed). l .terms ++ drop terms (now (c .before .before .before .before .before .before .before .before .before .before .before .before .before .before .before .before .before .before .before .args .found))) (c .before .before .before .before .before .before .before .before .before .before .before .before .findings .ensures)))
+returns-3 c = (past _ _ _ _ _ (enough _ _ (c .before .before .before .before .before .before .before .before .before .before .before .before .before .before .if1 .left)) (via _ _ _ _ _ (c .before .before .say .ensures) (done-as _ _ _ _ _ (c .before .before .before .done .ensures) (c .before .before .before .before .wide .ensures ∙ ap (λ (l : Listed). l .count) (c .before .before .before .before .before .before .before .before .before .before .before .before .findings .ensures) ∙ listed-count _) refl)), went _ _ _ _ (both-yes _ _ (enough _ _ (c .before .before .before .before .before .before .before .before .before .before .before .before .before .before .if1 .left)) (enough _ _ (c .before .before .before .before .before .before .before .before .before .before .before .before .before .if2 .left))) (c .before .before .before .before .before .before .before .before .put-terms .ensures ∙ ap (λ (l : Listed). l .terms ++ drop terms (now (c .before .before .before .before .before .before .before .before .before .before .before .before .before .before .before .before .before .args .found))) (c .before .before .before .before .before .before .before .before .before .before .before .before .findings .ensures)))
 
 pub lintel-cyclic-terms-spec : {M : Type 1} → statement M
 lintel-cyclic-terms-spec =

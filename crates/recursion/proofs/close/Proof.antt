@@ -5,9 +5,8 @@ use Rattle.recursion.specs.Table.{terms}
 use Rattle.recursion.specs.Loops.{reach-to}
 use Rattle.recursion.proofs.Turns.{reach-turn}
 use Rattle.recursion.proofs.Closing.{reach-closes}
-use Rattle.recursion.proofs.Shape.{stored-of}
-use Rattle.recursion.proofs.reach.Statement.{statement}
-use Rattle.recursion.proofs.reach.Tie as tie
+use Rattle.recursion.proofs.close.Statement.{statement}
+use Rattle.recursion.proofs.close.Tie as tie
 
 abbrev Inv-loop : tie.InvT-loop
 Inv-loop t₀ h₀ t h = (h ≤ terms / 2) × (t ≡ reach-to h t₀)
@@ -35,10 +34,10 @@ loop-again : tie.Need-loop-again Inv-loop μ-loop
 loop-again c = (omega arith, reach-turn _ _ _ _ (c .before .before .before .loop .inv .1) (c .through .ensures))
 
 returns : tie.Need-returns Inv-loop μ-loop
-returns c = let l = c .before .loop in let e : l .h ≡ terms / 2 = omega arith in rw (l .inv .1, e) (reach-closes _ (stored-of _ _ (c .before .before .good .0) .whole))
+returns c = let l = c .before .loop in let e : l .h ≡ terms / 2 = omega arith in rw (l .inv .1, e) (reach-closes _)
 
-pub reach-spec : {M : Type 1} → statement M
-reach-spec =
+pub close-spec : {M : Type 1} → statement M
+close-spec =
     tie.close
     (tie.spec
     Inv-loop
