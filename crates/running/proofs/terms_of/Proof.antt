@@ -1,4 +1,4 @@
--- `running::terms_of` is safe and ends. Assumes nothing.
+use Rattle.running.proofs.Laws.{first-there, part-past}
 use mathlib.Core.Path.{sym}
 use lib.Seq.{length-take-le}
 use borrow.Author.Needs.{needs}
@@ -11,13 +11,13 @@ slice-aggregate-result : tie.Need-slice-aggregate-result
 slice-aggregate-result c = sym (length-take-le _ _ (c .before .if1 .taken))
 
 returns : tie.Need-returns
-returns c = search needs
+returns c = first-there _ _ (c .before .if1 .taken)
 
 slice-aggregate-result-2 : tie.Need-slice-aggregate-result-2
 slice-aggregate-result-2 c = search needs
 
 returns-2 : tie.Need-returns-2
-returns-2 c = search needs
+returns-2 c = part-past _ _ _ (c .before .if1 .left)
 
 pub terms-of-spec : {M : Type 1} → statement M
 terms-of-spec =

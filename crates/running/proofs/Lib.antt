@@ -1,0 +1,4 @@
+pub mod Laws
+pub mod TakenLaws
+pub mod InOrder
+pub mod Sheet
