@@ -193,22 +193,6 @@ pub rule-written : (ws : List ℕ) (p q n : ℕ) → written (rule-in ws p q n) 
 unfolding rule-in
 rule-written ws p q n = rw (held-few ws n)
 
--- ---- the loop
-pub entries-none : (ws : List ℕ) → replicate max-items (record { item = Equal 0 0 }) ≡ entries-in ws 0
-unfolding entries-in
-entries-none ws = refl
-
-pub entries-turn : (ws : List ℕ) (k : ℕ) (es : List Entry) (i : Item) → es ≡ entries-in ws k → i ≡ item-at ws k → set es k (record { item = i }) ≡ entries-in ws (k + 1)
-unfolding entries-in
-entries-turn ws k es i e f = rw (add-one, e, f, entries-in)
-
-pub entries-long : (ws : List ℕ) (k : ℕ) (es : List Entry) → es ≡ entries-in ws k → length es ≡ max-items
-entries-long ws k es e = ap length e ∙ entries-length ws k
-
-pub entries-done : (ws : List ℕ) (p q n m k : ℕ) (es : List Entry) → m ≡ min n max-items → k ≤ m → m ≤ k → es ≡ entries-in ws k → _≡_ {A = Rule} (record { place = p; priority = q; count = n; entries = es }) (rule-in ws p q n)
-unfolding rule-in
-entries-done ws p q n m k es e l g f = let z : k ≡ min n max-items = omega arith in rw (f, z)
-
 -- ---- what the types say
 module _ (x : Constraint) (t v n : ℕ) where
   pub in-variant : x ≡ Variant t v n → t < 65536 → v < 65536 → n < 256 → InRange x

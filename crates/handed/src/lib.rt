@@ -1,18 +1,16 @@
-// A rule while its items come in, a line each: the items as words of lent memory, and the rule that is handed over when the last is there.
+// A rule while its items come in, a line each: the items as words of lent memory, in which the rule is handed over when the last is there.
 ghost use mathlib.Core.Path.{_≡_};
-ghost use Prim.Native.Nat.{ℕ, _+_, _*_, _≤_, _<_, min};
+ghost use Prim.Native.Nat.{ℕ, _+_, _*_, _≤_, _<_};
 ghost use lib.ListN.{length, getD, set};
 ghost use Rattle.kept.specs.Stored.{put-four};
 ghost use Rattle.kept.specs.Packing.{InRange};
-ghost use Rattle.handed.specs.Items.{Ranged, put-words, put-item, item-at, rule-in};
+ghost use Rattle.handed.specs.Items.{Ranged, put-words, put-item, item-at};
 use kept::pack;
 use kept::unpack;
 use kept::word;
 use paper::Constraint;
-use paper::Entry;
 use paper::ITEMS;
 use paper::Item;
-use paper::Rule;
 
 // Words that an item takes: its first site, and the three words of its constraint or its second site.
 pub const ITEM: usize = 4;
@@ -115,34 +113,5 @@ pub fn item_at(words: &[u64], k: u8) -> Item
     Item::Equal {
         one: (a % 65536) as u16,
         other: (word(words, at + 1) % 65536) as u16,
-    }
-}
-
-fn least(a: u8, b: u8) -> u8
-    ensures { λ r. ⌜ r ≡ min a b ⌝ }
-{
-    if a <= b { a } else { b }
-}
-
-// The rule with its items. It announces `count`, which may pass the limit; the items past it are not kept.
-pub fn rule_of(words: &[u64], place: u32, priority: u64, count: u8) -> Rule
-    ensures { λ r. ⌜ r ≡ rule-in (now (words .entry)) place priority count ⌝ }
-    ensures { λ _. ⌜ (place < 4294967296) × (priority < 18446744073709551616) ⌝ }
-{
-    let mut entries = [Entry {
-        item: Item::Equal { one: 0, other: 0 },
-    }; ITEMS];
-    let n = least(count, 32);
-    let mut k: u8 = 0;
-    while k < n {
-        let i = item_at(words, k);
-        entries[k as usize] = Entry { item: i };
-        k += 1;
-    }
-    Rule {
-        place: place,
-        priority: priority,
-        count: count,
-        entries: entries,
     }
 }
