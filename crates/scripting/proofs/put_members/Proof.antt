@@ -1,53 +1,53 @@
--- `scripting::put_members` is safe and ends. Assumes nothing.
-use borrow.Author.Needs.{needs}
-use mathlib.Core.Path.{_≡_}
+-- `scripting::put_members` meets its contract. Assumes nothing.
+use mathlib.Core.Path.{_≡_, refl}
 use Prim.Native.Nat.{_≤_, _-_}
 use native.Mathlib.Omega.{arith}
 use lib.ListN.{length}
+use Rattle.texts.specs.Written.{wrote}
+use Rattle.scripting.specs.Said.{members-text}
+use Rattle.scripting.proofs.Saying.{members-none, members-more, members-all}
+use borrow.Author.Needs.{needs}
 use Rattle.scripting.proofs.put_members.Statement.{statement}
 use Rattle.scripting.proofs.put_members.Tie as tie
-use Rattle.scripting.proofs.put_members.Reads as reads
-use Rattle.scripting.proofs.put_members.Lts as lts
-use Rattle.scripting.proofs.put_member.Reads as put-member-reads
 
 abbrev Inv-loop : tie.InvT-loop
-Inv-loop out₀ n members k m₀ i₀ out m i = (i ≤ length members) × (length out ≡ length out₀)
+Inv-loop out₀ n members k m₀ i₀ out m i = (i ≤ length members) × (i ≤ k) × (length out ≡ length out₀) × ((out, m) ≡ wrote (out₀, n) (members-text members i))
 
 abbrev μ-loop : tie.MeasureT-loop
 μ-loop out₀ n members k m₀ i₀ out m i = length members - i
 
 loop-holds : tie.Need-loop-holds Inv-loop μ-loop
-loop-holds c = omega arith
+loop-holds c = (omega arith, omega arith, refl, members-none _ _)
 
 same-length : tie.Need-same-length Inv-loop μ-loop
-same-length c = omega arith
+same-length c = c .before .before .loop .inv .2
 
 returns : tie.Need-returns Inv-loop μ-loop
-returns c = search needs
+returns c = members-all _ _ _ _ _ (c .before .before .loop .inv .3) (let a = c .before .before .loop .inv .0 in let b = c .before .before .loop .inv .1 in let d = c .if1 .taken in omega arith)
 
 mul-put-member : tie.Need-mul-put-member Inv-loop μ-loop
-mul-put-member c = omega arith
+mul-put-member c = omega (arith, c .before .before .loop-test .taken)
 
 shared-slice-read-put-member : tie.Need-shared-slice-read-put-member Inv-loop μ-loop
-shared-slice-read-put-member c = omega arith
+shared-slice-read-put-member c = omega (arith, c .before .before .before .loop-test .taken)
 
 put-member-requires : tie.Need-put-member-requires Inv-loop μ-loop
 put-member-requires c κs = search needs
 
 add-i : tie.Need-add-i Inv-loop μ-loop
-add-i c = omega arith
+add-i c = omega (arith, c .before .before .before .before .before .before .loop-test .taken)
 
 loop-less : tie.Need-loop-less Inv-loop μ-loop
-loop-less c = omega arith
+loop-less c = omega (arith, c .before .before .before .before .before .before .loop-test .taken)
 
 loop-again : tie.Need-loop-again Inv-loop μ-loop
-loop-again c = (omega arith, omega (arith, c .before .out .given))
+loop-again c = ((let t = c .before .before .before .before .before .before .loop-test .taken in omega arith), (let d = c .before .before .before .before .before .if1 .left in omega arith), (let e = c .before .out .given in let f = c .before .before .before .before .before .before .before .loop .inv .2 in omega arith), members-more _ _ _ _ _ (c .before .before .before .before .before .before .before .loop .inv .3) (c .before .before .put-member .ensures))
 
 same-length-2 : tie.Need-same-length-2 Inv-loop μ-loop
-same-length-2 c = omega arith
+same-length-2 c = c .before .loop .inv .2
 
 returns-2 : tie.Need-returns-2 Inv-loop μ-loop
-returns-2 c = search needs
+returns-2 c = members-all _ _ _ _ _ (c .before .loop .inv .3) (let a = c .before .loop .inv .0 in let b = c .before .loop .inv .1 in let d = c .loop-test .left in omega arith)
 
 pub put-members-spec : {M : Type 1} → statement M
 put-members-spec =

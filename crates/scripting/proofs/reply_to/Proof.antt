@@ -1,16 +1,13 @@
--- `scripting::reply_to` is safe and ends. Assumes nothing.
-use borrow.Author.Needs.{needs}
+-- `scripting::reply_to` meets its contract. Assumes nothing.
 use mathlib.Core.Path.{sym}
-use native.Mathlib.Omega.{arith}
 use lib.Seq.{length-take-le}
+use Rattle.scripting.proofs.Saying.{replied-long, replied-call}
+use borrow.Author.Needs.{needs}
 use Rattle.scripting.proofs.reply_to.Statement.{statement}
 use Rattle.scripting.proofs.reply_to.Tie as tie
-use Rattle.scripting.proofs.reply_to.Reads as reads
-use Rattle.scripting.proofs.reply_to.Lts as lts
-use Rattle.classes.proofs.script.step.Reads as step-reads
 
 returns : tie.Need-returns
-returns c = search needs
+returns c = replied-long _ _ _ _ (c .if1 .taken)
 
 slice-aggregate-step : tie.Need-slice-aggregate-step
 slice-aggregate-step c = sym (length-take-le _ _ (c .before .before .before .before .before .if1 .left))
@@ -22,8 +19,14 @@ same-length : tie.Need-same-length
 same-length c = search needs
 
 returns-2 : tie.Need-returns-2
-returns-2 c = search needs
+returns-2 c = replied-call _ _ _ _ _ (c .before .before .before .before .before .before .before .before .if1 .left) (c .before .before .step .ensures)
 
 pub reply-to-spec : {M : Type 1} → statement M
 reply-to-spec =
-    tie.close (tie.spec returns slice-aggregate-step step-requires same-length returns-2)
+    tie.close
+    (tie.spec
+    returns
+    slice-aggregate-step
+    step-requires
+    same-length
+    returns-2)

@@ -1,0 +1,2 @@
+-- Laws of what a script is answered.
+pub mod Saying
