@@ -2,7 +2,7 @@
 use mathlib.Core.Path.{_≡_, refl, sym, ap, _∙_}
 use mathlib.Core.Bool.{Bool, true, false, not}
 use mathlib.Core.List.{List, [], _∷_, _++_}
-use Prim.Native.Nat.{ℕ, zero, suc, _+_, _≤_, _<_, min}
+use Prim.Native.Nat.{ℕ, zero, suc, _+_, _-_, _≤_, _<_, min}
 use native.Mathlib.Omega.{arith}
 use native.Mathlib.Numerals.{add-one}
 use lib.ListN.{length, getD, take, set}
@@ -23,7 +23,7 @@ use Rattle.classes.specs.declared.Taken.{Taken}
 use Rattle.classes.specs.declared.Taken.the-variants as taken
 use Rattle.texts.specs.Written.{Room, wrote, nothing, follows}
 use Rattle.texts.specs.Decimal.{decimal}
-use Rattle.scripting.specs.Said.{refusal-text, member-text, members-text, taken-text, replied, spared, unended-text, Standing, Took, Fed-to, Fed}
+use Rattle.scripting.specs.Said.{refusal-text, member-text, members-text, taken-text, replied, spared, unended-text, Standing, Took, Fed-to, Fed, Read, Read-to, Ran}
 
 -- the same text by another name
 pub told : (p q : Room) (s t : List ℕ) → s ≡ t → q ≡ wrote p s → q ≡ wrote p t
@@ -133,3 +133,21 @@ fed-stop bytes i s u F g = record { many = i; to = F; all = λ e. let z : _≡_ 
 
 pub fed-all : (bytes : List ℕ) (i : ℕ) (s u : Standing) → Fed-to bytes i s u → i ≤ length bytes → length bytes ≤ i → Fed bytes s u
 fed-all bytes i s u F a b = record { many = i; to = F; all = λ e. omega arith }
+
+-- ---- chunks
+abbrev pub turns-all : ℕ
+turns-all = 18446744073709551615
+
+pub read-none : (turns : ℕ) (s : Standing) → turns ≡ turns-all → Read-to (turns-all - turns) s s
+unfolding Read-to
+read-none turns s e = let z : turns-all - turns ≡ 0 = omega arith in rw z refl
+
+pub read-more : (turns : ℕ) (s t u : Standing) → 0 < turns → turns ≤ turns-all → Read-to (turns-all - turns) s t → t .place .goes ≡ true → Read t u → Read-to (turns-all - (turns - 1)) s u
+unfolding Read-to
+read-more turns s t u a b F g R = let z : turns-all - (turns - 1) ≡ suc (turns-all - turns) = omega arith in rw z (t, F, g, R)
+
+pub read-stop : (turns : ℕ) (s u : Standing) → Read-to (turns-all - turns) s u → u .place .goes ≡ false → Ran s u
+read-stop turns s u F g = record { many = turns-all - turns; to = F; all = λ e. let z : _≡_ {A = ℕ} 0 1 = cc in absurd (omega arith) }
+
+pub read-all : (turns : ℕ) (s u : Standing) → Read-to (turns-all - turns) s u → turns ≤ 0 → Ran s u
+read-all turns s u F h = record { many = turns-all - turns; to = F; all = λ e. omega arith }

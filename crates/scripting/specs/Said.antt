@@ -178,6 +178,26 @@ pub record Fed (bytes : List ℕ) (s u : Standing) : Type 0 where
   pub to : Fed-to bytes many s u
   pub all : u .place .goes ≡ true → many ≡ length bytes
 
+-- ---- chunks
+-- at the end of the input the script ends
+abbrev pub at-end : Place → Place
+at-end p = record { used = p .used; line = p .line; filled = p .filled; goes = false }
+
+pub data Read (s u : Standing) : Type 0 where
+  ended : u ≡ stand (s .classes) (s .members) (s .line) (s .out) (at-end (s .place)) → Read s u
+  fed : (chunk : List ℕ) → Fed chunk s u → Read s u
+
+-- one read after the other, while the script goes on
+unfoldable pub Read-to : ℕ → Standing → Standing → Type 0
+Read-to zero s u = u ≡ s
+Read-to (suc k) s u = (t : Standing) × Read-to k s t × (t .place .goes ≡ true) × Read t u
+
+-- until it ends, or turns are used up that no run uses up
+pub record Ran (s u : Standing) : Type 0 where
+  pub many : ℕ
+  pub to : Read-to many s u
+  pub all : u .place .goes ≡ true → many ≡ 18446744073709551615
+
 -- a last line without LF is answered `bad` with its number
 unfoldable pub unended-text : ℕ → ℕ → List ℕ
 unended-text zero line = []

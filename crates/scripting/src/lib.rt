@@ -7,7 +7,7 @@ ghost use lib.Dec.{ltb};
 ghost use Rattle.paper.specs.Words.{if_then_else_};
 ghost use Rattle.paper.specs.Classes as C;
 ghost use Rattle.texts.specs.Written.{wrote};
-ghost use Rattle.scripting.specs.Said.{bool-text, refusal-text, joined-text, trail-text, looked-text, found-text, sought-text, same-text, member-text, members-text, taken-text, reply-text, is-bad, replied, spared, Answered, Held, stand, Took, Fed, unended-text};
+ghost use Rattle.scripting.specs.Said.{bool-text, refusal-text, joined-text, trail-text, looked-text, found-text, sought-text, same-text, member-text, members-text, taken-text, reply-text, is-bad, replied, spared, Answered, Held, stand, Took, Fed, Read, Ran, unended-text};
 use classes::Joined;
 use classes::Looked;
 use classes::Same;
@@ -332,7 +332,9 @@ fn read_some(
     bytes: &mut [u8],
     p: Place,
     fd: i32,
-) -> Place {
+) -> Place
+    ensures { λ q. ⌜ Read (stand (C.classes (now (parents .entry)) (now (ranks .entry)) (now (count .entry))) (now (members .entry)) (now (line .entry)) (now (out .entry)) p) (stand (C.classes (now (parents .exit)) (now (ranks .exit)) (now (count .exit))) (now (members .exit)) (now (line .exit)) (now (out .exit)) q) ⌝ }
+{
     let n = io::read_full(fd, bytes);
     if n == 0 {
         return Place {
@@ -356,7 +358,9 @@ fn run_all(
     bytes: &mut [u8],
     p: Place,
     fd: i32,
-) -> Place {
+) -> Place
+    ensures { λ q. ⌜ Ran (stand (C.classes (now (parents .entry)) (now (ranks .entry)) (now (count .entry))) (now (members .entry)) (now (line .entry)) (now (out .entry)) p) (stand (C.classes (now (parents .exit)) (now (ranks .exit)) (now (count .exit))) (now (members .exit)) (now (line .exit)) (now (out .exit)) q) ⌝ }
+{
     let mut q = p;
     let mut turns = u64::MAX;
     while turns > 0 {
