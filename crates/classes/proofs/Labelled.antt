@@ -13,8 +13,8 @@ use Rattle.paper.specs.Words.{if_then_else_, or-else, look}
 use Rattle.paper.specs.Numbers.{done}
 use Rattle.paper.specs.Classes.{Classes, no-classes, Halved, find-mut, merge, Removed, remove-set-of}
 use Rattle.paper.specs.Loading.{Labels, lowest, join}
-use Rattle.paper.specs.Joins.{Lowest, join-at, join-keeps, join-joins, Pair, was, new, join-only, gen-same}
-use Rattle.paper.specs.Labels.{Sound, lowest-joined}
+use Rattle.paper.proofs.Joins.{Lowest, join-at, join-keeps, join-joins, Pair, was, new, join-only, gen-same}
+use Rattle.paper.proofs.Labels.{Sound, lowest-joined}
 use Rattle.classes.specs.Answers.{or-self, rep, two-classes}
 use Rattle.classes.specs.Well.{WellMade, rep-of, dropped}
 use Rattle.classes.specs.Equal.{Only, before, forth, back, Unites, TakesOut, Holds, dissolve-at}

@@ -15,7 +15,7 @@ use Rattle.paper.specs.declared.Found.the-variants.{At, Nothing}
 use Rattle.paper.specs.Words.{if_then_else_, any, has, keep, below}
 use Rattle.paper.specs.Numbers.{max-sites, Outcome, done, refused, _>>=_, demand}
 use Rattle.paper.specs.Classes.{Classes, classes, no-classes, up, Trail, find-in, is-at, halve-in, Halved, halved, find, find-mut, enter, unite, merge, Removed, remove-at, remove-below, remove-set-of}
-use Rattle.paper.specs.Joins.{Gen, base, self, back, via, gen-map, gen-same}
+use Rattle.paper.proofs.Joins.{Gen, base, self, back, via, gen-map, gen-same}
 use Rattle.classes.specs.Answers.{or-self, rep, two-classes}
 use Rattle.classes.specs.Well.{log-sites, Leads, Well, WellMade, rank, members, joined-in, has-up, in-class, cnt, bit, rep-of, dropped}
 use Rattle.classes.specs.Equal as Q

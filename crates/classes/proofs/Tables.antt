@@ -13,7 +13,7 @@ use Rattle.paper.specs.Words.{if_then_else_, or-else, keep, look, put}
 use Rattle.paper.specs.Numbers.{done}
 use Rattle.paper.specs.Classes.{Classes, Removed, remove-set-of}
 use Rattle.paper.specs.Loading.{Labels, lowest, dissolve}
-use Rattle.paper.specs.Labels.{Sound, look-here, look-past}
+use Rattle.paper.proofs.Labels.{Sound, look-here, look-past}
 use Rattle.classes.specs.Answers.{rep}
 use Rattle.classes.specs.Well.{WellMade, rep-of}
 use Rattle.classes.specs.Equal.{Holds, dissolve-at}

@@ -10,7 +10,7 @@ use lib.Dec.{ltb, leb}
 use borrow.Author.Tests.{le-leb, lt-leb, eq-eqb, ne-eqb}
 use Rattle.paper.specs.declared.Refusal.{Refusal}
 use Rattle.paper.specs.Numbers.{max-sites, number, told, Outcome, done, refused}
-use Rattle.kept.specs.Stored.{base, stride}
+use Rattle.rule_words.specs.Stored.{base, stride}
 use Rattle.paper.specs.Classes.{Classes, classes, is-empty, Trail, Halved, Removed, merge, remove-below, remove-set-of}
 use Rattle.paper.specs.Sites.{Added}
 use Rattle.classes.specs.Answers.{looked, sought-by, joined-by, joined, two-classes, same, taken-by, taken}
@@ -20,9 +20,9 @@ use Rattle.classes.specs.declared.Taken.{Taken}
 use Rattle.sites.specs.declared.Numbered.the-variants as N
 use Rattle.paper.specs.Words.{if_then_else_}
 use Rattle.sites.specs.Slots.{numbered-as, unfolded-as}
-use Rattle.recursion.specs.declared.Added.{Added as Edged}
-use Rattle.recursion.specs.declared.Added.the-variants as A
-use Rattle.recursion.specs.Table.{left, bare, added, no-marks, listed}
+use Rattle.term_table.specs.declared.Added.{Added as Edged}
+use Rattle.term_table.specs.declared.Added.the-variants as A
+use Rattle.term_table.specs.Table.{left, bare, added, no-marks, listed}
 use Rattle.lintelbox.specs.declared.Said.{Said}
 use Rattle.lintelbox.specs.Telling.{one-told, two-told, tells}
 use Rattle.lintelbox.specs.Border.{short, answer-words, said, said-by, left-by, has-room, both, has-rule, has-rules, answered, after, bit, trail-words, halved-words, removed-words, added-words, listed-in, looked-said, sought-said, joined-said, same-said, taken-said, numbered-said, unfolded-said, added-said}

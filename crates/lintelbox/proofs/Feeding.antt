@@ -12,22 +12,22 @@ use lib.Dec.{leb}
 use borrow.Author.Tests.{leb-true}
 use Rattle.paper.specs.Words.{if_then_else_, joined}
 use Rattle.paper.specs.Sheets.{findings}
-use Rattle.findings.specs.Written.{written-at}
-use Rattle.findings.specs.declared.Room.{Room}
-use Rattle.findings.specs.declared.Room.the-variants as rooms
-use Rattle.recursion.specs.Table.{Square, no-edges, no-marks}
-use Rattle.ended.specs.Sets.{end-room, no-sets}
-use Rattle.pieces.specs.Fed.{Reading, going, stopped, begun, fed, behind, fed-all, ended, max-held}
-use Rattle.pieces.specs.Pieces.{as-lines, fed-append}
-use Rattle.pieces.specs.Held.{no-line}
-use Rattle.sheets.specs.State.{Lent, lent, Roomy, step-room, sites-room, kept-room, items-room}
-use Rattle.reading.specs.declared.State.{State}
-use Rattle.reading.specs.declared.Checked.{Checked}
-use Rattle.reading.specs.declared.Checked.the-variants as checked
-use Rattle.reading.specs.Whole.{first-state, Shows, Fedding, Feeds, Ends, Ending, Pauses, Checks, Enough}
-use Rattle.reading.proofs.Feeding.{shows-first}
-use Rattle.paused.specs.State.{state-words, keeps, state-in, state-put, held-put}
-use Rattle.paused.proofs.Reading.{SmallStands, SmallState, kept-state, put-there}
+use Rattle.sheet_findings.specs.Written.{written-at}
+use Rattle.sheet_findings.specs.declared.Room.{Room}
+use Rattle.sheet_findings.specs.declared.Room.the-variants as rooms
+use Rattle.term_table.specs.Table.{Square, no-edges, no-marks}
+use Rattle.sheet_ended.specs.Sets.{end-room, no-sets}
+use Rattle.sheet_lines.specs.Fed.{Reading, going, stopped, begun, fed, behind, fed-all, ended, max-held}
+use Rattle.sheet_lines.specs.Pieces.{as-lines, fed-append}
+use Rattle.sheet_lines.specs.Held.{no-line}
+use Rattle.sheet_step.specs.State.{Lent, lent, Roomy, step-room, sites-room, kept-room, items-room}
+use Rattle.sheet_read.specs.declared.State.{State}
+use Rattle.sheet_read.specs.declared.Checked.{Checked}
+use Rattle.sheet_read.specs.declared.Checked.the-variants as checked
+use Rattle.sheet_read.specs.Whole.{first-state, Shows, Fedding, Feeds, Ends, Ending, Pauses, Checks, Enough}
+use Rattle.sheet_read.proofs.Feeding.{shows-first}
+use Rattle.sheet_state.specs.State.{state-words, keeps, state-in, state-put, held-put}
+use Rattle.sheet_state.proofs.Reading.{SmallStands, SmallState, kept-state, put-there}
 use Rattle.lintelbox.specs.declared.Said.{Said}
 use Rattle.lintelbox.specs.Border.{short, answer-words, said, has-room, both, answered, after}
 use Rattle.lintelbox.specs.Sheet.{lends, writes, begun-number, Fed, Unfed, FeedSays, ended-said, Closed, EndSays, checked-said, Found, Crowded, Unread, CheckSays}

@@ -12,7 +12,7 @@ use Rattle.paper.specs.declared.Refusal.{Refusal}
 use Rattle.paper.specs.Numbers.{max-sites, max-term, number, told, Outcome, done, refused}
 use Rattle.paper.specs.Classes.{Classes, Trail, Halved, Removed}
 use Rattle.paper.specs.Sites.{Added}
-use Rattle.kept.specs.Stored.{base, stride}
+use Rattle.rule_words.specs.Stored.{base, stride}
 use Rattle.classes.specs.declared.Looked.{Looked}
 use Rattle.classes.specs.declared.Looked.the-variants as L
 use Rattle.classes.specs.declared.Sought.{Sought}
@@ -29,8 +29,8 @@ use Rattle.sites.specs.declared.Unfolded.{Unfolded}
 use Rattle.sites.specs.declared.Unfolded.the-variants as U
 use Rattle.report.specs.declared.Reported.{Reported}
 use Rattle.report.specs.Lines.{number-of, told-with}
-use Rattle.recursion.specs.declared.Added.{Added as Edged}
-use Rattle.recursion.specs.declared.Added.the-variants as A
+use Rattle.term_table.specs.declared.Added.{Added as Edged}
+use Rattle.term_table.specs.declared.Added.the-variants as A
 use Rattle.lintelbox.specs.declared.Said.{Said}
 
 -- A number of the border alone, none of 01's: a lent slice is shorter than the call asks.

@@ -6,9 +6,9 @@ use lib.ListN.{length}
 use Rattle.paper.specs.Numbers.{Outcome, done, refused}
 use Rattle.paper.specs.declared.Rule.{Rule}
 use Rattle.paper.specs.Loading.{Set}
-use Rattle.loading.specs.declared.Loaded.{Loaded}
-use Rattle.loading.specs.declared.Loaded.the-variants.{Kept, Refused}
-use Rattle.loading.specs.Whole.{load-in, loaded-as, sites-after, words-after}
+use Rattle.rule_load.specs.declared.Loaded.{Loaded}
+use Rattle.rule_load.specs.declared.Loaded.the-variants.{Kept, Refused}
+use Rattle.rule_load.specs.Whole.{load-in, loaded-as, sites-after, words-after}
 use Rattle.lintelbox.specs.declared.Said.{Said}
 use Rattle.lintelbox.specs.Border.{said, said-by, refused-said}
 

@@ -7,18 +7,18 @@ use Prim.Native.Nat.{ℕ, _+_, _≤_, _<_}
 use lib.ListN.{length, getD, take}
 use Rattle.paper.specs.Words.{if_then_else_}
 use Rattle.paper.specs.Sheets.{findings}
-use Rattle.findings.specs.Written.{written-at}
-use Rattle.findings.specs.declared.Room.{Room}
-use Rattle.findings.specs.declared.Room.the-variants as rooms
-use Rattle.recursion.specs.Table.{Square}
-use Rattle.ended.specs.Sets.{end-room}
-use Rattle.pieces.specs.Fed.{Reading, ended}
-use Rattle.pieces.specs.Pieces.{as-lines}
-use Rattle.sheets.specs.State.{Lent, lent, step-room, sites-room, kept-room, items-room}
-use Rattle.paused.specs.State.{state-in, state-put, held-put}
-use Rattle.reading.specs.Whole.{Shows, Feeds}
-use Rattle.reading.specs.declared.Checked.{Checked}
-use Rattle.reading.specs.declared.Checked.the-variants as checked
+use Rattle.sheet_findings.specs.Written.{written-at}
+use Rattle.sheet_findings.specs.declared.Room.{Room}
+use Rattle.sheet_findings.specs.declared.Room.the-variants as rooms
+use Rattle.term_table.specs.Table.{Square}
+use Rattle.sheet_ended.specs.Sets.{end-room}
+use Rattle.sheet_lines.specs.Fed.{Reading, ended}
+use Rattle.sheet_lines.specs.Pieces.{as-lines}
+use Rattle.sheet_step.specs.State.{Lent, lent, step-room, sites-room, kept-room, items-room}
+use Rattle.sheet_state.specs.State.{state-in, state-put, held-put}
+use Rattle.sheet_read.specs.Whole.{Shows, Feeds}
+use Rattle.sheet_read.specs.declared.Checked.{Checked}
+use Rattle.sheet_read.specs.declared.Checked.the-variants as checked
 use Rattle.lintelbox.specs.declared.Said.{Said}
 use Rattle.lintelbox.specs.Border.{short, answer-words, said, has-room, both, answered}
 

@@ -98,7 +98,7 @@ fn told_two(r: Refusal) -> u64
 fn refused(r: Refusal) -> Said
     ensures { λ s. ⌜ s ≡ said (number r) (told r) ⌝ }
 {
-    let n = findings::number_of(r);
+    let n = sheet_findings::number_of(r);
     Said {
         number: n as u32,
         one: told_one(r),

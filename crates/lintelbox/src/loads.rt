@@ -4,8 +4,8 @@ ghost use mathlib.Core.Path.{_≡_};
 ghost use mathlib.Core.List.{[], _∷_};
 ghost use Prim.Native.Nat.{_*_};
 ghost use lib.ListN.{length};
-ghost use Rattle.handed.specs.Items.{rule-in};
-ghost use Rattle.loading.specs.Whole.{load-in, sites-after, words-after};
+ghost use Rattle.item_words.specs.Items.{rule-in};
+ghost use Rattle.rule_load.specs.Whole.{load-in, sites-after, words-after};
 ghost use Rattle.lintelbox.specs.Border.{answer-words, said-by, has-room, both, answered, after};
 ghost use Rattle.lintelbox.specs.Loads.{item-words, loaded-said};
 use crate::ANSWER;
@@ -15,8 +15,8 @@ use crate::done;
 use crate::refused;
 use crate::say;
 use crate::wide;
-use handed::ITEM;
-use loading::Loaded;
+use item_words::ITEM;
+use rule_load::Loaded;
 
 fn loaded_said(l: Loaded) -> Said
     ensures { λ s. ⌜ s ≡ loaded-said l ⌝ }
@@ -50,6 +50,6 @@ pub extern "C" fn lintel_load(
     if answer.len() < ANSWER {
         return SHORT;
     }
-    let l = loading::load_handed(sites, count, words, kept, place, priority, many, items);
+    let l = rule_load::load_handed(sites, count, words, kept, place, priority, many, items);
     say(answer, loaded_said(l))
 }

@@ -3,30 +3,30 @@
 ghost use mathlib.Core.Path.{_≡_};
 ghost use mathlib.Core.List.{[]};
 ghost use Rattle.paper.specs.Words.{if_then_else_};
-ghost use Rattle.recursion.specs.Table.{no-edges};
-ghost use Rattle.ended.specs.Sets.{end-room};
-ghost use Rattle.sheets.specs.State.{lent, step-room};
-ghost use Rattle.reading.specs.Whole.{first-state};
+ghost use Rattle.term_table.specs.Table.{no-edges};
+ghost use Rattle.sheet_ended.specs.Sets.{end-room};
+ghost use Rattle.sheet_step.specs.State.{lent, step-room};
+ghost use Rattle.sheet_read.specs.Whole.{first-state};
 ghost use Rattle.lintelbox.specs.Border.{said, both, after};
-ghost use Rattle.paused.specs.State.{keeps, state-put, held-put};
+ghost use Rattle.sheet_state.specs.State.{keeps, state-put, held-put};
 ghost use Rattle.lintelbox.specs.Sheet.{lends, writes, begun-number, FeedSays, EndSays, CheckSays, ended-said, checked-said};
 use crate::ANSWER;
 use crate::SHORT;
 use crate::Said;
 use crate::done;
 use crate::say;
-use ended::END_ROOM;
-use findings::Room;
-use handed::ITEMS_ROOM;
+use sheet_ended::END_ROOM;
+use sheet_findings::Room;
+use item_words::ITEMS_ROOM;
 use paper::TERMS;
-use paused::keeps;
-use paused::put_state;
-use paused::state_in;
-use reading::Checked;
-use reading::KEPT_ROOM;
-use reading::SITES_ROOM;
-use recursion::WORDS;
-use sheets::STEP_ROOM;
+use sheet_state::keeps;
+use sheet_state::put_state;
+use sheet_state::state_in;
+use sheet_read::Checked;
+use sheet_read::KEPT_ROOM;
+use sheet_read::SITES_ROOM;
+use term_table::WORDS;
+use sheet_step::STEP_ROOM;
 
 fn wide64(x: usize) -> u64
     ensures { λ r. ⌜ r ≡ x ⌝ }
@@ -117,7 +117,7 @@ pub extern "C" fn lintel_sheet_begin(
     if !whole {
         return SHORT;
     }
-    let s = reading::begin(table);
+    let s = sheet_read::begin(table);
     put_state(state, held, s);
     0
 }
@@ -150,7 +150,7 @@ pub extern "C" fn lintel_sheet_feed(
         return SHORT;
     }
     let s = state_in(state, held);
-    let f = reading::feed(s, piece, sites, words, items, table, room, 0);
+    let f = sheet_read::feed(s, piece, sites, words, items, table, room, 0);
     let next = f.state;
     put_state(state, held, next);
     let read = counted(next.stopped, f.read, piece.len());
@@ -177,7 +177,7 @@ pub extern "C" fn lintel_sheet_end(
         return SHORT;
     }
     let s = state_in(state, held);
-    let w = reading::end(s, table, room, 0);
+    let w = sheet_read::end(s, table, room, 0);
     say(answer, ended_said(w))
 }
 
@@ -202,6 +202,6 @@ pub extern "C" fn lintel_sheet_check(
     if !written {
         return SHORT;
     }
-    let c = reading::check(sheet, sites, words, items, table, room);
+    let c = sheet_read::check(sheet, sites, words, items, table, room);
     say(answer, checked_said(c))
 }

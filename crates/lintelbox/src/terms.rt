@@ -3,7 +3,7 @@ ghost use mathlib.Core.Path.{_≡_};
 ghost use mathlib.Core.List.{[], _∷_, _++_};
 ghost use Prim.Native.Nat.{_≤_};
 ghost use lib.ListN.{length, drop};
-ghost use Rattle.recursion.specs.Table.{terms, no-edges, no-marks, with-edge, with-term, unflagged, listed};
+ghost use Rattle.term_table.specs.Table.{terms, no-edges, no-marks, with-edge, with-term, unflagged, listed};
 ghost use Rattle.lintelbox.specs.Border.{answer-words, said, said-by, left-by, has-room, both, answered, after, added-said};
 use crate::ANSWER;
 use crate::SHORT;
@@ -13,8 +13,8 @@ use crate::refused;
 use crate::say;
 use crate::wide;
 use paper::TERMS;
-use recursion::Added;
-use recursion::WORDS;
+use term_table::Added;
+use term_table::WORDS;
 
 fn added_said(a: Added) -> Said
     ensures { λ s. ⌜ s ≡ added-said a ⌝ }
@@ -30,7 +30,7 @@ fn added_said(a: Added) -> Said
 pub extern "C" fn lintel_terms_clear(table: &mut [[u64; WORDS]; TERMS], recs: &mut [u64; WORDS])
     ensures { λ _. ⌜ (now (table .exit) ≡ no-edges) × (now (recs .exit) ≡ no-marks) ⌝ }
 {
-    *table = recursion::empty();
+    *table = term_table::empty();
     *recs = [0u64; WORDS];
 }
 
@@ -48,7 +48,7 @@ pub extern "C" fn lintel_add_edge(
     if answer.len() < ANSWER {
         return SHORT;
     }
-    let a = recursion::add(table, from, to);
+    let a = term_table::add(table, from, to);
     say(answer, added_said(a))
 }
 
@@ -61,7 +61,7 @@ pub extern "C" fn lintel_mark_rec(recs: &mut [u64; WORDS], term: u16, answer: &m
     if answer.len() < ANSWER {
         return SHORT;
     }
-    let a = recursion::flag(recs, term);
+    let a = term_table::flag(recs, term);
     say(answer, added_said(a))
 }
 
@@ -94,7 +94,7 @@ pub extern "C" fn lintel_cyclic_terms(
     if answer.len() < ANSWER {
         return SHORT;
     }
-    let l = recursion::findings(table, recs);
+    let l = term_table::findings(table, recs);
     let all = l.terms;
     put_terms(found, &all);
     say(answer, done(wide(l.count), 0))

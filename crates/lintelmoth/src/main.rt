@@ -1,7 +1,7 @@
 // The program: reads sheets, or a script of class calls, and writes what the library answers. Here are arguments, files and buffers alone.
 mod words;
 
-use running::How;
+use run_sheets::How;
 use words::Verb;
 
 fn usage(fd: i32) {
@@ -77,7 +77,7 @@ fn on_sheets(how: How, many: bool, i: usize) {
     if fd < 0 {
         return;
     }
-    running::run(fd, how, many);
+    run_sheets::run(fd, how, many);
     libc::close(fd);
 }
 
@@ -86,7 +86,7 @@ fn on_script(i: usize) {
     if fd < 0 {
         return;
     }
-    scripting::run(fd);
+    run_script::run(fd);
     libc::close(fd);
 }
 

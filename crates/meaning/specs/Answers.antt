@@ -18,10 +18,10 @@ use Rattle.paper.specs.Numbers.{max-rules, max-items, number, Outcome, done, re
 use Rattle.paper.specs.Sites.{Sites, child-number, Sound}
 use Rattle.paper.specs.Inputs.{Given, Input, Meets, Agree, MeetsItem, Matches, MatchesKept}
 use Rattle.paper.specs.Loading.{Loading, Solving, Set, Written, Kept, started, lowest, load-items, normalise, with-rule, used, load}
-use Rattle.paper.specs.Adding.{Extends}
-use Rattle.paper.specs.Tables.{Rising, lowest-is}
-use Rattle.paper.specs.Fair.{no-items, load-fair}
-use Rattle.paper.specs.Making.{load-done}
+use Rattle.paper.proofs.Adding.{Extends}
+use Rattle.paper.proofs.Tables.{Rising, lowest-is}
+use Rattle.paper.proofs.Fair.{no-items, load-fair}
+use Rattle.paper.proofs.Making.{load-done}
 use Rattle.meaning.specs.Kinds.{kind-in, Fulfils, input-is, Held}
 use Rattle.meaning.specs.Model.{Solved}
 use Rattle.meaning.specs.Places.{child-kind}

@@ -17,16 +17,16 @@ use Rattle.paper.specs.Words.{if_then_else_, look, below, zip, joined, pairs, k
 use Rattle.paper.specs.Sites.{same-constraint, child-count, child-number}
 use Rattle.paper.specs.Inputs.{Value, Given, shape, and-then}
 use Rattle.paper.specs.Loading.{Loading, Labels, Constraints, Holder, holder, holders, lowest, join-all, Together, written-so, itself, back, through, like, alike, turn, pass, same-classes, close, closure, closure-of, first-holder, differs, conflict, steps, endless}
-use Rattle.paper.specs.Laws.{same-constraint-true}
-use Rattle.paper.specs.Closure.{of-below, in-below, closure-is}
-use Rattle.paper.specs.Walks.{returns-is}
+use Rattle.paper.proofs.Laws.{same-constraint-true}
+use Rattle.paper.proofs.Closure.{of-below, in-below, closure-is}
+use Rattle.paper.proofs.Walks.{returns-is}
 use Rattle.meaning.specs.Values.{proj-at, field, size, field-in, field-size}
 use Rattle.meaning.specs.Kinds.{kind-in, Reads, Fulfils}
 use Rattle.meaning.specs.Model.{Rooted}
 use Rattle.meaning.specs.Round.{Grown}
 use Rattle.meaning.specs.Generic.{Ordered, free-value, matches}
 use Rattle.meaning.specs.Eval.{value-of}
-use Rattle.paper.specs.Tables.{in-look, look-in, in-keep, of-keep, lowest-own}
+use Rattle.paper.proofs.Tables.{in-look, look-in, in-keep, of-keep, lowest-own}
 use Rattle.meaning.specs.Places.{child-kind, places-of}
 use Rattle.meaning.specs.Lists.{least-none, least-some, first-some, first-none}
 use Rattle.meaning.specs.Joining.{Well, none-well, all-well}

@@ -14,8 +14,8 @@ use Rattle.paper.specs.Numbers.{Outcome, done, refused}
 use Rattle.paper.specs.Sites.{Sites, Sound}
 use Rattle.paper.specs.Inputs.{Given, Input, Meets, Agree, MeetsItem, Matches, MatchesKept}
 use Rattle.paper.specs.Loading.{Set, Written, Kept, load}
-use Rattle.paper.specs.Adding.{Extends}
-use Rattle.paper.specs.Making.{load-sound}
+use Rattle.paper.proofs.Adding.{Extends}
+use Rattle.paper.proofs.Making.{load-sound}
 use Rattle.meaning.specs.Grow.{input-part, input-more}
 use Rattle.meaning.specs.Clear.{Four-or-six}
 use Rattle.meaning.specs.RuleSites.{rule-sites}

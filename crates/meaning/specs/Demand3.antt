@@ -12,7 +12,7 @@ use Rattle.paper.specs.Numbers.{done, refused}
 use Rattle.paper.specs.Sites.{Sound}
 use Rattle.paper.specs.Inputs.{Given, Input, Meets, Agree, Matches, MatchesKept}
 use Rattle.paper.specs.Loading.{Set, Written, Kept, load}
-use Rattle.paper.specs.Adding.{Extends}
+use Rattle.paper.proofs.Adding.{Extends}
 use Rattle.meaning.specs.RuleSites.{rule-sites}
 use Rattle.meaning.specs.Clear.{Four-or-six}
 use Rattle.meaning.specs.Answers as A

@@ -6,7 +6,7 @@ use Prim.Native.Nat.{ℕ, _<_}
 use native.Mathlib.Decide.{ℕ-discrete}
 use Rattle.paper.specs.declared.Constraint.{Constraint}
 use Rattle.paper.specs.Sites.{child-count}
-use Rattle.paper.specs.Joins as J
+use Rattle.paper.proofs.Joins as J
 use Rattle.meaning.specs.Round.{Left, old, kids, self, back, via, Round}
 use Rattle.meaning.specs.Joining.{apart, apart-in, apart-out, apart-lowest}
 

@@ -12,7 +12,7 @@ use Rattle.meaning.specs.Kinds.{outside, free, child-of, kind-of, or-out
 use Rattle.meaning.specs.Model.{Rooted, top, under}
 use Rattle.meaning.specs.Round.{State}
 use Rattle.meaning.specs.Eval.{input-grow}
-use Rattle.paper.specs.Adding.{Extends, Has, get-inside, inside-has}
+use Rattle.paper.proofs.Adding.{Extends, Has, get-inside, inside-has}
 use Rattle.meaning.specs.Places.{kind-stays, child-kind, child-site, or-child, places-of}
 
 kind-inside : (t : Sites) (n m : ℕ) (p : Proj) → kind-in t n ≡ child-of m p → n < length t

@@ -10,9 +10,9 @@ use Rattle.paper.specs.declared.Constraint.{Constraint}
 use Rattle.paper.specs.Words.{look, any, keep}
 use Rattle.paper.specs.Sites.{Site, constBool, constInt, constPrim, argument, extractor, constructor, iterator, makeVariant, matchVariant, makeStruct, extractStruct, makeSome, matchSome, matchTuple, parent, child, children, site-at, same-site}
 use Rattle.paper.specs.Loading.{Loading, has-child, not-child, hangs, hanging}
-use Rattle.paper.specs.Laws.{same-site-true}
-use Rattle.paper.specs.Adding.{inside-has, has-site-at}
-use Rattle.paper.specs.Tables.{in-keep}
+use Rattle.paper.proofs.Laws.{same-site-true}
+use Rattle.paper.proofs.Adding.{inside-has, has-site-at}
+use Rattle.paper.proofs.Tables.{in-keep}
 use Rattle.meaning.specs.Values.{proj-at, field-of-proj-at}
 use Rattle.meaning.specs.Kinds.{free, kind-of, or-outside, kind-in}
 use Rattle.meaning.specs.Model.{Rooted, top, under}

@@ -17,8 +17,8 @@ use Rattle.paper.specs.Numbers.{number, refused}
 use Rattle.paper.specs.Sites.{argument, extractStruct, Sound}
 use Rattle.paper.specs.Inputs.{Value, int, structure, nil, more, count, value-at, shape, struct-field, Given, Input, Meets, Agree, Matches, MatchesKept}
 use Rattle.paper.specs.Loading.{Set, Written, Kept, load, Made, begun, site-added, rule-loaded, empty-set, with-sites, all-loading}
-use Rattle.paper.specs.Making.{made-sound}
-use Rattle.paper.specs.Labels.{never}
+use Rattle.paper.proofs.Making.{made-sound}
+use Rattle.paper.proofs.Labels.{never}
 use Rattle.paper.specs.Rules.{all-rules}
 use Rattle.meaning.specs.Overlaps.{no-means, subset-exactly, Answers, masked-silent}
 use Rattle.meaning.specs.Demand3.{Unmatched, Keeps, demand-1, demand-2, demand-3, demand-4}

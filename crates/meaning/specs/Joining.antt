@@ -10,9 +10,9 @@ use lib.Dec.{eqb}
 use borrow.Author.Tests.{eq-eqb, ne-eqb}
 use Rattle.paper.specs.Words.{if_then_else_, look}
 use Rattle.paper.specs.Loading.{Labels, lowest, join, join-all, members, dissolve, others}
-use Rattle.paper.specs.Joins.{Lowest, join-keeps, join-joins, joinAll}
-use Rattle.paper.specs.Labels.{Sound, never, join-same, lowest-join, lowest-joined, join-sound, none-sound}
-use Rattle.paper.specs.Tables.{of-keep, in-keep, Rising, Fine, lowest-is, lowest-own, join-fine, of-members, in-members, dissolved, undissolved, dissolve-fine}
+use Rattle.paper.proofs.Joins.{Lowest, join-keeps, join-joins, joinAll}
+use Rattle.paper.proofs.Labels.{Sound, never, join-same, lowest-join, lowest-joined, join-sound, none-sound}
+use Rattle.paper.proofs.Tables.{of-keep, in-keep, Rising, Fine, lowest-is, lowest-own, join-fine, of-members, in-members, dissolved, undissolved, dissolve-fine}
 
 -- labels as joining makes them: sound, ascending, and no site alone in its class
 pub record Well (k : Labels) : Type 0 where

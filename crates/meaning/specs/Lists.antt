@@ -7,7 +7,7 @@ use Prim.Native.Nat.{ℕ, min}
 use native.Mathlib.Omega.{arith}
 use native.Mathlib.Decide.{ℕ-discrete}
 use Rattle.paper.specs.Words.{any, least, first}
-use Rattle.paper.specs.Labels.{never}
+use Rattle.paper.proofs.Labels.{never}
 
 pub of-any : {A : Type 0} (p : A → Bool) (xs : List A) → any p xs ≡ true → (x : A) × List·Memᴰ x xs × (p x ≡ true)
 unfolding any

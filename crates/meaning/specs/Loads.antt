@@ -17,11 +17,11 @@ use Rattle.paper.specs.Numbers.{most-rounds, max-constrained, max-equal, number
 use Rattle.paper.specs.Sites.{child-number}
 use Rattle.paper.specs.Inputs.{Value, Given, Input, Matches}
 use Rattle.paper.specs.Loading.{Loading, Solving, Labels, Holder, started, lowest, join-all, hanging, holders, closure, first-holder, differs, conflict, told-4, check-4, steps, endless, no-hanging, no-endless, rounds, normalise}
-use Rattle.paper.specs.Joins as J
-use Rattle.paper.specs.Labels.{none-sound}
-use Rattle.paper.specs.Fair.{Fair}
-use Rattle.paper.specs.Outcomes.{bind-done, demand-done}
-use Rattle.paper.specs.Ends.{unconstrained}
+use Rattle.paper.proofs.Joins as J
+use Rattle.paper.proofs.Labels.{none-sound}
+use Rattle.paper.proofs.Fair.{Fair}
+use Rattle.paper.proofs.Outcomes.{bind-done, demand-done}
+use Rattle.paper.proofs.Ends.{unconstrained}
 use Rattle.meaning.specs.Kinds.{kind-in, Reads, Fulfils, input-is}
 use Rattle.meaning.specs.Model.{Rooted}
 use Rattle.meaning.specs.Whole.{Wrote, given, self-w, back-w, via-w, Loaded, Kept, written-same}

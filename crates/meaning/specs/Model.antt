@@ -7,7 +7,7 @@ use Rattle.paper.specs.Inputs.{Value, int, shape, and-then, value-at, Meets, Ag
 use Rattle.paper.specs.declared.Constraint.{Constraint}
 use Rattle.paper.specs.declared.Constraint.the-variants.{ConstInt}
 use Rattle.paper.specs.Sites.{child-count}
-use Rattle.paper.specs.Labels.{never}
+use Rattle.paper.proofs.Labels.{never}
 use Rattle.meaning.specs.Values.{Proj, make, proj-at, field-of, field, tab, count-tab, at-tab, tab-ext, shape-make, field-make, field-of-inv}
 use Rattle.meaning.specs.Kinds.{Kind, outside, free, child-of, Places, Reads, Fulfils, Held}
 

@@ -13,9 +13,9 @@ use Rattle.paper.specs.Words.{Table, look}
 use Rattle.paper.specs.Sites.{Sites, child-number, Sound}
 use Rattle.paper.specs.Inputs.{Given, Input, Matches, MatchesKept}
 use Rattle.paper.specs.Loading.{Set, Written, Kept, lowest}
-use Rattle.paper.specs.Labels.{never, look-here, look-past}
-use Rattle.paper.specs.Tables.{Rising, look-in, above, lowest-is}
-use Rattle.paper.specs.Making.{load-sound}
+use Rattle.paper.proofs.Labels.{never, look-here, look-past}
+use Rattle.paper.proofs.Tables.{Rising, look-in, above, lowest-is}
+use Rattle.paper.proofs.Making.{load-sound}
 use Rattle.meaning.specs.Kinds.{kind-in, input-is}
 use Rattle.meaning.specs.Model.{forced-equal}
 use Rattle.meaning.specs.Places.{places-of}

@@ -14,7 +14,7 @@ use Rattle.paper.specs.Words.{look}
 use Rattle.paper.specs.Inputs.{Given, Input, Meets, Agree, MatchesKept}
 use Rattle.paper.specs.Loading.{Set, Kept, Made}
 use Rattle.paper.specs.Rules.{no-equals, compare-with, may-overlap, rank, masks}
-use Rattle.paper.specs.Making.{made-sound}
+use Rattle.paper.proofs.Making.{made-sound}
 use Rattle.meaning.specs.Demand3.{Holds-equal}
 use Rattle.meaning.specs.Pairs.{made-stands, stands-matched, stands-shape, stands-equal, overlap-no, Common, overlap-either, compare-subset, subset-compare, masks-covers}
 

@@ -17,11 +17,11 @@ use Rattle.paper.specs.Sites.{Sites, same-constraint, child-count, child-number
 use Rattle.paper.specs.Inputs.{Given, Input, Meets, Agree, MatchesKept, shape}
 use Rattle.paper.specs.Loading.{Set, Kept, Labels, Constraints, Made, begun, site-added, rule-loaded, lowest, empty-set, with-sites}
 use Rattle.paper.specs.Rules.{other-there, same-there, differ, within, no-equals, compare-with, may-overlap, total, rank, subset?, masks}
-use Rattle.paper.specs.Laws.{same-constraint-true}
-use Rattle.paper.specs.Labels.{never}
-use Rattle.paper.specs.Adding.{Extends, add-extends}
-use Rattle.paper.specs.Tables.{look-in, in-look}
-use Rattle.paper.specs.Making.{made-sound}
+use Rattle.paper.proofs.Laws.{same-constraint-true}
+use Rattle.paper.proofs.Labels.{never}
+use Rattle.paper.proofs.Adding.{Extends, add-extends}
+use Rattle.paper.proofs.Tables.{look-in, in-look}
+use Rattle.paper.proofs.Making.{made-sound}
 use Rattle.meaning.specs.Values.{proj-at}
 use Rattle.meaning.specs.Kinds.{child-of, kind-in, Held, input-is}
 use Rattle.meaning.specs.Model.{Rooted, Solved, model-exists, forced-shape, forced-equal}

@@ -3,7 +3,7 @@
 use Rattle.paper.specs.Numbers.{Outcome, done, refused}
 use Rattle.paper.specs.Sites.{Sites}
 use Rattle.paper.specs.Loading.{Loading, Set, Written, load-items}
-use Rattle.paper.specs.Fair.{no-items}
+use Rattle.paper.proofs.Fair.{no-items}
 
 abbrev pub sites-left : Sites → Outcome Loading → Sites
 sites-left t (done l) = l .sites

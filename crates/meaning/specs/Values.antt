@@ -12,7 +12,7 @@ use Rattle.paper.specs.declared.Constraint.{Constraint}
 use Rattle.paper.specs.declared.Constraint.the-variants.{Variant, Struct, ConstBool, ConstInt, ConstPrim, Some}
 use Rattle.paper.specs.Sites.{child-count}
 use Rattle.paper.specs.Inputs.{Value, bool, int, name, variant, structure, absent, present, Values, nil, more, count, value-at, shape, variant-field, struct-field, inner-of, and-then}
-use Rattle.paper.specs.Labels.{never}
+use Rattle.paper.proofs.Labels.{never}
 
 -- the first n values of a function
 pub tab : ℕ → (ℕ → Value) → Values

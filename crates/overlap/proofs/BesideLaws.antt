@@ -17,7 +17,7 @@ use Rattle.paper.specs.declared.Overlap.the-variants.{Yes, Subset}
 use Rattle.paper.specs.Words.{if_then_else_, any, look}
 use Rattle.paper.specs.Sites.{same-constraint}
 use Rattle.paper.specs.Rules.{differ, other-there, no-equals, compare-with}
-use Rattle.kept.specs.Stored.{run, count-at, constraint-at, constrained-at, kept-at}
+use Rattle.rule_words.specs.Stored.{run, count-at, constraint-at, constrained-at, kept-at}
 use Rattle.overlap.specs.declared.Seen.{Seen}
 use Rattle.overlap.specs.declared.Seen.the-variants.{Told, Unclear}
 use Rattle.overlap.specs.Rising.{Rising}

@@ -11,8 +11,8 @@ use lib.Count.{ones, ones-le}
 use lib.Dec.{eqb}
 use borrow.Author.Tests.{eq-eqb, ne-eqb}
 use Rattle.paper.specs.Words.{if_then_else_, two, four}
-use Rattle.lines.specs.Digits.{digits}
-use Rattle.lines.proofs.DigitLaws.{then-sets, length-digits}
+use Rattle.sheet_digits.specs.Digits.{digits}
+use Rattle.sheet_digits.proofs.DigitLaws.{then-sets, length-digits}
 use Rattle.report.specs.Rows.{bits, bit-at}
 use Rattle.report.specs.Lines.{Wrote, place-text, places-text, rest-text, overlap-text, mask-text, masks-in, rule-text, lists-text}
 

@@ -7,7 +7,7 @@ use native.Mathlib.Omega.{arith}
 use lib.ListN.{length, getD, length-append, length-map}
 use lib.Dec.{ltb}
 use Rattle.paper.specs.Words.{keep, below, joined, place-by, sort-by, flag}
-use Rattle.kept.specs.Stored.{run}
+use Rattle.rule_words.specs.Stored.{run}
 use Rattle.report.specs.Rows.{bits}
 use Rattle.report.proofs.RowLaws.{tally, ones-bits, bits-none}
 

@@ -12,7 +12,7 @@ use borrow.Author.Tests.{eq-eqb, ne-eqb, lt-ltb, le-ltb}
 use Rattle.paper.specs.Words.{if_then_else_, joined, sort-by}
 use Rattle.paper.specs.Loading.{Kept}
 use Rattle.paper.specs.Rules.{Listed, report-of, report-for, is-multi}
-use Rattle.kept.specs.Stored.{run, kept-first}
+use Rattle.rule_words.specs.Stored.{run, kept-first}
 use Rattle.report.specs.declared.Reported.{Reported}
 use Rattle.report.specs.declared.Reported.the-variants.{Done, TooManyRules, NoRoom}
 use Rattle.report.specs.Rows.{filled, place-in, named, lower-word, row-word, take-from}

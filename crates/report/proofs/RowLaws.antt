@@ -16,7 +16,7 @@ use lib.Dec.{eqb, ltb, leb}
 use borrow.Author.Tests.{eq-eqb, ne-eqb, eqb-true, lt-ltb, le-ltb, ltb-true, ltb-false, le-leb, lt-leb}
 use Rattle.paper.specs.Words.{if_then_else_, flag}
 use Rattle.paper.specs.Rules.{edge}
-use Rattle.kept.specs.Stored.{base, place-at, kept-in}
+use Rattle.rule_words.specs.Stored.{base, place-at, kept-in}
 use Rattle.report.specs.Rows.{place-in, named, earlier, lower-word, row-word, bits, bit-at, filled, either, degree-of, better-of, busiest-of, cleared, take-from}
 
 pub upto : {A : Type 0} (f : ℕ → A) (r : A) (k n : ℕ) → k ≤ n → n ≤ k → r ≡ f k → r ≡ f n

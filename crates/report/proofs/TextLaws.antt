@@ -16,10 +16,10 @@ use Rattle.paper.specs.Layout.{hex}
 use Rattle.paper.specs.Sheets.{listed-found}
 use Rattle.paper.specs.Loading.{Kept}
 use Rattle.paper.specs.Rules.{Listed, overlap, mask, Graph, edge, masks, linked, by-place, take-places, overlap-lists, masked-by, mask-lists, listed-from, report-of, no-rule}
-use Rattle.kept.specs.Stored.{run, base, place-at, kept-at, kept-in, kept-first}
-use Rattle.kept.proofs.StoreLaws.{run-same}
-use Rattle.lines.specs.Digits.{digits}
-use Rattle.lines.proofs.DigitLaws.{digits-append, hex-digits}
+use Rattle.rule_words.specs.Stored.{run, base, place-at, kept-at, kept-in, kept-first}
+use Rattle.rule_words.proofs.StoreLaws.{run-same}
+use Rattle.sheet_digits.specs.Digits.{digits}
+use Rattle.sheet_digits.proofs.DigitLaws.{digits-append, hex-digits}
 use Rattle.report.specs.Rows.{bits, bit-at, filled, place-in, named, earlier, lower-word, either, row-word, take-from}
 use Rattle.report.specs.Lines.{place-text, places-text, rest-text, overlap-text, mask-text, masks-in, rule-text, lists-text}
 use Rattle.report.proofs.RowLaws.{bits-at, bits-same, bits-none, ones-bits, filled-at, filled-length, tally}

@@ -12,8 +12,8 @@ use Rattle.paper.specs.Numbers.{max-rules}
 use Rattle.paper.specs.Layout.{hex}
 use Rattle.paper.specs.Sheets.{listed-found}
 use Rattle.paper.specs.Rules.{masks, report-for}
-use Rattle.kept.specs.Stored.{kept-in, kept-first}
-use Rattle.lines.specs.Digits.{digits}
+use Rattle.rule_words.specs.Stored.{kept-in, kept-first}
+use Rattle.sheet_digits.specs.Digits.{digits}
 use Rattle.report.specs.declared.Reported.{Reported}
 use Rattle.report.specs.declared.Reported.the-variants.{Done, TooManyRules, NoRoom}
 use Rattle.report.specs.Rows.{bits, bit-at}

@@ -8,7 +8,7 @@ use lib.Count.{ones}
 use lib.Dec.{eqb, ltb, leb}
 use Rattle.paper.specs.Words.{if_then_else_}
 use Rattle.paper.specs.Rules.{edge}
-use Rattle.kept.specs.Stored.{base, place-at, kept-in}
+use Rattle.rule_words.specs.Stored.{base, place-at, kept-in}
 
 -- the word whose bit j is there where f j, of the first n
 unfoldable pub bits : (ℕ → Bool) → ℕ → ℕ

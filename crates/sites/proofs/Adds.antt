@@ -17,7 +17,7 @@ use Rattle.paper.specs.Words.{if_then_else_, first}
 use Rattle.paper.specs.Numbers.{max-sites, max-sources, Outcome, done, refused, _>>=_, demand}
 use Rattle.paper.specs.Layout.{whole, site-read}
 use Rattle.paper.specs.Sites.{Site, Sites, iterator, body, sources, term-of, known, number-of, missing-source, term-fits, Added, or-next, add}
-use Rattle.paper.specs.Laws.{number-some, at-inside, first-here}
+use Rattle.paper.proofs.Laws.{number-some, at-inside, first-here}
 use Rattle.sites.specs.Kinds.{Laid}
 use Rattle.sites.specs.Shape.{is-there, is-body}
 use Rattle.sites.specs.Back.{Bytes}

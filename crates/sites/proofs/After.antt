@@ -18,7 +18,7 @@ use Rattle.paper.specs.Words.{below}
 use Rattle.paper.specs.Numbers.{max-sources, max-fields, Outcome, done, refused, _>>=_, demand}
 use Rattle.paper.specs.Layout.{whole, site-read}
 use Rattle.paper.specs.Sites.{Site, Sites, body, sources, child-count, children, Added, add, add-all, Sound, unfolded}
-use Rattle.paper.specs.Laws.{taken, next-is, There, Fresh, sound-empty, sound-add}
+use Rattle.paper.proofs.Laws.{taken, next-is, There, Fresh, sound-empty, sound-add}
 use Rattle.sites.specs.Kinds.{laid}
 use Rattle.sites.specs.Shape.{is-body}
 use Rattle.sites.specs.Slots.{slot, no-site, site-of, slot-body, site-in, sites-in, held-by, add-body, added-in, put, store, after-add, held-all, children-in, after-all, unfolded-in}

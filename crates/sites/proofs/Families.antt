@@ -21,7 +21,7 @@ use Rattle.paper.specs.declared.Refusal.the-variants.{Unknown, TooManySites, To
 use Rattle.paper.specs.Words.{if_then_else_, or-else, keep, first, below}
 use Rattle.paper.specs.Numbers.{max-sites, max-fields, max-sources, Outcome, done, refused, _>>=_, demand}
 use Rattle.paper.specs.Sites.{Site, Sites, body, sources, term-of, known, child, child-count, children, child-number, number-of, Added, or-next, add, add-all, same-site}
-use Rattle.paper.specs.Laws.{number-front, number-on, plus, number-some, at-inside, same-site-true, same-site-refl, first-next}
+use Rattle.paper.proofs.Laws.{number-front, number-on, plus, number-some, at-inside, same-site-true, same-site-refl, first-next}
 use Rattle.sites.specs.Slots.{slot, sites-in, found-as, put, store, held-all, children-in, children-as, after-all}
 use Rattle.sites.specs.Family.{is-none, absent, fresh, number-by, numbers-to, turn-as, Numbered-to, Tallied, placed, Placing}
 use Rattle.sites.specs.declared.Turn.{Turn}

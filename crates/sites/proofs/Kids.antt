@@ -15,7 +15,7 @@ use Rattle.paper.specs.declared.Constraint.the-variants.{Variant, Struct, Const
 use Rattle.paper.specs.Words.{two}
 use Rattle.paper.specs.Layout.{whole, site-read}
 use Rattle.paper.specs.Sites.{Site, matchVariant, extractStruct, matchSome, iterator, body, body-by, child, child-count}
-use Rattle.paper.specs.Laws.{read-body}
+use Rattle.paper.proofs.Laws.{read-body}
 use Rattle.sites.specs.Shape.{is-there, is-body}
 use Rattle.sites.specs.Kinds.{kind}
 use Rattle.sites.specs.Slots.{slot, no-site, site-of, Findable, Spells}

@@ -10,8 +10,8 @@ use native.Mathlib.Omega.{arith}
 use lib.ListN.{length, getD, take, drop, length-append}
 use Rattle.paper.specs.Words.{below}
 use Rattle.paper.specs.Sites.{Site, Sites, body, number-of, same-site}
-use Rattle.paper.specs.Laws.{same-site-true, same-site-refl, number-here, number-there, number-front, number-on}
-use Rattle.slots.specs.Seeking.{Held, Finds}
+use Rattle.paper.proofs.Laws.{same-site-true, same-site-refl, number-here, number-there, number-front, number-on}
+use Rattle.site_slots.specs.Seeking.{Held, Finds}
 use Rattle.sites.specs.Shape.{is-body}
 use Rattle.sites.specs.Back.{Bytes}
 use Rattle.sites.specs.Slots.{slot, site-of, slot-body, site-in, sites-in, Findable, store}

@@ -11,7 +11,7 @@ use lib.Seq.{drop-cons}
 use lib.Dec.{T, eqb, ltb, leb, ltb→lt}
 use borrow.Author.Tests.{lt-ltb, le-ltb, le-leb, lt-leb, eq-eqb, ne-eqb, eqb-true, eqb-false}
 use Rattle.paper.specs.Words.{first}
-use Rattle.paper.specs.Laws.{first-here, first-next}
+use Rattle.paper.proofs.Laws.{first-here, first-next}
 use Rattle.sites.specs.Kinds.{offs, ways, tails, count-by, off-of, many-of, tail-of, words}
 use Rattle.sites.specs.Shape.{is-body, is-empty, is-past, is-short, is-wrong, is-bool, is-right}
 use Rattle.sites.specs.Slots.{missing, found-as}

@@ -13,7 +13,7 @@ use Rattle.paper.specs.Words.{joined, below}
 use Rattle.paper.specs.Numbers.{max-unfolding, Outcome, done, refused, demand}
 use Rattle.paper.specs.declared.Refusal.the-variants.{Unknown, UnfoldingTooLong}
 use Rattle.paper.specs.Sites.{Site, Sites, argument, iterator, body-by, site-at, known, lower-only, unfolded, unfold-answer}
-use Rattle.paper.specs.Laws.{older-site, older-unfolded, unfolded-is, lower-true, lower-false, same-lower}
+use Rattle.paper.proofs.Laws.{older-site, older-unfolded, unfolded-is, lower-true, lower-false, same-lower}
 use Rattle.sites.specs.Kinds.{off-of, many-of, words, Laid, split}
 use Rattle.sites.specs.Shape.{is-body}
 use Rattle.sites.specs.Back.{Bytes}

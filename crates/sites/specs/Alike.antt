@@ -9,7 +9,7 @@ use lib.Seq.{getD-append-add}
 use lib.ListN.{List·getD-append}
 use Rattle.paper.specs.Words.{two, joined}
 use Rattle.paper.specs.Sites.{Site, argument, body, body-by, sources, Sites, site-at, Sound, lower-only, unfolded, same-site}
-use Rattle.paper.specs.Laws.{same-site-true, same-list-refl, lower-true, unfolded-is}
+use Rattle.paper.proofs.Laws.{same-site-true, same-list-refl, lower-true, unfolded-is}
 use Rattle.sites.specs.Kinds.{kind, head, tail, offs, ways, tails, count-by, split, row}
 
 append-inj : (p q x y : List ℕ) → length p ≡ length q → p ++ x ≡ q ++ y → (p ≡ q) × (x ≡ y)

@@ -9,7 +9,7 @@ use lib.ListN.{length, getD, take, drop, length-take, length-drop, List·getD-eq
 use lib.Seq.{ext-getD, getD-take, getD-drop}
 use lib.Dec.{ltb, leb}
 use borrow.Author.Tests.{lt-ltb, le-ltb, le-leb, lt-leb, ltb-true, ltb-false, leb-true, leb-false}
-use Rattle.slots.specs.Seeking.{Held}
+use Rattle.site_slots.specs.Seeking.{Held}
 use Rattle.paper.specs.Words.{if_then_else_, or-else}
 use Rattle.paper.specs.Layout.{whole, site-read}
 use Rattle.paper.specs.Sites.{Site, body}

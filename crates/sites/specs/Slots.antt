@@ -30,7 +30,7 @@ use Rattle.sites.specs.declared.Unfolded.{Unfolded}
 use Rattle.sites.specs.declared.Unfolded.the-variants as unfolded
 use Rattle.sites.specs.declared.Wrote.{Wrote}
 use Rattle.sites.specs.declared.Wrote.the-variants.{To, Full}
-pub use Rattle.slots.specs.Seeking.{slot}
+pub use Rattle.site_slots.specs.Seeking.{slot}
 
 -- What bytes are read as that are no body: an Iterator of site 65,535, which no table has. So it is never a site that may be added.
 abbrev pub no-site : Site

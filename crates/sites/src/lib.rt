@@ -21,7 +21,7 @@ use paper::SOURCES;
 use paper::TERMS;
 use paper::UNFOLDING;
 
-pub const SLOT: usize = slots::SLOT;
+pub const SLOT: usize = site_slots::SLOT;
 
 const KINDS: usize = 14;
 
@@ -320,7 +320,7 @@ fn find(m: &[u8], count: u16, b: &[u8]) -> Found
     requires { ⌜ Findable (now b) ⌝ }
     ensures { λ r. ⌜ r ≡ found-as (number-of (sites-in (now (m .entry)) count) (site-of (now (b .entry)))) ⌝ }
 {
-    let i = slots::find(m, count, b);
+    let i = site_slots::find(m, count, b);
     if i < count {
         return Found::At(i);
     }

@@ -4,7 +4,7 @@ use Rattle.overlap.proofs.same_at.Statement.{statement}
 use Rattle.overlap.proofs.same_at.Tie as tie
 use Rattle.overlap.proofs.same_at.Reads as reads
 use Rattle.overlap.proofs.same_at.Lts as lts
-use Rattle.kept.proofs.word.Reads as word-reads
+use Rattle.rule_words.proofs.word.Reads as word-reads
 use Rattle.overlap.proofs.same.Reads as same-reads
 
 -- src/lib.rt:38:10

@@ -4,7 +4,7 @@ use Rattle.overlap.proofs.subset.Statement.{statement}
 use Rattle.overlap.proofs.subset.Tie as tie
 use Rattle.overlap.proofs.subset.Reads as reads
 use Rattle.overlap.proofs.subset.Lts as lts
-use Rattle.kept.proofs.count.Reads as count-reads
+use Rattle.rule_words.proofs.count.Reads as count-reads
 
 -- src/lib.rt:38:21
 add-count : tie.Need-add-count

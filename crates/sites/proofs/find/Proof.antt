@@ -8,7 +8,7 @@ use Rattle.sites.proofs.find.Statement.{statement}
 use Rattle.sites.proofs.find.Tie as tie
 use Rattle.sites.proofs.find.Reads as reads
 use Rattle.sites.proofs.find.Lts as lts
-use Rattle.slots.proofs.find.Reads as find-reads
+use Rattle.site_slots.proofs.find.Reads as find-reads
 
 -- src/lib.rt:323:9
 find-requires : tie.Need-find-requires

@@ -1,7 +1,7 @@
 -- `lintelbox::sheet::lintel_sheet_begin` meets its contract. Assumes nothing.
 use mathlib.Core.Path.{refl}
 use Rattle.lintelbox.proofs.Feeding.{begin-short, begin-done}
-use Rattle.paused.proofs.Reading.{no-of, yes-of, put-there}
+use Rattle.sheet_state.proofs.Reading.{no-of, yes-of, put-there}
 use borrow.Author.Needs.{needs}
 use Rattle.lintelbox.proofs.sheet.lintel_sheet_begin.Statement.{statement}
 use Rattle.lintelbox.proofs.sheet.lintel_sheet_begin.Tie as tie

@@ -2,7 +2,7 @@
 use mathlib.Core.Path.{refl}
 use Rattle.lintelbox.proofs.Crossing.{first-no, second-no, both-yes}
 use Rattle.lintelbox.proofs.Feeding.{writes-long, said-there, end-short, end-says}
-use Rattle.paused.proofs.Reading.{no-of, yes-of}
+use Rattle.sheet_state.proofs.Reading.{no-of, yes-of}
 use borrow.Author.Needs.{needs}
 use Rattle.lintelbox.proofs.sheet.lintel_sheet_end.Statement.{statement}
 use Rattle.lintelbox.proofs.sheet.lintel_sheet_end.Tie as tie

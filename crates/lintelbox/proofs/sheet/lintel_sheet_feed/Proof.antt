@@ -2,7 +2,7 @@
 use mathlib.Core.Path.{refl}
 use Rattle.lintelbox.proofs.Crossing.{first-no, second-no, both-yes, done-as}
 use Rattle.lintelbox.proofs.Feeding.{writes-long, said-there, feed-short, fed-there, feed-says}
-use Rattle.paused.proofs.Reading.{no-of, yes-of, put-there}
+use Rattle.sheet_state.proofs.Reading.{no-of, yes-of, put-there}
 use borrow.Author.Needs.{needs}
 use Rattle.lintelbox.proofs.sheet.lintel_sheet_feed.Statement.{statement}
 use Rattle.lintelbox.proofs.sheet.lintel_sheet_feed.Tie as tie

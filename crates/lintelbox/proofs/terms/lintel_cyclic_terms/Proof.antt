@@ -4,8 +4,8 @@ use mathlib.Core.Path.{ap, refl, _∙_}
 use lib.ListN.{drop}
 use denote.Ref.{now}
 use borrow.Author.Needs.{needs}
-use Rattle.recursion.specs.Table.{terms}
-use Rattle.recursion.specs.declared.Listed.{Listed}
+use Rattle.term_table.specs.Table.{terms}
+use Rattle.term_table.specs.declared.Listed.{Listed}
 use Rattle.lintelbox.proofs.Crossing.{too-short, stayed, went, less, enough, first-no, second-no, both-yes, via, past, done-as, listed-count}
 use Rattle.lintelbox.proofs.terms.lintel_cyclic_terms.Statement.{statement}
 use Rattle.lintelbox.proofs.terms.lintel_cyclic_terms.Tie as tie

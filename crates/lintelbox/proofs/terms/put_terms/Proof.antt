@@ -5,8 +5,8 @@ use native.Mathlib.Omega.{arith}
 use lib.Seq.{paste}
 use denote.Ref.{now}
 use borrow.Author.Needs.{needs}
-use Rattle.recursion.specs.Table.{terms}
-use Rattle.paused.proofs.Reading.{copied-none, copied-turn, copied-length, copied-all}
+use Rattle.term_table.specs.Table.{terms}
+use Rattle.sheet_state.proofs.Reading.{copied-none, copied-turn, copied-length, copied-all}
 use Rattle.lintelbox.proofs.terms.put_terms.Statement.{statement}
 use Rattle.lintelbox.proofs.terms.put_terms.Tie as tie
 

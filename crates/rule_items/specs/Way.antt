@@ -1,0 +1,90 @@
+-- A rule on its way through its items: what holds after each, and of each step.
+use mathlib.Core.Path.{_≡_}
+use mathlib.Core.Option.{some}
+use mathlib.Core.Logic.{_⊎_}
+use mathlib.Core.List.{List, [], _∷_, List·Memᴰ}
+use Prim.Native.Nat.{ℕ, _+_, _*_, _<_, _≤_}
+use lib.ListN.{length, getD}
+use Rattle.paper.specs.declared.Item.{Item}
+use Rattle.paper.specs.declared.Item.the-variants.{Is, Equal}
+use Rattle.paper.specs.Numbers.{max-sites, max-fields, max-items, Outcome, done, refused}
+use Rattle.paper.specs.Sites.{site-at, child-count, child, number-of}
+use Rattle.paper.specs.Loading.{Loading}
+use Rattle.rule_words.specs.Packing.{InRange}
+use Rattle.rule_children.specs.Tail.{site-there}
+use Rattle.rule_check.specs.Holding.{shape-in, kid-in}
+use Rattle.rule_lists.specs.declared.Answer.the-variants as answer
+use Rattle.rule_items.specs.Shown.{Shown, shown}
+use Rattle.rule_items.specs.declared.Progress.{Progress}
+
+-- the sites that items name, after those of `before`, last first
+abbrev pub names : List Item → List ℕ → List ℕ
+names [] before = before
+names (Is s c ∷ rest) before = names rest (s ∷ before)
+names (Equal a b ∷ rest) before = names rest (a ∷ b ∷ before)
+
+-- after i items the lists tell l; rows from i on are free
+pub record Way (m : List ℕ) (n : ℕ) (tail : List ℕ) (t : ℕ) (sites rows words kids : List ℕ) (held : ℕ) (eqs : List ℕ) (equal i : ℕ) (l : Loading) : Type 0 where
+  pub shown : Shown m n tail t sites rows words kids held eqs equal l
+  pub few : held ≤ i
+  pub twice : equal ≤ 2 * i
+  pub short : t ≤ max-fields * i
+  pub older : (k : ℕ) → k < held → getD rows k 0 < i
+  pub numbered : (k : ℕ) → k < held → (f : ℕ) → f < child-count (shape-in words (getD rows k 0)) → number-of (l .sites) (child (getD sites k 0) (shape-in words (getD rows k 0)) f) ≡ some (kid-in kids (getD rows k 0) f)
+  pub named : (x : ℕ) → List·Memᴰ x (l .named) → x < length (l .sites)
+
+-- there is room for item i
+pub record Room (n t held i : ℕ) (tail sites rows words kids : List ℕ) : Type 0 where
+  pub item : i < max-items
+  pub few : held ≤ i
+  pub fits : n + t ≤ max-sites
+  pub short : t ≤ max-fields * i
+  pub tail-long : 8 * max-items ≤ length tail
+  pub sites-long : max-items ≤ length sites
+  pub rows-long : max-items ≤ length rows
+  pub words-long : 3 * max-items ≤ length words
+  pub kids-long : 8 * max-items ≤ length kids
+
+-- and for its numbers, if it is an equality
+pub record Space (equal i : ℕ) (eqs : List ℕ) : Type 0 where
+  pub item : i < max-items
+  pub twice : equal ≤ 2 * i
+  pub eqs-long : 2 * max-items ≤ length eqs
+
+-- item i was taken, or refused
+abbrev pub Turn : List ℕ → ℕ → List ℕ → List ℕ → List ℕ → List ℕ → List ℕ → List ℕ → Progress → ℕ → Outcome Loading → Type 0
+Turn m n tail sites rows words kids eqs r i (done l) = (r .answer ≡ answer.Fine) × Way m n tail (r .tail) sites rows words kids (r .held) eqs (r .equal) (i + 1) l
+Turn m n tail sites rows words kids eqs r i (refused e) = r .answer ≡ answer.Refused e
+
+-- all `count` items were taken, and l names what they name; or one was refused
+abbrev pub Walk : List ℕ → ℕ → List ℕ → List ℕ → List ℕ → List ℕ → List ℕ → List ℕ → Progress → ℕ → List Item → Outcome Loading → Type 0
+Walk m n tail sites rows words kids eqs r count items (done l) = (r .answer ≡ answer.Fine) × (Way m n tail (r .tail) sites rows words kids (r .held) eqs (r .equal) count l × (l .named ≡ names items []))
+Walk m n tail sites rows words kids eqs r count items (refused e) = r .answer ≡ answer.Refused e
+
+-- what check 5 reads
+pub record Sees (m : List ℕ) (n : ℕ) (tail sites rows words : List ℕ) (held : ℕ) (l : Loading) : Type 0 where
+  pub site : (x : ℕ) → x < length (l .sites) → site-at (l .sites) x ≡ site-there m n tail x
+  pub constraints-are : shown sites rows words held ≡ l .constraints
+  pub range : (i : ℕ) → i < held → InRange (shape-in words (getD rows i 0))
+  pub small : (i : ℕ) → i < held → getD sites i 0 < 65536
+
+-- all of them are sites of l
+abbrev pub Known : Loading → List ℕ → Type 0
+Known l ns = (x : ℕ) → List·Memᴰ x ns → x < length (l .sites)
+
+-- ---- a row
+
+-- the three words of row i
+pub record Worded (words : List ℕ) (i a b c : ℕ) (words′ : List ℕ) : Type 0 where
+  pub long : length words′ ≡ length words
+  pub one : getD words′ (3 * i) 0 ≡ a
+  pub two : getD words′ (3 * i + 1) 0 ≡ b
+  pub three : getD words′ (3 * i + 2) 0 ≡ c
+  pub other : (k : ℕ) → k < 3 * i → getD words′ k 0 ≡ getD words k 0
+
+-- the first f of the numbers `of` in row i
+pub record Filled (kids : List ℕ) (i : ℕ) (of : List ℕ) (f : ℕ) (kids′ : List ℕ) : Type 0 where
+  pub long : length kids′ ≡ length kids
+  pub each : (k : ℕ) → k < f → getD kids′ (max-fields * i + k) 0 ≡ getD of k 0
+  pub before : (k : ℕ) → k < max-fields * i → getD kids′ k 0 ≡ getD kids k 0
+  pub any : (k : ℕ) → (getD kids′ k 0 ≡ getD kids k 0) ⊎ ((j : ℕ) × (getD kids′ k 0 ≡ getD of j 0))

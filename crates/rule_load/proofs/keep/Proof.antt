@@ -1,0 +1,66 @@
+-- `rule_load::keep` meets its contract. Assumes nothing.
+use mathlib.Core.Path.{_≡_, refl, sym, ap, _∙_}
+use Prim.Native.Nat.{ℕ, _+_, _-_, _*_, _/_, _%_, _≤_, _<_}
+use native.Mathlib.Omega.{arith}
+use lib.Seq.{length-take-le}
+use Rattle.rule_load.proofs.Keeping.{wrote-as}
+use borrow.Author.Needs.{needs}
+use Rattle.rule_load.proofs.keep.Statement.{statement}
+use Rattle.rule_load.proofs.keep.Tie as tie
+
+mul-count : tie.Need-mul-count
+mul-count c = search needs
+
+slice-aggregate-gather : tie.Need-slice-aggregate-gather
+slice-aggregate-gather c = search needs
+
+gather-requires : tie.Need-gather-requires
+gather-requires c κs = search needs
+
+write-children-requires : tie.Need-write-children-requires
+write-children-requires c κs = search needs
+
+slice-aggregate-write : tie.Need-slice-aggregate-write
+slice-aggregate-write c = sym (length-take-le _ _ (c .before .before .before .before .before .before .before .before .before .before .before .before .before .before .before .before .before .pre .long-sites))
+
+array-share-prefix-out : tie.Need-array-share-prefix-out
+array-share-prefix-out c = search needs
+
+slice-aggregate-write-2 : tie.Need-slice-aggregate-write-2
+slice-aggregate-write-2 c = sym (length-take-le _ _ (omega (arith, c .before .before .before .before .before .before .before .before .gather .kept .1 .1 .1 .0, c .before .before .before .before .before .before .before .before .before .before .before .before .before .before .before .before .before .before .pre .few)))
+
+slice-aggregate-write-3 : tie.Need-slice-aggregate-write-3
+slice-aggregate-write-3 c = sym (length-take-le _ _ (c .before .before .before .before .before .before .before .before .before .before .before .before .before .before .before .before .before .before .before .pre .long-equal))
+
+slice-aggregate-write-4 : tie.Need-slice-aggregate-write-4
+slice-aggregate-write-4 c = sym (length-take-le _ _ (c .before .before .before .before .before .before .before .before .before .before .before .before .before .before .before .before .before .before .before .before .pre .long-low))
+
+write-requires : tie.Need-write-requires
+write-requires c κs = search needs
+
+same-length : tie.Need-same-length
+same-length c = search needs
+
+same-length-2 : tie.Need-same-length-2
+same-length-2 c = search needs
+
+returns : tie.Need-returns
+returns c = (c .before .before .before .before .before .before .before .before .before .before .write-children .ensures, wrote-as _ _ _ _ _ _ _ _ _ _ (c .before .before .write .ensures .1) (c .before .before .before .before .before .before .before .before .before .before .before .before .before .gather .ensures))
+
+pub keep-spec : {M : Type 1} → statement M
+keep-spec =
+    tie.close
+    (tie.spec
+    mul-count
+    slice-aggregate-gather
+    gather-requires
+    write-children-requires
+    slice-aggregate-write
+    array-share-prefix-out
+    slice-aggregate-write-2
+    slice-aggregate-write-3
+    slice-aggregate-write-4
+    write-requires
+    same-length
+    same-length-2
+    returns)

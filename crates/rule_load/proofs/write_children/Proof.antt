@@ -1,0 +1,71 @@
+-- `rule_load::write_children` meets its contract. Assumes nothing.
+use mathlib.Core.Path.{_≡_, refl, sym, ap, _∙_}
+use Prim.Native.Nat.{ℕ, _+_, _-_, _*_, _/_, _%_, _≤_, _<_}
+use native.Mathlib.Omega.{arith}
+use lib.ListN.{length}
+use Rattle.sites.specs.Slots.{store}
+use Rattle.rule_load.specs.Parts.{new-sites}
+use Rattle.rule_load.proofs.Placing.{none-stored, one-stored, all-stored}
+use Rattle.rule_load.proofs.write_children.Statement.{statement}
+use Rattle.rule_load.proofs.write_children.Tie as tie
+
+abbrev Inv-loop : tie.InvT-loop
+Inv-loop m₀ n tail t first count i₀ m i = (i ≤ count) × (m ≡ store m₀ n (new-sites tail i)) × (length m ≡ length m₀)
+
+abbrev μ-loop : tie.MeasureT-loop
+μ-loop m₀ n tail t first count i₀ m i = count - i
+
+size-requires : tie.Need-size-requires Inv-loop μ-loop
+size-requires c κs = tt
+
+size-requires-2 : tie.Need-size-requires-2 Inv-loop μ-loop
+size-requires-2 c κs = tt
+
+loop-holds : tie.Need-loop-holds Inv-loop μ-loop
+loop-holds c = (omega arith, none-stored _ _ _, refl)
+
+add-write-child : tie.Need-add-write-child Inv-loop μ-loop
+add-write-child c = omega (arith, c .before .before .before .before .size .ensures .0, c .before .before .before .size2 .ensures .0)
+
+mul-write-child : tie.Need-mul-write-child Inv-loop μ-loop
+mul-write-child c = omega (arith, c .before .before .before .size2 .ensures .1)
+
+shared-slice-read-write-child : tie.Need-shared-slice-read-write-child Inv-loop μ-loop
+shared-slice-read-write-child c = omega (arith, c .before .before .before .before .size2 .ensures .0)
+
+write-child-requires : tie.Need-write-child-requires Inv-loop μ-loop
+write-child-requires c κs = (omega (arith, c .before .before .before .before .before .size .ensures .0, c .before .before .before .before .size2 .ensures .0), omega (arith, c .before .before .before .before .before .size .ensures .0, c .before .before .before .before .size2 .ensures .0, c .before .before .before .loop .inv .2), c .before .before .before .before .before .before .before .before .pre .3 _ (omega (arith, c .before .before .before .before .size2 .ensures .0)))
+
+add-i : tie.Need-add-i Inv-loop μ-loop
+add-i c = omega (arith, c .before .before .before .before .before .before .before .size2 .ensures .1)
+
+loop-less : tie.Need-loop-less Inv-loop μ-loop
+loop-less c = omega arith
+
+loop-again : tie.Need-loop-again Inv-loop μ-loop
+loop-again c = (omega arith, one-stored _ _ _ _ _ _ _ (c .before .before .before .before .before .before .before .before .size .ensures .0) (c .before .before .before .before .before .before .loop .inv .1) (c .before .before .write-child .ensures), c .before .before .write-child .kept .0 ∙ c .before .before .before .before .before .before .loop .inv .2)
+
+same-length : tie.Need-same-length Inv-loop μ-loop
+same-length c = c .before .loop .inv .2
+
+returns : tie.Need-returns Inv-loop μ-loop
+returns c = all-stored _ _ _ _ _ _ (omega (arith, c .before .before .size2 .ensures .0)) (omega (arith, c .before .before .size2 .ensures .0)) (c .before .loop .inv .1)
+
+pub write-children-spec : {M : Type 1} → statement M
+write-children-spec =
+    tie.close
+    (tie.spec
+    Inv-loop
+    μ-loop
+    size-requires
+    size-requires-2
+    loop-holds
+    add-write-child
+    mul-write-child
+    shared-slice-read-write-child
+    write-child-requires
+    add-i
+    loop-less
+    loop-again
+    same-length
+    returns)

@@ -1,0 +1,22 @@
+use Rattle.rule_words.proofs.CountLaws.{count-less, count-more}
+use borrow.Author.Needs.{needs}
+use Rattle.rule_words.proofs.count.Statement.{statement}
+use Rattle.rule_words.proofs.count.Tie as tie
+use Rattle.rule_words.proofs.count.Reads as reads
+use Rattle.rule_words.proofs.count.Lts as lts
+use Rattle.rule_words.proofs.word.Reads as word-reads
+
+-- src/lib.rt:100:9
+word-requires : tie.Need-word-requires
+word-requires c κs = search needs
+
+-- src/lib.rt:102:9
+returns : tie.Need-returns
+returns c = count-less _ _ _ (c .before .word .ensures) (c .if1 .taken)
+
+-- src/lib.rt:96:1
+returns-2 : tie.Need-returns-2
+returns-2 c = count-more _ _ _ (c .before .word .ensures) (c .if1 .left)
+
+pub count-spec : {M : Type 1} → statement M
+count-spec = tie.close (tie.spec word-requires returns returns-2)

@@ -1,0 +1,69 @@
+// A finding's bytes as digits of a line, written into lent room. Past the end of the room nothing is stored.
+ghost use mathlib.Core.Path.{_≡_};
+ghost use mathlib.Core.List.{List, [], _∷_};
+ghost use Prim.Native.Nat.{ℕ, _<_};
+ghost use lib.ListN.{set};
+ghost use lib.Seq.{sets};
+ghost use Rattle.paper.specs.Words.{two, four};
+ghost use Rattle.paper.specs.Layout.{digit-of};
+ghost use Rattle.sheet_digits.specs.Digits.{digits};
+
+fn digit(v: u8) -> u8
+    requires { ⌜ v < 16 ⌝ }
+    ensures { λ r. ⌜ r ≡ digit-of v ⌝ }
+{
+    if v < 10 {
+        return v + 48;
+    }
+    v + 55
+}
+
+fn put(room: &mut [u8], at: usize, v: u8)
+    ensures { λ _. ⌜ now (room .exit) ≡ set (now (room .entry)) at v ⌝ }
+{
+    if at < room.len() {
+        room[at] = v;
+    }
+}
+
+// A byte, two digits.
+fn byte(room: &mut [u8], p: usize, b: u8)
+    requires { ⌜ p < 4294967396 ⌝ }
+    ensures { λ _. ⌜ now (room .exit) ≡ sets (now (room .entry)) p (digits (b ∷ [])) ⌝ }
+{
+    put(room, p, digit(b / 16));
+    put(room, p + 1, digit(b % 16));
+}
+
+pub fn put_byte(room: &mut [u8], at: u32, b: u8)
+    ensures { λ _. ⌜ now (room .exit) ≡ sets (now (room .entry)) at (digits (b ∷ [])) ⌝ }
+{
+    byte(room, at as usize, b);
+}
+
+// A number of two bytes.
+pub fn put_two(room: &mut [u8], at: u32, v: u16)
+    ensures { λ _. ⌜ now (room .exit) ≡ sets (now (room .entry)) at (digits (two v)) ⌝ }
+{
+    let p = at as usize;
+    byte(room, p, (v / 256) as u8);
+    byte(room, p + 2, (v % 256) as u8);
+}
+
+// A number of four bytes.
+pub fn put_four(room: &mut [u8], at: u32, v: u32)
+    ensures { λ _. ⌜ now (room .exit) ≡ sets (now (room .entry)) at (digits (four v)) ⌝ }
+{
+    let p = at as usize;
+    byte(room, p, (v / 256 / 256 / 256) as u8);
+    byte(room, p + 2, (v / 256 / 256 % 256) as u8);
+    byte(room, p + 4, (v / 256 % 256) as u8);
+    byte(room, p + 6, (v % 256) as u8);
+}
+
+// The end of the line.
+pub fn put_end(room: &mut [u8], at: u32)
+    ensures { λ _. ⌜ now (room .exit) ≡ set (now (room .entry)) at 10 ⌝ }
+{
+    put(room, at as usize, 10);
+}

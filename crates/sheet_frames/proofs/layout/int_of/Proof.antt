@@ -1,0 +1,28 @@
+use native.Mathlib.Omega.{arith}
+use mathlib.Core.Path.{_≡_, sym}
+use lib.ListN.{length, getD}
+use denote.Ref.{now}
+use Rattle.sheet_frames.proofs.Frames.{shape-int}
+use borrow.Author.Needs.{needs}
+use Rattle.sheet_frames.proofs.layout.int_of.Statement.{statement}
+use Rattle.sheet_frames.proofs.layout.int_of.Tie as tie
+
+two-at-requires : tie.Need-two-at-requires
+two-at-requires c κs = search needs
+
+eight-at-requires : tie.Need-eight-at-requires
+eight-at-requires c κs = search needs
+
+eight-at-requires-2 : tie.Need-eight-at-requires-2
+eight-at-requires-2 c κs = search needs
+
+returns : tie.Need-returns
+returns c =
+    let e = shape-int (now (c .before .before .before .before .args .s)) (c .before .before .before .before .pre .0) (c .before .before .before .before .pre .1) in
+    let f = c .before .before .two-at .ensures in
+    let g = c .before .eight-at .ensures in
+    let h = c .eight-at2 .ensures in
+    cc
+
+pub int-of-spec : {M : Type 1} → statement M
+int-of-spec = tie.close (tie.spec two-at-requires eight-at-requires eight-at-requires-2 returns)

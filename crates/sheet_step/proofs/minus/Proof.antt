@@ -1,0 +1,16 @@
+use Rattle.sheet_step.proofs.Small.{minus-so, minus-none}
+use Rattle.sheet_step.proofs.minus.Statement.{statement}
+use Rattle.sheet_step.proofs.minus.Tie as tie
+use Rattle.sheet_step.proofs.minus.Reads as reads
+use Rattle.sheet_step.proofs.minus.Lts as lts
+
+-- src/lib.rt:121:1
+returns : tie.Need-returns
+returns c = minus-so _ _ (c .if1 .taken)
+
+-- src/lib.rt:121:1
+returns-2 : tie.Need-returns-2
+returns-2 c = minus-none _ _ (c .if1 .left)
+
+pub minus-spec : {M : Type 1} → statement M
+minus-spec = tie.close (tie.spec returns returns-2)

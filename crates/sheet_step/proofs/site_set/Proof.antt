@@ -1,0 +1,43 @@
+use Rattle.sheet_step.proofs.Small.{at-site}
+use borrow.Author.Needs.{needs}
+use Rattle.sheet_step.proofs.site_set.Statement.{statement}
+use Rattle.sheet_step.proofs.site_set.Tie as tie
+use Rattle.sheet_step.proofs.site_set.Reads as reads
+use Rattle.sheet_step.proofs.site_set.Lts as lts
+
+-- src/lib.rt:161:28
+enum-told : tie.Need-enum-told
+enum-told c = search needs
+
+-- src/lib.rt:162:23
+enum-known-s : tie.Need-enum-known-s
+enum-known-s c = search needs
+
+-- src/lib.rt:163:29
+enum-told-2 : tie.Need-enum-told-2
+enum-told-2 c = search needs
+
+-- src/lib.rt:168:14
+enum-told-3 : tie.Need-enum-told-3
+enum-told-3 c = search needs
+
+-- src/lib.rt:157:1
+returns : tie.Need-returns
+returns c = search needs
+
+-- src/lib.rt:157:1
+returns-2 : tie.Need-returns-2
+returns-2 c = at-site _ _ (c .before .s .given .1)
+
+-- src/lib.rt:157:1
+returns-3 : tie.Need-returns-3
+returns-3 c = search needs
+
+-- src/lib.rt:157:1
+returns-4 : tie.Need-returns-4
+returns-4 c = search needs
+
+pub site-set-spec : {M : Type 1} → statement M
+site-set-spec =
+    tie.close
+    (tie.spec enum-told enum-known-s enum-told-2 enum-told-3 returns returns-2 returns-3 returns-4)

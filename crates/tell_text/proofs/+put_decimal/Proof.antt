@@ -1,0 +1,123 @@
+use Prim.Native.Nat.{ℕ, _<_}
+use native.Mathlib.Omega.{arith}
+use borrow.Author.Needs.{needs}
+use Rattle.tell_text.proofs.Laws.{last-digit, digit-after}
+use borrow.Fn.Kinds.{In}
+use borrow.Fn.PlainCycle.{Measures, is, falls, and}
+use Rattle.tell_text.proofs.put_decimal.Reads as put-decimal
+use Rattle.tell_text.proofs.put_decimal.Kinds as put-decimal-kinds
+use Rattle.tell_text.proofs.+put_decimal.Lts-put_decimal as put-decimal-lts
+use Rattle.tell_text.proofs.put.Reads as put-reads
+use Rattle.tell_text.proofs.+put_decimal.{statement}
+use Rattle.tell_text.proofs.+put_decimal.Tie.{close}
+
+abbrev μ-put-decimal : Measures 1 put-decimal-kinds.ps ℕ
+μ-put-decimal κs a = a .1 .1 .0
+
+abbrev put-decimal-at : ℕ → In 1 put-decimal-kinds.ps
+put-decimal-at t =
+    and 1 put-decimal-kinds.ps (is 1 put-decimal-kinds.ps μ-put-decimal t) put-decimal.Pre
+
+abbrev put-decimal-below : ℕ → In 1 put-decimal-kinds.ps
+put-decimal-below t =
+    and 1 put-decimal-kinds.ps (falls 1 put-decimal-kinds.ps _<_ μ-put-decimal t) put-decimal.Pre
+
+-- src/lib.rt:34:22
+put-decimal-cast-digit : (t : ℕ) → put-decimal-lts.Need-cast-digit (
+  put-reads.Asked,
+  put-reads.Learnt,
+  put-decimal-below t,
+  put-decimal.Post,
+) (put-decimal-at t) put-decimal.Post
+put-decimal-cast-digit t c = search needs
+
+-- src/lib.rt:34:17
+put-decimal-add-digit : (t : ℕ) → put-decimal-lts.Need-add-digit (
+  put-reads.Asked,
+  put-reads.Learnt,
+  put-decimal-below t,
+  put-decimal.Post,
+) (put-decimal-at t) put-decimal.Post
+put-decimal-add-digit t c = search needs
+
+-- src/lib.rt:36:9
+put-decimal-put-requires : (t : ℕ) → put-decimal-lts.Need-put-requires (
+  put-reads.Asked,
+  put-reads.Learnt,
+  put-decimal-below t,
+  put-decimal.Post,
+) (put-decimal-at t) put-decimal.Post
+put-decimal-put-requires t c κs = search needs
+
+-- src/lib.rt:36:9
+put-decimal-same-length : (t : ℕ) → put-decimal-lts.Need-same-length (
+  put-reads.Asked,
+  put-reads.Learnt,
+  put-decimal-below t,
+  put-decimal.Post,
+) (put-decimal-at t) put-decimal.Post
+put-decimal-same-length t c = search needs
+
+-- src/lib.rt:36:9
+put-decimal-returns : (t : ℕ) → put-decimal-lts.Need-returns (
+  put-reads.Asked,
+  put-reads.Learnt,
+  put-decimal-below t,
+  put-decimal.Post,
+) (put-decimal-at t) put-decimal.Post
+put-decimal-returns t c = last-digit _ _ _ (c .before .before .before .before .if1 .taken) (c .before .before .put .ensures)
+
+-- src/lib.rt:38:9
+put-decimal-put-decimal-requires : (t : ℕ) → put-decimal-lts.Need-put-decimal-requires (
+  put-reads.Asked,
+  put-reads.Learnt,
+  put-decimal-below t,
+  put-decimal.Post,
+) (put-decimal-at t) put-decimal.Post
+put-decimal-put-decimal-requires t c κs = (omega (arith, c .before .before .before .pre .0), tt)
+
+-- src/lib.rt:39:5
+put-decimal-put-requires-2 : (t : ℕ) → put-decimal-lts.Need-put-requires-2 (
+  put-reads.Asked,
+  put-reads.Learnt,
+  put-decimal-below t,
+  put-decimal.Post,
+) (put-decimal-at t) put-decimal.Post
+put-decimal-put-requires-2 t c κs = search needs
+
+-- src/lib.rt:31:1
+put-decimal-same-length-2 : (t : ℕ) → put-decimal-lts.Need-same-length-2 (
+  put-reads.Asked,
+  put-reads.Learnt,
+  put-decimal-below t,
+  put-decimal.Post,
+) (put-decimal-at t) put-decimal.Post
+put-decimal-same-length-2 t c = search needs
+
+-- src/lib.rt:31:1
+put-decimal-returns-2 : (t : ℕ) → put-decimal-lts.Need-returns-2 (
+  put-reads.Asked,
+  put-reads.Learnt,
+  put-decimal-below t,
+  put-decimal.Post,
+) (put-decimal-at t) put-decimal.Post
+put-decimal-returns-2 t c = digit-after _ _ _ _ (c .before .before .before .before .before .before .before .before .if1 .left) (c .before .before .before .before .before .before .put-decimal .ensures) (c .before .before .put2 .ensures)
+
+pub +put-decimal-spec : {M : Type 1} → statement M
++put-decimal-spec = close μ-put-decimal λ t. put-decimal-lts.spec (
+  put-reads.Asked,
+  put-reads.Learnt,
+  put-decimal-below t,
+  put-decimal.Post,
+)
+    (put-decimal-at t)
+    put-decimal.Post
+    (put-decimal-cast-digit t)
+    (put-decimal-add-digit t)
+    (put-decimal-put-requires t)
+    (put-decimal-same-length t)
+    (put-decimal-returns t)
+    (put-decimal-put-decimal-requires t)
+    (put-decimal-put-requires-2 t)
+    (put-decimal-same-length-2 t)
+    (put-decimal-returns-2 t)
