@@ -5,12 +5,12 @@ ghost use lib.ListN.{length, getD, set};
 ghost use Rattle.rule_words.specs.Stored.{put-four};
 ghost use Rattle.rule_words.specs.Packing.{InRange};
 ghost use Rattle.item_words.specs.Items.{Ranged, put-words, put-item, item-at};
-use rule_words::pack;
-use rule_words::unpack;
-use rule_words::word;
 use paper::Constraint;
 use paper::ITEMS;
 use paper::Item;
+use rule_words::pack;
+use rule_words::unpack;
+use rule_words::word;
 
 // Words that an item takes: its first site, and the three words of its constraint or its second site.
 pub const ITEM: usize = 4;

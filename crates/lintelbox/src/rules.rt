@@ -12,11 +12,11 @@ use crate::Said;
 use crate::done;
 use crate::say;
 use crate::wide32;
-use rule_words::STRIDE;
-use rule_words::start;
 use paper::Overlap;
 use report::REPORT_ROOM;
 use report::Reported;
+use rule_words::STRIDE;
+use rule_words::start;
 
 fn overlap_word(o: Overlap) -> u64
     ensures { λ r. ⌜ r ≡ overlap-word o ⌝ }

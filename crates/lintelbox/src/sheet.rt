@@ -15,18 +15,18 @@ use crate::SHORT;
 use crate::Said;
 use crate::done;
 use crate::say;
-use sheet_ended::END_ROOM;
-use sheet_findings::Room;
 use item_words::ITEMS_ROOM;
 use paper::TERMS;
-use sheet_state::keeps;
-use sheet_state::put_state;
-use sheet_state::state_in;
+use sheet_ended::END_ROOM;
+use sheet_findings::Room;
 use sheet_read::Checked;
 use sheet_read::KEPT_ROOM;
 use sheet_read::SITES_ROOM;
-use term_table::WORDS;
+use sheet_state::keeps;
+use sheet_state::put_state;
+use sheet_state::state_in;
 use sheet_step::STEP_ROOM;
+use term_table::WORDS;
 
 fn wide64(x: usize) -> u64
     ensures { λ r. ⌜ r ≡ x ⌝ }

@@ -15,12 +15,11 @@ use Rattle.paper.specs.declared.Refusal.{Refusal}
 use Rattle.paper.specs.declared.Refusal.the-variants.{TooManyRules, TooManyItems, PlaceUsed}
 use Rattle.paper.specs.Words.{look}
 use Rattle.paper.specs.Numbers.{max-rules, max-items, number, Outcome, done, refused}
-use Rattle.paper.specs.Sites.{Sites, child-number, Sound}
+use Rattle.paper.specs.Sites.{Sites, child-number, Sound, Extends}
 use Rattle.paper.specs.Inputs.{Given, Input, Meets, Agree, MeetsItem, Matches, MatchesKept}
-use Rattle.paper.specs.Loading.{Loading, Solving, Set, Written, Kept, started, lowest, load-items, normalise, with-rule, used, load}
-use Rattle.paper.proofs.Adding.{Extends}
+use Rattle.paper.specs.Loading.{Loading, Solving, Set, Written, Kept, started, lowest, load-items, normalise, with-rule, used, load, no-items}
 use Rattle.paper.proofs.Tables.{Rising, lowest-is}
-use Rattle.paper.proofs.Fair.{no-items, load-fair}
+use Rattle.paper.proofs.Fair.{load-fair}
 use Rattle.paper.proofs.Making.{load-done}
 use Rattle.meaning.specs.Kinds.{kind-in, Fulfils, input-is, Held}
 use Rattle.meaning.specs.Model.{Solved}
@@ -29,8 +28,8 @@ use Rattle.meaning.specs.Whole as H
 use Rattle.meaning.specs.Grow.{Full, full-of, input-part, input-more}
 use Rattle.meaning.specs.Joining.{Well, label-of}
 use Rattle.meaning.specs.Items.{begin-part, Went, load-part, items-clear}
-use Rattle.meaning.specs.RuleSites.{sites-left, rule-sites}
-use Rattle.meaning.specs.Clear.{Four-or-six, Clear, clear-done, clear-demand, clear-then}
+use Rattle.meaning.specs.RuleSites.{sites-left, rule-sites, Four-or-six}
+use Rattle.meaning.specs.Clear.{Clear, clear-done, clear-demand, clear-then}
 use Rattle.meaning.specs.Loads.{normalise-clear, ran, kept}
 use Rattle.meaning.specs.Rounds.{Ran}
 

@@ -15,10 +15,7 @@ use Rattle.paper.specs.Words.{first}
 use Rattle.paper.specs.Numbers.{max-sites, max-sources, max-term, number, Outcome, done, refused, _>>=_, demand}
 use Rattle.paper.specs.Sites.{Site, Sites, sources, term-of, known, number-of, children, missing-source, term-fits, or-next, add, add-all}
 use Rattle.paper.specs.Loading.{Solving, members, take-class, grow-all, round, rounds}
-
--- the refusals that say that no input matches
-abbrev pub Four-or-six : Refusal → Type 0
-Four-or-six x = (number x ≡ 4) ⊎ (number x ≡ 6)
+use Rattle.meaning.specs.RuleSites.{Four-or-six}
 
 -- the numbers of the others
 abbrev pub other : ℕ → Bool

@@ -11,14 +11,12 @@ use Rattle.paper.specs.declared.Item.the-variants.{Is, Equal}
 use Rattle.paper.specs.declared.Refusal.{Refusal}
 use Rattle.paper.specs.Words.{look}
 use Rattle.paper.specs.Numbers.{Outcome, done, refused}
-use Rattle.paper.specs.Sites.{Sites, Sound}
+use Rattle.paper.specs.Sites.{Sites, Sound, Extends}
 use Rattle.paper.specs.Inputs.{Given, Input, Meets, Agree, MeetsItem, Matches, MatchesKept}
 use Rattle.paper.specs.Loading.{Set, Written, Kept, load}
-use Rattle.paper.proofs.Adding.{Extends}
 use Rattle.paper.proofs.Making.{load-sound}
 use Rattle.meaning.specs.Grow.{input-part, input-more}
-use Rattle.meaning.specs.Clear.{Four-or-six}
-use Rattle.meaning.specs.RuleSites.{rule-sites}
+use Rattle.meaning.specs.RuleSites.{rule-sites, Four-or-six}
 use Rattle.meaning.specs.Answers as A
 use Rattle.meaning.specs.Demand3.{Keeps, Holds-equal, demand-2, demand-2-old, demand-3, demand-4}
 

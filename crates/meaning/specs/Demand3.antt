@@ -9,12 +9,10 @@ use Rattle.paper.specs.declared.Constraint.{Constraint}
 use Rattle.paper.specs.declared.Refusal.{Refusal}
 use Rattle.paper.specs.Words.{look}
 use Rattle.paper.specs.Numbers.{done, refused}
-use Rattle.paper.specs.Sites.{Sound}
+use Rattle.paper.specs.Sites.{Sound, Extends}
 use Rattle.paper.specs.Inputs.{Given, Input, Meets, Agree, Matches, MatchesKept}
 use Rattle.paper.specs.Loading.{Set, Written, Kept, load}
-use Rattle.paper.proofs.Adding.{Extends}
-use Rattle.meaning.specs.RuleSites.{rule-sites}
-use Rattle.meaning.specs.Clear.{Four-or-six}
+use Rattle.meaning.specs.RuleSites.{rule-sites, Four-or-six}
 use Rattle.meaning.specs.Answers as A
 
 -- No finite input, of the set's sites and the children that the rule's items add, matches the rule as written. (Change request [5] puts its inputs in the place of `Input` here, and only here.)

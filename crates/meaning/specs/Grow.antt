@@ -5,14 +5,14 @@ use Prim.Native.Nat.{ℕ, _<_}
 use native.Mathlib.Omega.{arith}
 use lib.ListN.{getElem?, length}
 use Rattle.paper.specs.declared.Constraint.{Constraint}
-use Rattle.paper.specs.Sites.{Site, Sites, site-at, constBool, constInt, constPrim, argument, extractor, constructor, iterator, makeVariant, matchVariant, makeStruct, extractStruct, makeSome, matchSome, matchTuple, child, child-count, child-number, Sound}
+use Rattle.paper.specs.Sites.{Site, Sites, site-at, constBool, constInt, constPrim, argument, extractor, constructor, iterator, makeVariant, matchVariant, makeStruct, extractStruct, makeSome, matchSome, matchTuple, child, child-count, child-number, Sound, Extends}
 use Rattle.paper.specs.Inputs.{Given, Input}
 use Rattle.meaning.specs.Values.{Proj, proj-at}
 use Rattle.meaning.specs.Kinds.{outside, free, child-of, kind-of, or-outside, kind-in, input-is}
 use Rattle.meaning.specs.Model.{Rooted, top, under}
 use Rattle.meaning.specs.Round.{State}
 use Rattle.meaning.specs.Eval.{input-grow}
-use Rattle.paper.proofs.Adding.{Extends, Has, get-inside, inside-has}
+use Rattle.paper.proofs.Adding.{Has, get-inside, inside-has}
 use Rattle.meaning.specs.Places.{kind-stays, child-kind, child-site, or-child, places-of}
 
 kind-inside : (t : Sites) (n m : ℕ) (p : Proj) → kind-in t n ≡ child-of m p → n < length t

@@ -16,14 +16,13 @@ use Rattle.paper.specs.declared.Item.the-variants.{Is, Equal}
 use Rattle.paper.specs.declared.Refusal.the-variants.{Unknown, Unreachable, TooManyFields}
 use Rattle.paper.specs.Words.{look, put}
 use Rattle.paper.specs.Numbers.{max-fields, number, done, demand}
-use Rattle.paper.specs.Sites.{Sites, same-constraint, fields, child, child-count, children, known, add-all, Sound}
+use Rattle.paper.specs.Sites.{Sites, same-constraint, fields, child, child-count, children, known, add-all, Sound, Extends}
 use Rattle.paper.specs.Inputs.{Given, Meets, MeetsItem, Matches, shape}
-use Rattle.paper.proofs.Fair.{no-items}
-use Rattle.paper.specs.Loading.{Loading, constrain, load-item, load-items}
+use Rattle.paper.specs.Loading.{Loading, constrain, load-item, load-items, no-items}
 use Rattle.paper.proofs.Laws.{same-constraint-true, same-list-refl}
 use Rattle.paper.proofs.Labels.{never, put-here, put-there}
 use Rattle.paper.proofs.Outcomes.{done-once, bind-done, demand-done}
-use Rattle.paper.proofs.Adding.{Extends, Has, extends-length, add-all-sound, add-all-extends, add-all-has}
+use Rattle.paper.proofs.Adding.{Has, extends-length, add-all-sound, add-all-extends, add-all-has}
 use Rattle.paper.proofs.Tables.{Rising, put-rising}
 use Rattle.meaning.specs.Places.{in-children}
 use Rattle.meaning.specs.Clear.{Clear, clear-done, clear-demand, clear-then, add-all-clear}

@@ -13,13 +13,13 @@ use Rattle.paper.specs.declared.Constraint.{Constraint}
 use Rattle.paper.specs.declared.Overlap.{Overlap}
 use Rattle.paper.specs.declared.Overlap.the-variants.{No, Yes, Subset}
 use Rattle.paper.specs.Words.{if_then_else_, look, every}
-use Rattle.paper.specs.Sites.{Sites, same-constraint, child-count, child-number, Sound}
+use Rattle.paper.specs.Sites.{Sites, same-constraint, child-count, child-number, Sound, Extends}
 use Rattle.paper.specs.Inputs.{Given, Input, Meets, Agree, MatchesKept, shape}
 use Rattle.paper.specs.Loading.{Set, Kept, Labels, Constraints, Made, begun, site-added, rule-loaded, lowest, empty-set, with-sites}
 use Rattle.paper.specs.Rules.{other-there, same-there, differ, within, no-equals, compare-with, may-overlap, total, rank, subset?, masks}
 use Rattle.paper.proofs.Laws.{same-constraint-true}
 use Rattle.paper.proofs.Labels.{never}
-use Rattle.paper.proofs.Adding.{Extends, add-extends}
+use Rattle.paper.proofs.Adding.{add-extends}
 use Rattle.paper.proofs.Tables.{look-in, in-look}
 use Rattle.paper.proofs.Making.{made-sound}
 use Rattle.meaning.specs.Values.{proj-at}

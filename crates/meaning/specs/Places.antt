@@ -7,9 +7,9 @@ use native.Mathlib.Omega.{arith}
 use lib.ListN.{getElem?, length}
 use Rattle.paper.specs.declared.Constraint.{Constraint}
 use Rattle.paper.specs.declared.Constraint.the-variants.{Variant, Struct, ConstBool, ConstInt, ConstPrim, Some}
-use Rattle.paper.specs.Sites.{Site, Sites, constBool, constInt, constPrim, argument, extractor, constructor, iterator, makeVariant, matchVariant, makeStruct, extractStruct, makeSome, matchSome, matchTuple, sources, child, child-count, children, site-at, child-number, Sound}
+use Rattle.paper.specs.Sites.{Site, Sites, constBool, constInt, constPrim, argument, extractor, constructor, iterator, makeVariant, matchVariant, makeStruct, extractStruct, makeSome, matchSome, matchTuple, sources, child, child-count, children, site-at, child-number, Sound, Extends}
 use Rattle.paper.proofs.Closure.{of-below, in-below}
-use Rattle.paper.proofs.Adding.{Extends, Has, get-inside, inside-has, child-there}
+use Rattle.paper.proofs.Adding.{Has, get-inside, inside-has, child-there}
 use Rattle.meaning.specs.Values.{Proj, variant-at, struct-at, inner-at, proj-at}
 use Rattle.meaning.specs.Kinds.{outside, free, child-of, kind-of, or-outside, kind-in, Places}
 

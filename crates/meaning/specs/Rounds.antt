@@ -9,14 +9,14 @@ use lib.ListN.{length}
 use Rattle.paper.specs.declared.Constraint.{Constraint}
 use Rattle.paper.specs.Words.{look, put}
 use Rattle.paper.specs.Numbers.{Outcome, done, _>>=_}
-use Rattle.paper.specs.Sites.{Sites, child, child-count, child-number, Sound}
+use Rattle.paper.specs.Sites.{Sites, child, child-count, child-number, Sound, Extends}
 use Rattle.paper.specs.Inputs.{Value, Given, shape}
 use Rattle.paper.specs.Loading.{Constraints, Labels, Solving, lowest, join-all, members, dissolve, others, like-children, take-class, give-all, grow-all, join-children, round, rounds}
 use Rattle.paper.proofs.Joins.{joinAll}
 use Rattle.paper.proofs.Labels.{never, put-here, put-there}
 use Rattle.paper.proofs.Closure.{of-below, in-below}
 use Rattle.paper.proofs.Outcomes.{done-once, bind-done}
-use Rattle.paper.proofs.Adding.{Extends, Has}
+use Rattle.paper.proofs.Adding.{Has}
 use Rattle.paper.proofs.Tables.{lowest-is, lowest-own, of-members, in-members}
 use Rattle.paper.proofs.Fair.{Fair, grow-all-sound, grow-all-extends, grow-all-has, round-fair}
 use Rattle.paper.proofs.Taking.{Taken, taken}

@@ -1,9 +1,11 @@
 -- The sites that a rule speaks of: the set's, and the children that its constrained sites have got when its items are loaded. (Where an item is
 -- refused, the set's: if that is with 4, no values at all meet the items up to there.)
-use Rattle.paper.specs.Numbers.{Outcome, done, refused}
+use mathlib.Core.Path.{_≡_}
+use mathlib.Core.Logic.{_⊎_}
+use Rattle.paper.specs.declared.Refusal.{Refusal}
+use Rattle.paper.specs.Numbers.{number, Outcome, done, refused}
 use Rattle.paper.specs.Sites.{Sites}
-use Rattle.paper.specs.Loading.{Loading, Set, Written, load-items}
-use Rattle.paper.proofs.Fair.{no-items}
+use Rattle.paper.specs.Loading.{Loading, Set, Written, load-items, no-items}
 
 abbrev pub sites-left : Sites → Outcome Loading → Sites
 sites-left t (done l) = l .sites
@@ -11,3 +13,7 @@ sites-left t (refused x) = t
 
 abbrev pub rule-sites : Set → Written → Sites
 rule-sites g r = sites-left (g .sites) (load-items (no-items (g .sites)) 0 (r .items))
+
+-- the refusals that say that no input matches
+abbrev pub Four-or-six : Refusal → Type 0
+Four-or-six x = (number x ≡ 4) ⊎ (number x ≡ 6)

@@ -27,7 +27,7 @@ use Rattle.sites.proofs.Places.{sites-length}
 use Rattle.rule_load.specs.Whole.{set-in, load-in}
 use Rattle.rule_load.proofs.Parting.{first-length}
 use Rattle.rule_load.proofs.Afterwards.{load-is, kept-comes}
-use Rattle.meaning.specs.Clear.{Four-or-six}
+use Rattle.meaning.specs.RuleSites.{Four-or-six}
 use Rattle.meaning.specs.Demand3.{Unmatched, Keeps, Holds-equal, demand-1, demand-2, demand-3, demand-4}
 
 loaded-so : (m : List ℕ) (n : ℕ) (ws : List ℕ) (k : ℕ) (r : Rule) (g : Set) → load-in m n ws k r ≡ done g → load (set-in m n ws k) (written r) ≡ done g

@@ -15,13 +15,10 @@ use Rattle.paper.specs.Words.{or-else, first}
 use Rattle.paper.specs.Numbers.{max-sites, max-sources, max-term, done, demand}
 use Rattle.paper.specs.declared.Constraint.{Constraint}
 use Rattle.paper.specs.declared.Refusal.the-variants.{TooManySites, TooManySources, TermTooHigh}
-use Rattle.paper.specs.Sites.{Site, Sites, sources, term-of, same-site, body, child, site-at, known, number-of, child-number, missing-source, term-fits, Added, or-next, add, add-all, Sound}
+use Rattle.paper.specs.Sites.{Site, Sites, sources, term-of, same-site, body, child, site-at, known, number-of, child-number, missing-source, term-fits, Added, or-next, add, add-all, Sound, Extends}
 use Rattle.paper.proofs.Laws.{same-site-true, same-list-refl}
 use Rattle.paper.proofs.Labels.{never}
 use Rattle.paper.proofs.Outcomes.{not-refused, done-once, bind-done, demand-done}
-
-abbrev pub Extends : Sites → Sites → Type 0
-Extends t u = (n : ℕ) (s : Site) → getElem? t n ≡ some s → getElem? u n ≡ some s
 
 abbrev pub Has : Sites → Site → Type 0
 Has t s = (n : ℕ) × (getElem? t n ≡ some s)

@@ -18,12 +18,12 @@ use Rattle.paper.specs.declared.Constraint.the-variants.{Variant, Struct
 use Rattle.paper.specs.declared.Item.the-variants.{Is, Equal}
 use Rattle.paper.specs.Words.{if_then_else_, look}
 use Rattle.paper.specs.Numbers.{max-sites, most-rounds, Outcome, done, refused, _>>=_}
-use Rattle.paper.specs.Sites.{Site, Sites, Sound, constBool, constInt, constPrim, argument, extractor, constructor, iterator, makeVariant, matchVariant, makeStruct, extractStruct, makeSome, matchSome, matchTuple, sources, parent, child, site-at}
-use Rattle.paper.specs.Loading.{Loading, Labels, Solving, load-items, take-class, round, rounds, started, all-loading}
+use Rattle.paper.specs.Sites.{Site, Sites, Sound, constBool, constInt, constPrim, argument, extractor, constructor, iterator, makeVariant, matchVariant, makeStruct, extractStruct, makeSome, matchSome, matchTuple, sources, parent, child, site-at, Extends}
+use Rattle.paper.specs.Loading.{Loading, Labels, Solving, load-items, take-class, round, rounds, started, all-loading, no-items}
 use Rattle.paper.proofs.Labels.{never}
 use Rattle.paper.proofs.Outcomes.{done-once, bind-done}
-use Rattle.paper.proofs.Adding.{Extends, inside-has, has-site-at, extends-length, extends-site-at}
-use Rattle.paper.proofs.Fair.{Fair, Why, stayed, child-of, joined-after, round-extends, round-fair, no-items}
+use Rattle.paper.proofs.Adding.{inside-has, has-site-at, extends-length, extends-site-at}
+use Rattle.paper.proofs.Fair.{Fair, Why, stayed, child-of, joined-after, round-extends, round-fair}
 use Rattle.paper.proofs.Taking.{taken, none-left}
 
 -- ---- sums

@@ -17,12 +17,12 @@ use Rattle.paper.specs.declared.Item.the-variants.{Is, Equal}
 use Rattle.paper.specs.declared.Refusal.the-variants.{Unknown, Unreachable, TooManyFields}
 use Rattle.paper.specs.Words.{look, put}
 use Rattle.paper.specs.Numbers.{max-fields, done}
-use Rattle.paper.specs.Sites.{Sites, Sound, same-constraint, fields, child, child-count, children, child-number, known, add-all}
-use Rattle.paper.specs.Loading.{Loading, Labels, Constraints, Solving, join-all, members, others, dissolve, like-children, constrain, load-item, load-items, give-all, grow-all, join-children, round, started}
+use Rattle.paper.specs.Sites.{Sites, Sound, same-constraint, fields, child, child-count, children, child-number, known, add-all, Extends}
+use Rattle.paper.specs.Loading.{Loading, Labels, Constraints, Solving, join-all, members, others, dissolve, like-children, constrain, load-item, load-items, give-all, grow-all, join-children, round, started, no-items}
 use Rattle.paper.proofs.Labels.{never, put-here, put-there}
 use Rattle.paper.proofs.Closure.{of-below, in-below}
 use Rattle.paper.proofs.Outcomes.{done-once, bind-done, demand-done}
-use Rattle.paper.proofs.Adding.{Extends, Has, get-inside, extends-length, child-there, add-all-sound, add-all-extends, add-all-has}
+use Rattle.paper.proofs.Adding.{Has, get-inside, extends-length, child-there, add-all-sound, add-all-extends, add-all-has}
 use Rattle.paper.proofs.Tables.{of-keep, Rising, put-rising, Fine, fine-more, none-fine, join-all-fine, of-members, in-members, dissolve-fine}
 
 -- a constrained site is a site, and its children are there
@@ -109,9 +109,6 @@ load-items-loaded l at (i ∷ is) l′ L e =
 
 pub started-fair : (l : Loading) → Loaded l → Fair (started l)
 started-fair l L = record { sites = L .sites; classes = join-all-fine [] (l .equalities) (L .equal) none-fine; ascending = L .ascending; grown = L .grown }
-
-abbrev pub no-items : Sites → Loading
-no-items t = record { sites = t; constraints = []; equalities = []; named = [] }
 
 pub load-fair : (t : Sites) (at : ℕ) (is : List Item) (l : Loading) → Sound t → load-items (no-items t) at is ≡ done l → Fair (started l)
 unfolding look

@@ -11,10 +11,10 @@ use Rattle.paper.specs.declared.Refusal.the-variants.{TooManyRules, TooM
 use Rattle.paper.specs.Words.{look}
 use Rattle.paper.specs.Numbers.{max-rules, max-items, max-constrained, max-equal, most-rounds, done}
 use Rattle.paper.specs.Sites.{Sound}
-use Rattle.paper.specs.Loading.{Written, Kept, Set, Loading, Solving, closure, holders, conflict, check-4, steps, endless, hanging, no-hanging, no-endless, load-items, rounds, started, normalise, with-rule, used, load, empty-set, with-sites, Made, begun, site-added, rule-loaded}
+use Rattle.paper.specs.Loading.{Written, Kept, Set, Loading, Solving, closure, holders, conflict, check-4, steps, endless, hanging, no-hanging, no-endless, load-items, rounds, started, normalise, with-rule, used, load, empty-set, with-sites, Made, begun, site-added, rule-loaded, no-items}
 use Rattle.paper.proofs.Outcomes.{done-once, bind-done, demand-done}
 use Rattle.paper.proofs.Adding.{none-there, add-sound}
-use Rattle.paper.proofs.Fair.{Fair, no-items, load-fair}
+use Rattle.paper.proofs.Fair.{Fair, load-fair}
 use Rattle.paper.proofs.Ends.{rounds-fair, unconstrained}
 
 pub normalise-rounds : (l : Loading) (count : ℕ) (r : Solving) → normalise l count ≡ done r → rounds most-rounds count (started l) ≡ done r

@@ -18,10 +18,10 @@ ghost use Rattle.rule_check.specs.Growing.{Inside, Equates, JoinsKids, m
 ghost use Rattle.rule_check.specs.Meeting.{Reps, Unlike, ClashIs, BossTo, Seated};
 ghost use Rattle.rule_check.specs.Search.{Path, Ready, Safe, Over, Keeps, Visited, Visit, Extends, Marks, Listed, Fresh, Searched, Told, Lower, LowestOf, AllNamed, Lowest, WalksIs};
 use classes::Joined;
-use rule_words::word;
 use paper::FIELDS;
 use paper::Refusal;
 use paper::SITES;
+use rule_words::word;
 
 pub enum Verdict {
     Passes,

@@ -14,8 +14,7 @@ use Rattle.paper.specs.declared.Refusal.the-variants.{TooManySites, TooManyItem
 use Rattle.paper.specs.declared.Item.{Item}
 use Rattle.paper.specs.Words.{keep, least}
 use Rattle.paper.specs.Numbers.{max-sites, max-items, Outcome, done, refused, _>>=_}
-use Rattle.paper.specs.Loading.{Loading, load-items, hangs, hanging, no-hanging}
-use Rattle.paper.proofs.Fair.{no-items}
+use Rattle.paper.specs.Loading.{Loading, load-items, hangs, hanging, no-hanging, no-items}
 use Rattle.sites.specs.Slots.{sites-in}
 use Rattle.rule_lists.specs.Entries.{found-as}
 use Rattle.rule_lists.specs.declared.Answer.the-variants as answer

@@ -20,8 +20,7 @@ use Rattle.paper.specs.Words.{below, look}
 use Rattle.paper.specs.Numbers.{max-sites, max-fields, max-items, Outcome, done, refused, _>>=_}
 use Rattle.paper.proofs.Outcomes.{done-once, bind-done, demand-done}
 use Rattle.paper.specs.Sites.{fields, known, same-constraint, children, add-all}
-use Rattle.paper.specs.Loading.{Loading, constrain, load-item, load-items}
-use Rattle.paper.proofs.Fair.{no-items}
+use Rattle.paper.specs.Loading.{Loading, constrain, load-item, load-items, no-items}
 use Rattle.sites.specs.Slots.{sites-in}
 use Rattle.rule_children.specs.Tail.{table}
 use Rattle.rule_check.specs.Holding.{eqs-in}

@@ -11,8 +11,7 @@ use Rattle.paper.specs.declared.Refusal.the-variants.{TooManySites, TooManyItem
 use Rattle.paper.specs.Words.{below}
 use Rattle.paper.specs.Numbers.{max-sites, max-fields, max-items, Outcome, done, refused, _>>=_, demand}
 use Rattle.paper.specs.Sites.{child-count, child-number}
-use Rattle.paper.specs.Loading.{Constraints, Loading, load-items, hanging, no-hanging}
-use Rattle.paper.proofs.Fair.{no-items}
+use Rattle.paper.specs.Loading.{Constraints, Loading, load-items, hanging, no-hanging, no-items}
 use Rattle.rule_words.specs.Packing.{InRange}
 use Rattle.sites.specs.Slots.{sites-in}
 use Rattle.rule_children.specs.Tail.{table}

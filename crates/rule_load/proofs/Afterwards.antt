@@ -15,10 +15,9 @@ use Rattle.paper.specs.declared.Refusal.the-variants.{TooManySites, TooManyRule
 use Rattle.paper.specs.Words.{if_then_else_, joined}
 use Rattle.paper.specs.Numbers.{max-sites, max-rules, max-items, max-constrained, max-equal, most-rounds, Outcome, done, refused, _>>=_, demand}
 use Rattle.paper.specs.Sites.{Sites}
-use Rattle.paper.specs.Loading.{Kept, Set, Written, written, Loading, Solving, load-items, normalise, started, rounds, with-rule, used, load, closure, holders, conflict, check-4, steps, endless, no-endless}
+use Rattle.paper.specs.Loading.{Kept, Set, Written, written, Loading, Solving, load-items, normalise, started, rounds, with-rule, used, load, closure, holders, conflict, check-4, steps, endless, no-endless, no-items}
 use Rattle.paper.specs.Rules.{no-rule}
 use Rattle.paper.proofs.Outcomes.{done-once, bind-done, demand-done}
-use Rattle.paper.proofs.Fair.{no-items}
 use Rattle.paper.proofs.Making.{Loads, load-done, normalise-rounds}
 use Rattle.rule_words.specs.Stored.{run, base, stride, kept-in, kept-first, fits-in, put-rule, handed}
 use Rattle.rule_words.specs.Stored as stored

@@ -13,9 +13,8 @@ use Rattle.paper.specs.declared.Refusal.{Refusal}
 use Rattle.paper.specs.declared.Refusal.the-variants.{TooManySites, TooManyRules, TooManyItems, TooManyConstrained, TooManyEqual, PlaceUsed}
 use Rattle.paper.specs.Words.{any}
 use Rattle.paper.specs.Numbers.{max-sites, max-rules, max-items, max-constrained, max-equal, most-rounds, Outcome, done, refused, _>>=_, demand}
-use Rattle.paper.specs.Loading.{Kept, Set, Written, written, Loading, Solving, load-items, hanging, no-hanging, closure, holders, conflict, check-4, steps, endless, no-endless, rounds, started, normalise, with-rule, used, load}
+use Rattle.paper.specs.Loading.{Kept, Set, Written, written, Loading, Solving, load-items, hanging, no-hanging, closure, holders, conflict, check-4, steps, endless, no-endless, rounds, started, normalise, with-rule, used, load, no-items}
 use Rattle.paper.proofs.Outcomes.{done-once, bind-done, demand-done}
-use Rattle.paper.proofs.Fair.{no-items}
 use Rattle.rule_words.specs.Stored.{run, base, stride, kept-in, kept-first}
 use Rattle.sites.specs.Slots.{slot, sites-in}
 use Rattle.sites.proofs.Places.{sites-length}

@@ -15,9 +15,6 @@ ghost use Rattle.item_words.specs.Items.{items-in, rule-in};
 ghost use Rattle.rule_load.specs.Rounding.{Rounds, Unless};
 ghost use Rattle.rule_load.specs.Whole.{load-in, loaded-as, sites-after, words-after};
 ghost use Rattle.rule_load.specs.Parts.{has-place, admitted, answer-as, worked, settled, ChildWord, Lent, Left, SameTo, Keepable, Finishable, Finishes, Answers, Tries, gathered, new-sites};
-use rule_check::Verdict;
-use rule_lists::Answer;
-use rule_items::Progress;
 use paper::CONSTRAINED;
 use paper::EQUALS;
 use paper::ITEMS;
@@ -25,6 +22,9 @@ use paper::RULES;
 use paper::Refusal;
 use paper::Rule;
 use paper::SITES;
+use rule_check::Verdict;
+use rule_items::Progress;
+use rule_lists::Answer;
 
 const SLOT: usize = 32;
 

@@ -16,16 +16,15 @@ ghost use Rattle.term_table.specs.Table.{no-edges};
 ghost use Rattle.sheet_step.specs.State.{lent};
 ghost use Rattle.run_sheets.specs.Taken.{Took, Closed, fresh-flow, Bordered, Taken, stand, Took-rest, Took-chunk, Read, Ran};
 ghost use Rattle.run_sheets.specs.Told.{part-of, end-in, is-border, line-from, byte-of, bytes-in, finding-in, in-words, pairs-with, pair-lines, set-of, event-text, answer, goes-on, is-clean, is-stop, last-text, last-answer, need, spared};
-use sheet_ended::to_or;
-use sheet_frames::digits::value_of;
 use item_words::ITEMS_ROOM;
 use paper::TERMS;
+use sheet_ended::to_or;
+use sheet_frames::digits::value_of;
 use sheet_lines::Ends;
 use sheet_lines::Held;
 use sheet_read::KEPT_ROOM;
 use sheet_read::SITES_ROOM;
 use sheet_read::State;
-use term_table::WORDS;
 use sheet_step::Event;
 use sheet_step::OpenSet;
 use sheet_step::Reader;
@@ -33,6 +32,7 @@ use sheet_step::STEP_ROOM;
 use sheet_step::Stands;
 use tell_text::put;
 use tell_text::put_text;
+use term_table::WORDS;
 
 pub enum How {
     Check,

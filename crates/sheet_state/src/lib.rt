@@ -8,16 +8,16 @@ ghost use lib.Seq.{sets};
 ghost use Rattle.paper.specs.Words.{if_then_else_};
 ghost use Rattle.sheet_lines.specs.Fed.{max-held};
 ghost use Rattle.sheet_state.specs.State.{state-words, keeps, bit, set-in, rule-in, stands-in, row-in, ended-in, reader-in, stopped-in, bytes-in, state-in, set-words, rule-words, both-words, stands-words, ended-words, reader-words, state-put, held-put};
-use sheet_ended::Ended;
 use rule_words::word;
+use sheet_ended::Ended;
 use sheet_lines::HELD;
 use sheet_lines::Held;
 use sheet_read::State;
-use term_table::WORDS;
 use sheet_step::Awaited;
 use sheet_step::OpenSet;
 use sheet_step::Reader;
 use sheet_step::Stands;
+use term_table::WORDS;
 
 // Words that the state takes: the line; where the reader stands, the open set, the awaited rule and the items left; the sets that were ended; how many
 // bytes of a line are held; whether the sheet stopped.
