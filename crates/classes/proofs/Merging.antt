@@ -24,11 +24,11 @@ use Rattle.classes.proofs.Halving.{Kept, halved-kept, halved-found}
 use Rattle.classes.proofs.Entering.{enter-well, found-x, found-off}
 use Rattle.classes.proofs.Linking.{link-well, found-after, members-a}
 
--- a power of two that is at most 1,024 has an exponent of at most 10
+-- a power of two that is at most max-sites has an exponent of at most log-sites
 pub log-le : (k : ℕ) → 2 ^ k ≤ max-sites → k ≤ log-sites
-log-le k h = go (decLt 10 k)
+log-le k h = go (decLt log-sites k)
   where
-    go : Dec (10 < k) → k ≤ log-sites
+    go : Dec (log-sites < k) → k ≤ log-sites
     go (yes l) = absurd (omega (arith, pow-lt l))
     go (no d) = omega arith
 
