@@ -1,10 +1,10 @@
--- `run_script::put_sought` meets its contract. Assumes nothing.
+-- `tell_reply::put_sought` meets its contract. Assumes nothing.
 use mathlib.Core.Path.{sym, ap}
-use Rattle.run_script.specs.Said.{sought-text}
-use Rattle.run_script.proofs.Saying.{told}
+use Rattle.tell_reply.specs.Replies.{sought-text}
+use Rattle.tell_reply.proofs.Wording.{told}
 use borrow.Author.Needs.{needs}
-use Rattle.run_script.proofs.put_sought.Statement.{statement}
-use Rattle.run_script.proofs.put_sought.Tie as tie
+use Rattle.tell_reply.proofs.put_sought.Statement.{statement}
+use Rattle.tell_reply.proofs.put_sought.Tie as tie
 
 enum-known-s : tie.Need-enum-known-s
 enum-known-s c = search needs

@@ -1,10 +1,10 @@
--- `run_script::put_looked` meets its contract. Assumes nothing.
+-- `tell_reply::put_looked` meets its contract. Assumes nothing.
 use mathlib.Core.Path.{sym, ap}
-use Rattle.run_script.specs.Said.{looked-text}
-use Rattle.run_script.proofs.Saying.{told}
+use Rattle.tell_reply.specs.Replies.{looked-text}
+use Rattle.tell_reply.proofs.Wording.{told}
 use borrow.Author.Needs.{needs}
-use Rattle.run_script.proofs.put_looked.Statement.{statement}
-use Rattle.run_script.proofs.put_looked.Tie as tie
+use Rattle.tell_reply.proofs.put_looked.Statement.{statement}
+use Rattle.tell_reply.proofs.put_looked.Tie as tie
 
 enum-known-l : tie.Need-enum-known-l
 enum-known-l c = search needs

@@ -1,10 +1,10 @@
--- `run_script::put_member` meets its contract. Assumes nothing.
+-- `tell_reply::put_member` meets its contract. Assumes nothing.
 use mathlib.Core.Path.{sym}
 use Rattle.tell_text.specs.Written.{follows}
-use Rattle.run_script.proofs.Saying.{told, member-first, member-next}
+use Rattle.tell_reply.proofs.Wording.{told, member-first, member-next}
 use borrow.Author.Needs.{needs}
-use Rattle.run_script.proofs.put_member.Statement.{statement}
-use Rattle.run_script.proofs.put_member.Tie as tie
+use Rattle.tell_reply.proofs.put_member.Statement.{statement}
+use Rattle.tell_reply.proofs.put_member.Tie as tie
 
 put-decimal-requires : tie.Need-put-decimal-requires
 put-decimal-requires c κs = search needs

@@ -1,14 +1,14 @@
--- `run_script::put_members` meets its contract. Assumes nothing.
+-- `tell_reply::put_members` meets its contract. Assumes nothing.
 use mathlib.Core.Path.{_≡_, refl}
 use Prim.Native.Nat.{_≤_, _-_}
 use native.Mathlib.Omega.{arith}
 use lib.ListN.{length}
 use Rattle.tell_text.specs.Written.{wrote}
-use Rattle.run_script.specs.Said.{members-text}
-use Rattle.run_script.proofs.Saying.{members-none, members-more, members-all}
+use Rattle.tell_reply.specs.Replies.{members-text}
+use Rattle.tell_reply.proofs.Wording.{members-none, members-more, members-all}
 use borrow.Author.Needs.{needs}
-use Rattle.run_script.proofs.put_members.Statement.{statement}
-use Rattle.run_script.proofs.put_members.Tie as tie
+use Rattle.tell_reply.proofs.put_members.Statement.{statement}
+use Rattle.tell_reply.proofs.put_members.Tie as tie
 
 abbrev Inv-loop : tie.InvT-loop
 Inv-loop out₀ n members k m₀ i₀ out m i = (i ≤ length members) × (i ≤ k) × (length out ≡ length out₀) × ((out, m) ≡ wrote (out₀, n) (members-text members i))

@@ -1,10 +1,10 @@
--- `run_script::put_found` meets its contract. Assumes nothing.
+-- `tell_reply::put_found` meets its contract. Assumes nothing.
 use mathlib.Core.Path.{sym, ap}
-use Rattle.run_script.specs.Said.{found-text}
-use Rattle.run_script.proofs.Saying.{told}
+use Rattle.tell_reply.specs.Replies.{found-text}
+use Rattle.tell_reply.proofs.Wording.{told}
 use borrow.Author.Needs.{needs}
-use Rattle.run_script.proofs.put_found.Statement.{statement}
-use Rattle.run_script.proofs.put_found.Tie as tie
+use Rattle.tell_reply.proofs.put_found.Statement.{statement}
+use Rattle.tell_reply.proofs.put_found.Tie as tie
 
 enum-known-f : tie.Need-enum-known-f
 enum-known-f c = search needs

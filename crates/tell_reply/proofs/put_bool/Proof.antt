@@ -1,10 +1,10 @@
--- `run_script::put_bool` meets its contract. Assumes nothing.
+-- `tell_reply::put_bool` meets its contract. Assumes nothing.
 use mathlib.Core.Path.{sym, ap}
-use Rattle.run_script.specs.Said.{bool-text}
-use Rattle.run_script.proofs.Saying.{told}
+use Rattle.tell_reply.specs.Replies.{bool-text}
+use Rattle.tell_reply.proofs.Wording.{told}
 use borrow.Author.Needs.{needs}
-use Rattle.run_script.proofs.put_bool.Statement.{statement}
-use Rattle.run_script.proofs.put_bool.Tie as tie
+use Rattle.tell_reply.proofs.put_bool.Statement.{statement}
+use Rattle.tell_reply.proofs.put_bool.Tie as tie
 
 slice-aggregate-put-text : tie.Need-slice-aggregate-put-text
 slice-aggregate-put-text c = search needs

@@ -1,11 +1,11 @@
--- `run_script::put_refusal` meets its contract. Assumes nothing.
+-- `tell_reply::put_refusal` meets its contract. Assumes nothing.
 use mathlib.Core.Path.{sym, ap}
 use Rattle.tell_text.specs.Written.{nothing, follows}
-use Rattle.run_script.specs.Said.{refusal-text}
-use Rattle.run_script.proofs.Saying.{told, refusal-other}
+use Rattle.tell_reply.specs.Replies.{refusal-text}
+use Rattle.tell_reply.proofs.Wording.{told, refusal-other}
 use borrow.Author.Needs.{needs}
-use Rattle.run_script.proofs.put_refusal.Statement.{statement}
-use Rattle.run_script.proofs.put_refusal.Tie as tie
+use Rattle.tell_reply.proofs.put_refusal.Statement.{statement}
+use Rattle.tell_reply.proofs.put_refusal.Tie as tie
 
 enum-known-e : tie.Need-enum-known-e
 enum-known-e c = search needs

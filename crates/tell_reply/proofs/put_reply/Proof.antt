@@ -1,11 +1,11 @@
--- `run_script::put_reply` meets its contract. Assumes nothing.
+-- `tell_reply::put_reply` meets its contract. Assumes nothing.
 use mathlib.Core.Path.{sym, ap}
 use Rattle.tell_text.specs.Written.{follows}
-use Rattle.run_script.specs.Said.{reply-text}
-use Rattle.run_script.proofs.Saying.{told}
+use Rattle.tell_reply.specs.Replies.{reply-text}
+use Rattle.tell_reply.proofs.Wording.{told}
 use borrow.Author.Needs.{needs}
-use Rattle.run_script.proofs.put_reply.Statement.{statement}
-use Rattle.run_script.proofs.put_reply.Tie as tie
+use Rattle.tell_reply.proofs.put_reply.Statement.{statement}
+use Rattle.tell_reply.proofs.put_reply.Tie as tie
 
 enum-known-r : tie.Need-enum-known-r
 enum-known-r c = search needs

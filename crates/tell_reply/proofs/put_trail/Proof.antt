@@ -1,12 +1,12 @@
--- `run_script::put_trail` meets its contract. Assumes nothing.
+-- `tell_reply::put_trail` meets its contract. Assumes nothing.
 use mathlib.Core.Path.{sym, ap}
 use Rattle.tell_text.specs.Written.{follows}
 use Rattle.paper.specs.declared.Found.{Found}
-use Rattle.run_script.specs.Said.{linked}
-use Rattle.run_script.proofs.Saying.{told}
+use Rattle.tell_reply.specs.Replies.{linked}
+use Rattle.tell_reply.proofs.Wording.{told}
 use borrow.Author.Needs.{needs}
-use Rattle.run_script.proofs.put_trail.Statement.{statement}
-use Rattle.run_script.proofs.put_trail.Tie as tie
+use Rattle.tell_reply.proofs.put_trail.Statement.{statement}
+use Rattle.tell_reply.proofs.put_trail.Tie as tie
 
 enum-known-f : tie.Need-enum-known-f
 enum-known-f c = search needs

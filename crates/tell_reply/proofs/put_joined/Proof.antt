@@ -1,10 +1,10 @@
--- `run_script::put_joined` meets its contract. Assumes nothing.
+-- `tell_reply::put_joined` meets its contract. Assumes nothing.
 use mathlib.Core.Path.{sym, ap}
-use Rattle.run_script.specs.Said.{joined-text}
-use Rattle.run_script.proofs.Saying.{told}
+use Rattle.tell_reply.specs.Replies.{joined-text}
+use Rattle.tell_reply.proofs.Wording.{told}
 use borrow.Author.Needs.{needs}
-use Rattle.run_script.proofs.put_joined.Statement.{statement}
-use Rattle.run_script.proofs.put_joined.Tie as tie
+use Rattle.tell_reply.proofs.put_joined.Statement.{statement}
+use Rattle.tell_reply.proofs.put_joined.Tie as tie
 
 enum-told : tie.Need-enum-told
 enum-told c = search needs

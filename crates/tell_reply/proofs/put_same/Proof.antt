@@ -1,10 +1,10 @@
--- `run_script::put_same` meets its contract. Assumes nothing.
+-- `tell_reply::put_same` meets its contract. Assumes nothing.
 use mathlib.Core.Path.{sym, ap}
-use Rattle.run_script.specs.Said.{same-text}
-use Rattle.run_script.proofs.Saying.{told}
+use Rattle.tell_reply.specs.Replies.{same-text}
+use Rattle.tell_reply.proofs.Wording.{told}
 use borrow.Author.Needs.{needs}
-use Rattle.run_script.proofs.put_same.Statement.{statement}
-use Rattle.run_script.proofs.put_same.Tie as tie
+use Rattle.tell_reply.proofs.put_same.Statement.{statement}
+use Rattle.tell_reply.proofs.put_same.Tie as tie
 
 enum-known-s : tie.Need-enum-known-s
 enum-known-s c = search needs

@@ -1,10 +1,10 @@
--- `run_script::put_taken` meets its contract. Assumes nothing.
+-- `tell_reply::put_taken` meets its contract. Assumes nothing.
 use mathlib.Core.Path.{sym, ap}
-use Rattle.run_script.specs.Said.{taken-text}
-use Rattle.run_script.proofs.Saying.{told, taken-none, taken-some}
+use Rattle.tell_reply.specs.Replies.{taken-text}
+use Rattle.tell_reply.proofs.Wording.{told, taken-none, taken-some}
 use borrow.Author.Needs.{needs}
-use Rattle.run_script.proofs.put_taken.Statement.{statement}
-use Rattle.run_script.proofs.put_taken.Tie as tie
+use Rattle.tell_reply.proofs.put_taken.Statement.{statement}
+use Rattle.tell_reply.proofs.put_taken.Tie as tie
 
 enum-known-t : tie.Need-enum-known-t
 enum-known-t c = search needs
