@@ -10,10 +10,10 @@ use lib.Dec.{ltb}
 use Rattle.paper.specs.declared.Found.{Found}
 use Rattle.paper.specs.declared.Found.the-variants.{At, Nothing}
 use Rattle.paper.specs.declared.Refusal.the-variants.{Unknown}
-use Rattle.paper.specs.Numbers.{max-sites, Outcome, done, _>>=_, demand}
+use Rattle.paper.specs.Numbers.{max-sites, done, _>>=_, demand}
 use Rattle.paper.specs.Classes.{Classes, up, halved, Swept, sweep, Removed, removed, remove-set-of}
 use Rattle.class_removal.specs.Listed.{swept-on, sweep-of, remove-by, remove-with, remove-of}
-use Rattle.class_removal.proofs.Taking.{Within, listed-within, remove-is-with}
+use Rattle.class_removal.proofs.Taking.{listed-within, remove-is-with}
 use Rattle.class_removal.proofs.Room.{sweep-idle, kept}
 use Rattle.classes.proofs.Laws.{never, same-done}
 

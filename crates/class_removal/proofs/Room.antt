@@ -9,8 +9,8 @@ use Rattle.paper.specs.declared.Found.{Found}
 use Rattle.paper.specs.declared.Found.the-variants.{At, Nothing}
 use Rattle.paper.specs.declared.Refusal.the-variants.{Unknown}
 use Rattle.paper.specs.Words.{if_then_else_}
-use Rattle.paper.specs.Numbers.{max-sites, Outcome, done, refused, _>>=_, demand}
-use Rattle.paper.specs.Classes.{Classes, up, is-at, halve-in, halved, Swept, sweep, Removed, removed, remove-at, remove-below, remove-set-of}
+use Rattle.paper.specs.Numbers.{max-sites, done, _>>=_, demand}
+use Rattle.paper.specs.Classes.{Classes, up, is-at, halved, Swept, sweep, Removed, removed, remove-at, remove-below, remove-set-of}
 use Rattle.classes.proofs.Updating.{update-none, update-leaves}
 
 sweep-leaves : (j : ℕ) (p : List ℕ) (r z : ℕ) → max-sites ≤ up p z → up (sweep j p r .parents) z ≡ up p z

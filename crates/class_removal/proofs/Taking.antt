@@ -9,13 +9,12 @@ use native.Mathlib.Numerals.{add-one}
 use lib.ListN.{length, getD, set, take, drop, length-append, length-drop, List·getD-append}
 use lib.Seq.{set-at, drop-cons, append-snoc, getD-append-add, take-at, drop-length}
 use lib.Dec.{eqb, ltb}
-use borrow.Author.Tests.{eq-eqb, ne-eqb}
 use Rattle.paper.specs.declared.Found.{Found}
 use Rattle.paper.specs.declared.Found.the-variants.{At, Nothing}
 use Rattle.paper.specs.declared.Refusal.the-variants.{Unknown}
 use Rattle.paper.specs.Words.{if_then_else_}
-use Rattle.paper.specs.Numbers.{max-sites, Outcome, done, _>>=_, demand}
-use Rattle.paper.specs.Classes.{Classes, classes, is-at, halve-in, halved, Swept, sweep, unjoin, Removed, removed, remove-at, remove-below}
+use Rattle.paper.specs.Numbers.{max-sites, done, _>>=_, demand}
+use Rattle.paper.specs.Classes.{Classes, classes, is-at, halve-in, halved, Swept, sweep, unjoin, Removed, remove-at, remove-below}
 use Rattle.classes.specs.declared.Taken.{Taken}
 use Rattle.classes.specs.declared.Taken.the-variants as K
 use Rattle.classes.specs.Answers.{noted, over, Sweeps, taken, taken-by}

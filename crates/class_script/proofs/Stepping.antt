@@ -1,10 +1,9 @@
 -- What the body of `step` computes is what specs/Script.antt says.
 use mathlib.Core.Path.{_≡_, refl, sym, _∙_, ap}
-use mathlib.Core.Bool.{Bool}
 use mathlib.Core.List.{List}
 use Prim.Native.Nat.{ℕ}
 use lib.Dec.{eqb}
-use Rattle.paper.specs.Classes.{Classes, classes, find, in-same-set, len, is-empty}
+use Rattle.paper.specs.Classes.{Classes, find, in-same-set, len, is-empty}
 use Rattle.classes.specs.declared.Looked.{Looked}
 use Rattle.classes.specs.declared.Sought.{Sought}
 use Rattle.classes.specs.declared.Joined.{Joined}

@@ -4,7 +4,7 @@ use mathlib.Core.Bool.{Bool, true, false, _&&_}
 use mathlib.Core.List.{List, [], _∷_}
 use Prim.Native.Nat.{ℕ, suc, _+_, _-_, _*_}
 use lib.ListN.{length, take, drop}
-use lib.Dec.{ltb, leb, eqb}
+use lib.Dec.{leb, eqb}
 use Rattle.paper.specs.Words.{if_then_else_}
 use Rattle.paper.specs.Text.{unended}
 use Rattle.paper.specs.Classes.{Classes, find, in-same-set, len, is-empty}

@@ -1,7 +1,7 @@
 // A script of class calls: a line is a call, and gets one answer. specs/Script.antt has the words.
 ghost use mathlib.Core.Path.{_≡_};
-ghost use Prim.Native.Nat.{ℕ, _≤_};
-ghost use lib.ListN.{length, drop};
+ghost use Prim.Native.Nat.{_≤_};
+ghost use lib.ListN.{length};
 ghost use Rattle.paper.specs.Classes as C;
 ghost use Rattle.class_script.specs.Script.{number-in, space-in, starts, pair-in, to-merge, to-same, to-find, to-find-mut, to-remove, call-in, stepped};
 use classes::Joined;

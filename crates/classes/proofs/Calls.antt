@@ -1,29 +1,24 @@
 -- What the bodies of the calls compute is what paper says. w, i, j are indices that were widened from a site.
 use mathlib.Core.Path.{_≡_, refl, sym, _∙_, ap, subst⁻¹}
 use mathlib.Core.List.{List}
-use mathlib.Core.Bool.{Bool, true, false, not}
-use Prim.Native.Nat.{ℕ, zero, suc, _+_, _-_, _≤_, _<_}
+use mathlib.Core.Bool.{true, false, not}
+use Prim.Native.Nat.{ℕ, _-_, _≤_, _<_}
 use lib.ListN.{getD, set}
 use lib.Dec.{ltb, eqb}
-use native.Mathlib.Omega.{arith}
-use native.Mathlib.Decide.{ℕ-discrete, decLt}
-use borrow.Author.Tests.{lt-ltb, le-ltb, eq-eqb, ne-eqb, ltb-true}
+use borrow.Author.Tests.{lt-ltb, le-ltb, eq-eqb, ne-eqb}
 use Rattle.paper.specs.declared.Found.{Found}
 use Rattle.paper.specs.declared.Found.the-variants.{At, Nothing}
 use Rattle.paper.specs.declared.Refusal.the-variants.{Unknown, Itself}
-use Rattle.paper.specs.Words.{if_then_else_}
-use Rattle.paper.specs.Numbers.{max-sites, Outcome, done, refused, _>>=_, demand}
-use Rattle.paper.specs.Classes.{Classes, classes, Trail, trail, find-in, halve-in, Halved, halved, find, find-mut, one-more, most-rank, most-count, Rooted, alone, rooted, enter, under, raised, link, unite, merge, is-at, in-same-set}
+use Rattle.paper.specs.Numbers.{max-sites}
+use Rattle.paper.specs.Classes.{Classes, classes, Trail, trail, find-in, halve-in, halved, find, find-mut, one-more, most-rank, most-count, Rooted, rooted, enter, link, unite, merge, is-at, in-same-set}
 use Rattle.classes.specs.declared.Trail as T
-use Rattle.classes.specs.declared.Looked.{Looked}
 use Rattle.classes.specs.declared.Looked.the-variants as L
 use Rattle.classes.specs.declared.Sought.{Sought}
 use Rattle.classes.specs.declared.Sought.the-variants as S
 use Rattle.classes.specs.declared.Joined.{Joined}
 use Rattle.classes.specs.declared.Joined.the-variants as J
-use Rattle.classes.specs.declared.Same.{Same}
 use Rattle.classes.specs.declared.Same.the-variants as E
-use Rattle.classes.specs.Answers.{root-in, or-self, rep, trail-of, looked, sought, sought-by, two-classes, joined, joined-by, same}
+use Rattle.classes.specs.Answers.{root-in, or-self, rep, trail-of, looked, sought, two-classes, joined, same}
 use Rattle.classes.proofs.Updating.{update-lt}
 
 module _ (x w : ℕ) (e : w ≡ x) where

@@ -6,9 +6,7 @@ use Prim.Native.Nat.{ℕ, zero, suc, _+_, _-_, _≤_, _<_}
 use native.Mathlib.Omega.{arith}
 use native.Mathlib.Numerals.{add-one}
 use lib.ListN.{length, getD, take, set}
-use lib.Dec.{ltb}
 use borrow.Author.Tests.{lt-ltb, le-ltb}
-use Rattle.paper.specs.Words.{if_then_else_}
 use Rattle.paper.specs.Text.{unended}
 use Rattle.paper.specs.Classes.{Classes}
 use Rattle.class_script.specs.Script.{stepped, call-in}
