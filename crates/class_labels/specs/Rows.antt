@@ -15,12 +15,17 @@ use Rattle.classes.proofs.Tables.{Once}
 
 -- ---- ascending tables
 
+-- t has the entries of s
+abbrev pub Has : {A : Type 0} → Table A → Table A → Type 0
+Has {A} t s = (p : ℕ × A) → List·Memᴰ p s → List·Memᴰ p t
+
 -- two that have the same entries are one
-pub rising-same : {A : Type 0} (n : ℕ) (s t : Table A) → Rising n s → Rising n t → ((p : ℕ × A) → List·Memᴰ p s → List·Memᴰ p t) → ((p : ℕ × A) → List·Memᴰ p t → List·Memᴰ p s) → s ≡ t
+pub rising-same : {A : Type 0} (n : ℕ) (s t : Table A) → Rising n s → Rising n t → Has t s → Has s t → s ≡ t
 rising-same n [] [] R S f g = refl
 rising-same n [] (q ∷ t) R S f g = elim (g q (List·Memᴰ·head refl)) [ ]
 rising-same n (p ∷ s) [] R S f g = elim (f p (List·Memᴰ·head refl)) [ ]
-rising-same {A} n (p ∷ s) (q ∷ t) R S f g = by (f p (List·Memᴰ·head refl)) (g q (List·Memᴰ·head refl)) (λ S′ h i. rising-same (suc (p .0)) s t (R .1) S′ h i)
+rising-same {A} n (p ∷ s) (q ∷ t) R S f g =
+    by (f p (List·Memᴰ·head refl)) (g q (List·Memᴰ·head refl)) (λ S′ h i. rising-same (suc (p .0)) s t (R .1) S′ h i)
   where
     rest : (a b : ℕ × A) (l : Table A) → a ≡ b → Rising (suc (a .0)) l → (x : ℕ × A) → x ≡ b → List·Memᴰ x l → ⊥
     rest a b l e r x d m = let z = above (suc (a .0)) l x r m in let y : x .0 ≡ a .0 = ap (λ (w : ℕ × A). w .0) (d ∙ sym e) in omega arith
@@ -29,16 +34,20 @@ rising-same {A} n (p ∷ s) (q ∷ t) R S f g = by (f p (List·Memᴰ·head refl
     out a b l k e r x m (List·Memᴰ·head d) = absurd (rest a b l e r x d m)
     out a b l k e r x m (List·Memᴰ·tail d) = d
 
-    both : p ≡ q → (Rising (suc (p .0)) t → ((x : ℕ × A) → List·Memᴰ x s → List·Memᴰ x t) → ((x : ℕ × A) → List·Memᴰ x t → List·Memᴰ x s) → s ≡ t) → _≡_ {A = Table A} (p ∷ s) (q ∷ t)
+    both : p ≡ q → (Rising (suc (p .0)) t → Has t s → Has s t → s ≡ t) → _≡_ {A = Table A} (p ∷ s) (q ∷ t)
     both e ih =
         let S′ : Rising (suc (p .0)) t = subst (λ (x : ℕ × A). Rising (suc (x .0)) t) (sym e) (S .1) in
         let w : s ≡ t = ih S′ (λ x m. out p q s t e (R .1) x m (f x (List·Memᴰ·tail m))) (λ x m. out q p t s (sym e) (S .1) x m (g x (List·Memᴰ·tail m))) in
         rw (e, w)
 
-    by : List·Memᴰ p (q ∷ t) → List·Memᴰ q (p ∷ s) → (Rising (suc (p .0)) t → ((x : ℕ × A) → List·Memᴰ x s → List·Memᴰ x t) → ((x : ℕ × A) → List·Memᴰ x t → List·Memᴰ x s) → s ≡ t) → _≡_ {A = Table A} (p ∷ s) (q ∷ t)
+    by : List·Memᴰ p (q ∷ t) → List·Memᴰ q (p ∷ s) → (Rising (suc (p .0)) t → Has t s → Has s t → s ≡ t)
+        → _≡_ {A = Table A} (p ∷ s) (q ∷ t)
     by (List·Memᴰ·head e) y ih = both e ih
     by (List·Memᴰ·tail m) (List·Memᴰ·head e) ih = both (sym e) ih
-    by (List·Memᴰ·tail m) (List·Memᴰ·tail o) ih = let u = above (suc (q .0)) t p (S .1) m in let v = above (suc (p .0)) s q (R .1) o in absurd (omega arith)
+    by (List·Memᴰ·tail m) (List·Memᴰ·tail o) ih =
+        let u = above (suc (q .0)) t p (S .1) m in
+        let v = above (suc (p .0)) s q (R .1) o in
+        absurd (omega arith)
 
 rising-none : {A : Type 0} (n j : ℕ) (t : Table A) → Rising j t → n < j → look t n ≡ none
 rising-none {A} n j t R h = go (look t n) refl
@@ -86,7 +95,8 @@ kept-last f [] y = go (f y)
 kept-last f (x ∷ xs) y = go (f x) (kept-last f xs y)
   where
     go : (b : Bool) → length (keep f (xs ++ (y ∷ []))) ≡ bit (f y) + length (keep f xs)
-        → length {A = ℕ} (elim b as (λ _. List ℕ) [ true ↦ x ∷ keep f (xs ++ (y ∷ [])) | false ↦ keep f (xs ++ (y ∷ [])) ]) ≡ bit (f y) + length {A = ℕ} (elim b as (λ _. List ℕ) [ true ↦ x ∷ keep f xs | false ↦ keep f xs ])
+        → length {A = ℕ} (elim b as (λ _. List ℕ) [ true ↦ x ∷ keep f (xs ++ (y ∷ [])) | false ↦ keep f (xs ++ (y ∷ [])) ])
+        ≡ bit (f y) + length {A = ℕ} (elim b as (λ _. List ℕ) [ true ↦ x ∷ keep f xs | false ↦ keep f xs ])
     go true i = omega arith
     go false i = i
 
@@ -114,7 +124,8 @@ pairs-keep g f [] = refl
 pairs-keep {A} g f (x ∷ xs) = go (f x) (pairs-keep g f xs)
   where
     go : (b : Bool) → map (beside g) (keep f xs) ≡ keep (λ p. f (p .0)) (map (beside g) xs)
-        → map (beside g) (elim b as (λ _. List ℕ) [ true ↦ x ∷ keep f xs | false ↦ keep f xs ]) ≡ elim b as (λ _. Table A) [ true ↦ (x, g x) ∷ keep (λ p. f (p .0)) (map (beside g) xs) | false ↦ keep (λ p. f (p .0)) (map (beside g) xs) ]
+        → map (beside g) (elim b as (λ _. List ℕ) [ true ↦ x ∷ keep f xs | false ↦ keep f xs ])
+        ≡ elim b as (λ _. Table A) [ true ↦ (x, g x) ∷ keep (λ p. f (p .0)) (map (beside g) xs) | false ↦ keep (λ p. f (p .0)) (map (beside g) xs) ]
     go true i = ap (λ l. (x, g x) ∷ l) i
     go false i = i
 
@@ -137,7 +148,9 @@ all-rise {A} (suc c) g =
 module _ {A : Type 0} (c : ℕ) (g : ℕ → A) (f : ℕ → Bool) where
   pub row-rising : Rising 0 (row c g f)
   unfolding row
-  row-rising = subst (λ (t : Table A). Rising 0 t) (sym (pairs-keep g f (below c (λ z. z)))) (keep-rising (λ p. f (p .0)) 0 (map (beside g) (below c (λ z. z))) (all-rise c g))
+  row-rising =
+      subst (λ (t : Table A). Rising 0 t) (sym (pairs-keep g f (below c (λ z. z))))
+      (keep-rising (λ p. f (p .0)) 0 (map (beside g) (below c (λ z. z))) (all-rise c g))
 
   pub in-row : (z : ℕ) → z < c → f z ≡ true → List·Memᴰ (z, g z) (row c g f)
   unfolding row

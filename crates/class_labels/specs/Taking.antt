@@ -1,4 +1,5 @@
--- A class taken out: what classes::remove_set_of_in and remove_listed_in list is what paper calls the members, and they leave what paper's `dissolve` leaves.
+-- A class taken out: what class_removal::remove_set_of_in and remove_listed_in list is what paper calls the members, and they leave what paper's
+-- `dissolve` leaves.
 use mathlib.Core.Path.{_≡_, refl, sym, ap, _∙_, subst, subst⁻¹}
 use mathlib.Core.Bool.{true, false}
 use mathlib.Core.Option.{Option, none, some}
@@ -21,13 +22,13 @@ use Rattle.paper.proofs.Tables.{Fine, of-keep, in-keep, keep-rising, look-in, i
 use Rattle.classes.specs.declared.Taken.{Taken}
 use Rattle.classes.specs.declared.Taken.the-variants as K
 use Rattle.classes.specs.Answers.{or-self, rep, over, taken, taken-by}
-use Rattle.classes.specs.Listed.{remove-of, taken-of}
+use Rattle.class_removal.specs.Listed.{remove-of, taken-of}
 use Rattle.classes.specs.Well.{has-up, in-class, dropped}
 use Rattle.classes.specs.Equal.{Holds, TakesOut, sites-below}
 use Rattle.classes.proofs.Uniting.{is-joined, joined-has}
 use Rattle.classes.proofs.Laws.{remove-takes}
-use Rattle.classes.proofs.Room.{remove-room}
-use Rattle.classes.proofs.Listed.{Listed, remove-listed, remove-few}
+use Rattle.class_removal.proofs.Room.{remove-room}
+use Rattle.class_removal.proofs.Listed.{Listed, remove-listed, remove-few}
 use Rattle.classes.proofs.Tables.{remove-dissolves}
 use Rattle.class_labels.specs.Tied.{has-label, Tied, tied-fine, label-some, label-none, some-label}
 use Rattle.class_labels.specs.Rows.{rising-same, rising-once, keep-most, below-length, row, row-rising, in-row, of-row, row-firsts}
@@ -95,7 +96,8 @@ module _ {p r : List ℕ} {n : ℕ} {k : Labels} (T : Tied p r n k) where
             let e : q .1 ≡ low = eqb-true (q .1) low (x .1) in
             let l : look k (q .0) ≡ some low = in-look 0 k q (T .rising) (x .0) ∙ ap some e in
             let w : _≡_ {A = ℕ × ℕ} q (q .0, low) = ap (λ (v : ℕ). (q .0, v)) e in
-            subst⁻¹ (λ (y : ℕ × ℕ). List·Memᴰ y (row c (λ z. low) (in-class p (rep p low)))) w (in-row c (λ z. low) (in-class p (rep p low)) (q .0) (B (q .0) low l) (mine (q .0) l))
+            subst⁻¹ (λ (y : ℕ × ℕ). List·Memᴰ y (row c (λ z. low) (in-class p (rep p low)))) w
+            (in-row c (λ z. low) (in-class p (rep p low)) (q .0) (B (q .0) low l) (mine (q .0) l))
 
         back : (q : ℕ × ℕ) → List·Memᴰ q (row c (λ z. low) (in-class p (rep p low))) → List·Memᴰ q (keep (λ q. eqb (q .1) low) k)
         back q m =
@@ -106,7 +108,9 @@ module _ {p r : List ℕ} {n : ℕ} {k : Labels} (T : Tied p r n k) where
             in-keep (λ q. eqb (q .1) low) k q (subst⁻¹ (λ (y : ℕ × ℕ). List·Memᴰ y k) w l) (eq-eqb (q .1) low (x .2))
 
         same : keep (λ q. eqb (q .1) low) k ≡ row c (λ z. low) (in-class p (rep p low))
-        same = rising-same 0 (keep (λ q. eqb (q .1) low) k) (row c (λ z. low) (in-class p (rep p low))) (keep-rising (λ q. eqb (q .1) low) 0 k (T .rising)) (row-rising c (λ z. low) (in-class p (rep p low))) forth back
+        same =
+            rising-same 0 (keep (λ q. eqb (q .1) low) k) (row c (λ z. low) (in-class p (rep p low)))
+            (keep-rising (λ q. eqb (q .1) low) 0 k (T .rising)) (row-rising c (λ z. low) (in-class p (rep p low))) forth back
 
     pub members-few : (c : ℕ) → c ≤ max-sites → LabelsBelow k c → length (members k low) ≤ c
     members-few c h B =
@@ -129,7 +133,8 @@ module _ {p r : List ℕ} {n : ℕ} {k : Labels} (T : Tied p r n k) where
 
       H : Holds (q .after .parents) (lowest (dissolve k low))
       H = subst (λ (v : ℕ). Holds (q .after .parents) (lowest (dissolve k v))) (lowest-is k low low own)
-          (remove-dissolves (classes p r n) (T .well) low (rep p low) q e (root low low-in (label-some k low low own)) k (T .sound) (rising-once 0 k (T .rising)) (T .holds))
+          (remove-dissolves (classes p r n) (T .well) low (rep p low) q e (root low low-in (label-some k low low own))
+          k (T .sound) (rising-once 0 k (T .rising)) (T .holds))
 
       left : (z : ℕ) → z < max-sites → is-joined (dropped (rep p low) (find-in p z .found)) ≡ has-label (dissolve k low) z
       left z h = go (look k z) refl (look (dissolve k low) z) refl
@@ -137,7 +142,8 @@ module _ {p r : List ℕ} {n : ℕ} {k : Labels} (T : Tied p r n k) where
           at : (f : Found) → find-in p z .found ≡ f → is-joined (dropped (rep p low) (find-in p z .found)) ≡ is-joined (dropped (rep p low) f)
           at f w = ap (λ (g : Found). is-joined (dropped (rep p low) g)) w
 
-          go : (o : Option ℕ) → look k z ≡ o → (d : Option ℕ) → look (dissolve k low) z ≡ d → is-joined (dropped (rep p low) (find-in p z .found)) ≡ has-label (dissolve k low) z
+          go : (o : Option ℕ) → look k z ≡ o → (d : Option ℕ) → look (dissolve k low) z ≡ d
+              → is-joined (dropped (rep p low) (find-in p z .found)) ≡ has-label (dissolve k low) z
           go none a none b = at Nothing (lone z h (label-none k z a)) ∙ sym (label-none (dissolve k low) z b)
           go none a (some w) b = absurd (never (sym a ∙ dissolved k low z w (T .rising) b .0))
           go (some v) a none b = at (At (rep p z)) (root z h (label-some k z v a)) ∙ (gone (ℕ-discrete v low) ∙ sym (label-none (dissolve k low) z b))
@@ -201,7 +207,8 @@ module _ {p r : List ℕ} {n : ℕ} {k : Labels} (T : Tied p r n k) (low : ℕ) 
       → (p′ : List ℕ) (n′ : ℕ) (m′ : List ℕ) (t : Taken) → _≡_ {A = Classes × List ℕ × Taken} (classes p′ r n′, m′, t) (taken-by (classes p r n) m o)
       → Takes p′ r n′ k low m m′ t
   takes o is room p′ n′ m′ t e = record {
-    tied = subst⁻¹ (λ (c : Classes). Tied (c .parents) (c .ranks) (c .count) (dissolve k low)) (ap (λ (w : Classes × List ℕ × Taken). w .0) all) (removed-tied T low own whole (is-set T low own));
+    tied = subst⁻¹ (λ (c : Classes). Tied (c .parents) (c .ranks) (c .count) (dissolve k low)) (ap (λ (w : Classes × List ℕ × Taken). w .0) all)
+        (removed-tied T low own whole (is-set T low own));
     answer = ap (λ (w : Classes × List ℕ × Taken). w .2) all ∙ ap (λ (l : List ℕ). K.Members (length l)) same;
     list = list;
     room = room;
@@ -216,16 +223,19 @@ module _ {p r : List ℕ} {n : ℕ} {k : Labels} (T : Tied p r n k) (low : ℕ) 
       list : m′ ≡ over m (members k low)
       list = ap (λ (w : Classes × List ℕ × Taken). w .1) all ∙ ap (over m) same
 
--- at each call of classes::remove_set_of_in: m has room for every joined site
+-- at each call of class_removal::remove_set_of_in: m has room for every joined site
 pub tied-take : {p r : List ℕ} {n : ℕ} {k : Labels} → Tied p r n k → (low : ℕ) → look k low ≡ some low → (m : List ℕ) → LabelsBelow k (length m)
     → (p′ : List ℕ) (n′ : ℕ) (m′ : List ℕ) (t : Taken) → _≡_ {A = Classes × List ℕ × Taken} (classes p′ r n′, m′, t) (taken (classes p r n) m low)
     → Takes p′ r n′ k low m m′ t
 tied-take {p} {r} {n} {k} T low own m B = takes T low own m (remove-below (min (length m) max-sites) (classes p r n) low) (is-below T low own (length m) B) room
   where
-    room : length (members k low) ≤ length m
-    room = let w = members-few T low own (min (length m) max-sites) (omega arith) (λ z v l. let a = B z v l in let b = T .inside z v l in omega arith) in omega arith
+    fits : LabelsBelow k (min (length m) max-sites)
+    fits z v l = let a = B z v l in let b = T .inside z v l in omega arith
 
--- at each call of classes::remove_listed_in: the list ascends and has every joined site, and m has room for it
+    room : length (members k low) ≤ length m
+    room = let w = members-few T low own (min (length m) max-sites) (omega arith) fits in omega arith
+
+-- at each call of class_removal::remove_listed_in: the list ascends and has every joined site, and m has room for it
 pub tied-take-listed : {p r : List ℕ} {n : ℕ} {k : Labels} → Tied p r n k → (low : ℕ) → look k low ≡ some low → (xs m : List ℕ) → length xs ≤ length m
     → ((i j : ℕ) → i < j → j < length xs → getD xs i 0 < getD xs j 0) → ((i : ℕ) → i < length xs → getD xs i 0 < max-sites)
     → ((z v : ℕ) → look k z ≡ some v → (i : ℕ) × (i < length xs) × (getD xs i 0 ≡ z))

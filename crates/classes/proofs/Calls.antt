@@ -1,30 +1,25 @@
 -- What the bodies of the calls compute is what paper says. w, i, j are indices that were widened from a site.
 use mathlib.Core.Path.{_≡_, refl, sym, _∙_, ap, subst⁻¹}
 use mathlib.Core.List.{List}
-use mathlib.Core.Bool.{Bool, true, false, not}
-use Prim.Native.Nat.{ℕ, zero, suc, _+_, _-_, _≤_, _<_}
+use mathlib.Core.Bool.{true, false, not}
+use Prim.Native.Nat.{ℕ, _-_, _≤_, _<_}
 use lib.ListN.{getD, set}
 use lib.Dec.{ltb, eqb}
-use native.Mathlib.Omega.{arith}
-use native.Mathlib.Decide.{ℕ-discrete, decLt}
-use borrow.Author.Tests.{lt-ltb, le-ltb, eq-eqb, ne-eqb, ltb-true}
+use borrow.Author.Tests.{lt-ltb, le-ltb, eq-eqb, ne-eqb}
 use Rattle.paper.specs.declared.Found.{Found}
 use Rattle.paper.specs.declared.Found.the-variants.{At, Nothing}
 use Rattle.paper.specs.declared.Refusal.the-variants.{Unknown, Itself}
-use Rattle.paper.specs.Words.{if_then_else_}
-use Rattle.paper.specs.Numbers.{max-sites, Outcome, done, refused, _>>=_, demand}
-use Rattle.paper.specs.Classes.{Classes, classes, up, Trail, trail, halve, find-in, halve-in, Halved, halved, find, find-mut, one-more, most-rank, most-count, Rooted, alone, rooted, enter, under, raised, link, unite, merge, is-at, in-same-set}
+use Rattle.paper.specs.Numbers.{max-sites}
+use Rattle.paper.specs.Classes.{Classes, classes, Trail, trail, find-in, halve-in, halved, find, find-mut, one-more, most-rank, most-count, Rooted, rooted, enter, link, unite, merge, is-at, in-same-set}
 use Rattle.classes.specs.declared.Trail as T
-use Rattle.classes.specs.declared.Looked.{Looked}
 use Rattle.classes.specs.declared.Looked.the-variants as L
 use Rattle.classes.specs.declared.Sought.{Sought}
 use Rattle.classes.specs.declared.Sought.the-variants as S
 use Rattle.classes.specs.declared.Joined.{Joined}
 use Rattle.classes.specs.declared.Joined.the-variants as J
-use Rattle.classes.specs.declared.Same.{Same}
 use Rattle.classes.specs.declared.Same.the-variants as E
-use Rattle.classes.specs.Answers.{root-in, or-self, rep, trail-of, looked, sought, sought-by, two-classes, joined, joined-by, same}
-use Rattle.classes.proofs.Steps.{halve-nil, halve-out, halve-root, halve-none, halve-step}
+use Rattle.classes.specs.Answers.{root-in, or-self, rep, trail-of, looked, sought, two-classes, joined, same}
+use Rattle.classes.proofs.Updating.{update-lt}
 
 module _ (x w : ℕ) (e : w ≡ x) where
   pub test-out : max-sites ≤ w → ltb x max-sites ≡ false
@@ -96,31 +91,13 @@ module _ (c : Classes) (a b i j : ℕ) (e : i ≡ a) (f : j ≡ b) where
     unfolding link
     link-tie h k v o = rw (o, e, f) (simp (ne-eqb a b n, le-ltb _ _ (rw (e, f) at h), eq-eqb _ _ (rw (e, f) at k)))
 
--- a root that an updating find answers is a site
-never : {A : Type 0} {r : ℕ} → Nothing ≡ At r → A
-never e = absurd (let z : _≡_ {A = ℕ} 0 1 = cc in omega arith)
-
-found-lt : (k : ℕ) (p : List ℕ) (at : ℕ) {r : ℕ} → halve k p at .1 ≡ At r → r < max-sites
-found-lt zero p at {r} e = never (sym (ap (λ (g : List ℕ × Found). g .1) (halve-nil p at)) ∙ e)
-found-lt (suc k) p at {r} e =
-    go (λ f. found-lt k (set p at (up p (up p at))) (up p (up p at)) f) (decLt at max-sites) (ℕ-discrete (up p at) at) (decLt (up p at) max-sites)
-  where
-    is : {h : List ℕ × Found} → halve (suc k) p at ≡ h → h .1 ≡ At r
-    is q = sym (ap (λ (g : List ℕ × Found). g .1) q) ∙ e
-
-    go : (halve k (set p at (up p (up p at))) (up p (up p at)) .1 ≡ At r → r < max-sites)
-        → Dec (at < max-sites) → Dec (up p at ≡ at) → Dec (up p at < max-sites) → r < max-sites
-    go ih (no d) b j = never (is (halve-out p at (suc k) (omega arith)))
-    go ih (yes h) (yes o) j = let q = is (halve-root p at k h o) in let z : at ≡ r = cc in omega arith
-    go ih (yes h) (no o) (no j) = never (is (halve-none p at k h o (omega arith)))
-    go ih (yes h) (no o) (yes j) = ih (is (halve-step p at k h o j))
-
+-- a root that is entered is a site
 pub root-lt : (c : Classes) (x : ℕ) → x < max-sites → enter c x .root < max-sites
-unfolding enter halved halve-in
-root-lt c x h = go (halved c x .after) (halve max-sites (c .parents) x .1) refl
+unfolding enter halved
+root-lt c x h = go (halved c x .after) (halve-in (c .parents) x .1) refl
   where
-    go : (d : Classes) (f : Found) → halve max-sites (c .parents) x .1 ≡ f → rooted d x f .root < max-sites
-    go d (At r) e = found-lt max-sites (c .parents) x e
+    go : (d : Classes) (f : Found) → halve-in (c .parents) x .1 ≡ f → rooted d x f .root < max-sites
+    go d (At r) e = update-lt (c .parents) x e
     go d Nothing e = h
 
 pub rooted-lt : (c : Classes) (x : ℕ) → x < max-sites → (s : Rooted) → s ≡ enter c x → s .root < max-sites

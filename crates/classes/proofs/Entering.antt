@@ -1,20 +1,18 @@
 -- A site that was never joined becomes a class of its own: the state stays well made, and every other find answers as before.
-use mathlib.Core.Path.{_≡_, refl, sym, _∙_, ap, subst, subst⁻¹}
+use mathlib.Core.Path.{_≡_, refl, sym, _∙_, ap, subst⁻¹}
 use mathlib.Core.List.{List}
-use mathlib.Core.Bool.{Bool, true, false}
 use Prim.Native.Nat.{ℕ, zero, suc, _+_, _^_, _≤_, _<_}
 use native.Mathlib.Omega.{arith}
 use native.Mathlib.Decide.{ℕ-discrete}
-use lib.ListN.{length, set, getD, length-set}
+use lib.ListN.{set, length-set}
 use lib.Seq.{getD-set-same, getD-set-other}
 use lib.Dec.{ltb, eqb}
 use borrow.Author.Tests.{lt-ltb, le-ltb, eq-eqb, ne-eqb}
 use Rattle.paper.specs.declared.Found.{Found}
-use Rattle.paper.specs.declared.Found.the-variants.{At, Nothing}
-use Rattle.paper.specs.Words.{if_then_else_}
+use Rattle.paper.specs.declared.Found.the-variants.{At}
 use Rattle.paper.specs.Numbers.{max-sites}
-use Rattle.paper.specs.Classes.{up, trail, find-in, one-more, most-count, Trail, is-at}
-use Rattle.classes.specs.Well.{log-sites, Leads, Well, rank, members, joined-in, has-up, in-class, cnt, bit}
+use Rattle.paper.specs.Classes.{up, find-in, one-more, most-count, Trail, is-at}
+use Rattle.classes.specs.Well.{log-sites, Leads, Well, rank, members, joined-in, has-up, in-class, bit}
 use Rattle.classes.proofs.Counting.{cnt-ext, cnt-mono, cnt-add, cnt-one, cnt-le}
 use Rattle.classes.proofs.Leading.{find-leads, find-out, find-none, lead-by, lead-lt}
 use Rattle.classes.proofs.Linked.{Case, outside, lone, led, case}

@@ -1,22 +1,21 @@
 -- A step of path halving, and a halving find, keep a state well made and every find's answer.
 use mathlib.Core.Path.{_≡_, refl, sym, _∙_, ap, subst, subst⁻¹}
 use mathlib.Core.List.{List}
-use mathlib.Core.Bool.{Bool, true, false}
-use Prim.Native.Nat.{ℕ, zero, suc, _+_, _^_, _≤_, _<_}
+use Prim.Native.Nat.{ℕ, zero, suc, _^_, _≤_, _<_}
 use native.Mathlib.Omega.{arith}
 use native.Mathlib.Decide.{ℕ-discrete, decLt}
-use lib.ListN.{length, set, getD, length-set}
+use lib.ListN.{set, length-set}
 use lib.Seq.{getD-set-same, getD-set-other}
-use lib.Dec.{ltb, eqb}
+use lib.Dec.{ltb}
 use borrow.Author.Tests.{lt-ltb}
 use Rattle.paper.specs.declared.Found.{Found}
-use Rattle.paper.specs.declared.Found.the-variants.{At, Nothing}
+use Rattle.paper.specs.declared.Found.the-variants.{At}
 use Rattle.paper.specs.Numbers.{max-sites}
-use Rattle.paper.specs.Classes.{up, trail, find-in, halve, halve-in, Trail, is-at}
-use Rattle.classes.specs.Well.{Leads, Well, rank, members, joined-in, has-up, in-class, cnt}
+use Rattle.paper.specs.Classes.{up, find-in, halve, halve-in, Trail, is-at}
+use Rattle.classes.specs.Well.{Leads, Well, rank, members, has-up, in-class}
 use Rattle.classes.proofs.Steps.{halve-out, halve-nil, halve-root, halve-none, halve-step}
 use Rattle.classes.proofs.Counting.{cnt-ext}
-use Rattle.classes.proofs.Leading.{find-leads, find-out, find-none, is-root, lead-by}
+use Rattle.classes.proofs.Leading.{find-leads, find-out, find-none, lead-by}
 use Rattle.classes.proofs.Linked.{Case, outside, lone, led, case}
 
 -- x's parent becomes its grandparent

@@ -1,15 +1,13 @@
 -- The classes that the parts hold, by lowest member, after each call: paper's `join` and the class taken apart.
-use mathlib.Core.Path.{_≡_, refl, sym, _∙_, ap, subst, subst⁻¹}
-use mathlib.Core.Bool.{Bool, true, false}
-use mathlib.Core.List.{List, []}
-use Prim.Native.Nat.{ℕ, _<_}
-use native.Mathlib.Omega.{arith}
+use mathlib.Core.Path.{_≡_, refl, sym, _∙_, ap, subst⁻¹}
+use mathlib.Core.Bool.{Bool}
+use mathlib.Core.List.{[]}
+use Prim.Native.Nat.{ℕ}
 use native.Mathlib.Decide.{ℕ-discrete}
-use lib.Dec.{eqb}
 use borrow.Author.Tests.{eq-eqb, ne-eqb}
 use Rattle.paper.specs.declared.Found.{Found}
 use Rattle.paper.specs.declared.Found.the-variants.{At, Nothing}
-use Rattle.paper.specs.Words.{if_then_else_, or-else, look}
+use Rattle.paper.specs.Words.{look}
 use Rattle.paper.specs.Numbers.{done}
 use Rattle.paper.specs.Classes.{Classes, no-classes, Halved, find-mut, merge, Removed, remove-set-of}
 use Rattle.paper.specs.Loading.{Labels, lowest, join}

@@ -1,28 +1,27 @@
 -- The laws of 01's class calls, on what calls made.
 use mathlib.Core.Path.{_≡_, refl, sym, _∙_, ap, subst, subst⁻¹, fun-ext}
-use mathlib.Core.Logic.{_⊎_, inl, inr}
 use mathlib.Core.List.{List, [], _∷_, List·Memᴰ, List·Memᴰ·head, List·Memᴰ·tail, List·Memᴰ·not-nil}
 use mathlib.Core.Bool.{Bool, true, false, not, _&&_, _||_}
-use Prim.Native.Nat.{ℕ, zero, suc, _+_, _-_, _^_, _≤_, _<_}
+use Prim.Native.Nat.{ℕ, _-_, _^_, _≤_, _<_}
 use native.Mathlib.Omega.{arith}
 use native.Mathlib.Nat.{le-trans}
 use native.Mathlib.Decide.{ℕ-discrete, decLt}
 use lib.Dec.{ltb, eqb}
-use lib.ListN.{length, getD-replicate}
-use borrow.Author.Tests.{ltb-true, ltb-false, eqb-true, eqb-false, eq-eqb, ne-eqb, lt-ltb, le-ltb}
+use lib.ListN.{getD-replicate}
+use borrow.Author.Tests.{ltb-true, eqb-false, eq-eqb, ne-eqb, le-ltb}
 use Rattle.paper.specs.declared.Found.{Found}
 use Rattle.paper.specs.declared.Found.the-variants.{At, Nothing}
-use Rattle.paper.specs.Words.{if_then_else_, any, has, keep, below}
-use Rattle.paper.specs.Numbers.{max-sites, Outcome, done, refused, _>>=_, demand}
-use Rattle.paper.specs.Classes.{Classes, classes, no-classes, up, Trail, find-in, is-at, halve-in, Halved, halved, find, find-mut, enter, unite, merge, Removed, remove-at, remove-below, remove-set-of}
+use Rattle.paper.specs.Words.{any, has, keep, below}
+use Rattle.paper.specs.Numbers.{max-sites, Outcome, done, refused}
+use Rattle.paper.specs.Classes.{Classes, no-classes, up, Trail, find-in, is-at, Halved, halved, find, find-mut, enter, unite, merge, Removed, remove-at, remove-below, remove-set-of}
 use Rattle.paper.proofs.Joins.{Gen, base, self, back, via, gen-map, gen-same}
-use Rattle.classes.specs.Answers.{or-self, rep, two-classes}
-use Rattle.classes.specs.Well.{log-sites, Leads, Well, WellMade, rank, members, joined-in, has-up, in-class, cnt, bit, rep-of, dropped}
+use Rattle.classes.specs.Answers.{rep, two-classes}
+use Rattle.classes.specs.Well.{log-sites, Leads, WellMade, members, has-up, in-class, cnt, rep-of, dropped}
 use Rattle.classes.specs.Equal as Q
 use Rattle.classes.specs.Made as M
 use Rattle.classes.proofs.Counting.{cnt-ext, cnt-le}
 use Rattle.classes.proofs.Linked.{found-leads, links-log}
-use Rattle.classes.proofs.Halving.{Kept, halved-kept, halved-found}
+use Rattle.classes.proofs.Halving.{halved-kept, halved-found}
 use Rattle.classes.proofs.Merging.{log-le, empty-well}
 use Rattle.classes.proofs.Uniting.{unites, root-x, root-y, rep-outside, rep-lone, is-joined, joined-has}
 use Rattle.classes.proofs.Removal.{takes-out}

@@ -3,14 +3,12 @@ use mathlib.Core.Path.{_≡_, refl, sym, _∙_, ap, subst}
 use mathlib.Core.List.{List}
 use Prim.Native.Nat.{ℕ, zero, suc, _+_, _≤_, _<_}
 use native.Mathlib.Omega.{arith}
-use lib.Dec.{ltb, eqb}
-use native.Mathlib.Decide.{ℕ-discrete, decLt}
-use Rattle.paper.specs.declared.Found.{Found}
+use native.Mathlib.Decide.{ℕ-discrete}
 use Rattle.paper.specs.declared.Found.the-variants.{At, Nothing}
 use Rattle.paper.specs.Numbers.{max-sites}
-use Rattle.paper.specs.Classes.{up, trail, seek, find-in, Trail}
+use Rattle.paper.specs.Classes.{up, trail, seek, find-in}
 use Rattle.classes.specs.Well.{log-sites, Leads, Well, rank}
-use Rattle.classes.proofs.Steps.{seek-out, seek-none, seek-root, seek-step}
+use Rattle.classes.proofs.Steps.{seek-out, seek-root, seek-step}
 
 pub seek-leads : (n k : ℕ) (p : List ℕ) (x r l : ℕ) → n < k → Leads n p x r → seek k p x l ≡ trail (At r) (l + n)
 seek-leads zero zero p x r l h t = absurd (omega arith)

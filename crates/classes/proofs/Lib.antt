@@ -1,7 +1,7 @@
 -- Laws of paper's Classes.
 pub mod Steps
+pub mod Updating
 pub mod Calls
-pub mod Taking
 pub mod Counting
 pub mod Leading
 pub mod Linked
@@ -13,10 +13,5 @@ pub mod Uniting
 pub mod Removing
 pub mod Removal
 pub mod Laws
-pub mod Lending
-pub mod Reading
-pub mod Stepping
 pub mod Labelled
-pub mod Room
-pub mod Listed
 pub mod Tables

@@ -1,13 +1,12 @@
 -- On a well-made state a find follows at most log2 of the class's members.
-use mathlib.Core.Path.{_≡_, refl, sym, _∙_, ap, subst}
+use mathlib.Core.Path.{_≡_, sym, ap, subst}
 use mathlib.Core.List.{List}
-use Prim.Native.Nat.{ℕ, zero, suc, _+_, _^_, _≤_, _<_}
+use Prim.Native.Nat.{ℕ, _^_, _≤_, _<_}
 use native.Mathlib.Omega.{arith}
 use native.Mathlib.Nat.{le-trans}
 use native.Mathlib.Decide.{decLt}
 use lib.Pow.{pow-mono}
-use Rattle.paper.specs.declared.Found.{Found}
-use Rattle.paper.specs.declared.Found.the-variants.{At, Nothing}
+use Rattle.paper.specs.declared.Found.the-variants.{At}
 use Rattle.paper.specs.Numbers.{max-sites}
 use Rattle.paper.specs.Classes.{up, trail, find-in, Trail}
 use Rattle.classes.specs.Well.{log-sites, Leads, Well, rank, members}

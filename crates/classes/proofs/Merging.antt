@@ -1,12 +1,10 @@
 -- The two steps of a join keep a state well made: a site enters a class, and one root goes under another.
-use mathlib.Core.Path.{_≡_, refl, sym, _∙_, ap, subst, subst⁻¹}
-use mathlib.Core.List.{List}
-use mathlib.Core.Bool.{Bool, true, false}
+use mathlib.Core.Path.{_≡_, refl, sym, _∙_, ap, subst⁻¹}
+use mathlib.Core.Bool.{Bool, false}
 use Prim.Native.Nat.{ℕ, zero, suc, _+_, _*_, _^_, _≤_, _<_}
 use native.Mathlib.Omega.{arith}
-use native.Mathlib.Nat.{le-trans}
 use native.Mathlib.Decide.{ℕ-discrete, decLt}
-use lib.ListN.{length, set, getD, length-set, replicate, length-replicate, getD-replicate}
+use lib.ListN.{set, length-set, replicate, length-replicate, getD-replicate}
 use lib.Seq.{getD-set-same, getD-set-other}
 use lib.Dec.{ltb, eqb}
 use lib.Pow.{pow-lt, pow-add}
@@ -14,21 +12,21 @@ use borrow.Author.Tests.{lt-ltb, le-ltb, eq-eqb, ne-eqb}
 use Rattle.paper.specs.declared.Found.{Found}
 use Rattle.paper.specs.declared.Found.the-variants.{At, Nothing}
 use Rattle.paper.specs.Words.{if_then_else_}
-use Rattle.paper.specs.Numbers.{max-sites, Outcome, done, refused, _>>=_, demand}
-use Rattle.paper.specs.Classes.{up, trail, find-in, Trail, Classes, classes, no-classes, Halved, halved, find-mut, one-more, most-rank, alone, rooted, enter, link, under, raised, unite, merge}
-use Rattle.classes.specs.Well.{log-sites, Leads, Well, rank, members, in-class, turned, WellMade, rep-of, winner, loser, alone-as, has-up, cnt, bit}
+use Rattle.paper.specs.Numbers.{max-sites}
+use Rattle.paper.specs.Classes.{up, Classes, classes, no-classes, halved, one-more, most-rank, alone, rooted, enter, link, under, raised}
+use Rattle.classes.specs.Well.{log-sites, rank, members, in-class, turned, WellMade, rep-of, winner, loser, alone-as, has-up, cnt, bit}
 use Rattle.classes.proofs.Counting.{cnt-le}
 use Rattle.classes.proofs.Leading.{find-leads, is-root}
-use Rattle.classes.proofs.Linked.{Case, outside, lone, led, case, found-leads, links-log}
+use Rattle.classes.proofs.Linked.{Case, outside, lone, led, case, found-leads}
 use Rattle.classes.proofs.Halving.{Kept, halved-kept, halved-found}
 use Rattle.classes.proofs.Entering.{enter-well, found-x, found-off}
 use Rattle.classes.proofs.Linking.{link-well, found-after, members-a}
 
--- a power of two that is at most 1,024 has an exponent of at most 10
+-- a power of two that is at most max-sites has an exponent of at most log-sites
 pub log-le : (k : ℕ) → 2 ^ k ≤ max-sites → k ≤ log-sites
-log-le k h = go (decLt 10 k)
+log-le k h = go (decLt log-sites k)
   where
-    go : Dec (10 < k) → k ≤ log-sites
+    go : Dec (log-sites < k) → k ≤ log-sites
     go (yes l) = absurd (omega (arith, pow-lt l))
     go (no d) = omega arith
 

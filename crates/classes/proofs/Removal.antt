@@ -1,20 +1,20 @@
 -- THE LAW OF A REMOVAL, on a well-made state: the sweep changes no representative, lists the members ascending, and they alone are taken out.
-use mathlib.Core.Path.{_≡_, refl, sym, _∙_, ap, subst, subst⁻¹}
+use mathlib.Core.Path.{_≡_, refl, sym, _∙_, ap, subst⁻¹}
 use mathlib.Core.List.{List, [], _∷_, _++_}
 use mathlib.Core.Bool.{Bool, true, false, _&&_, _||_, not}
-use Prim.Native.Nat.{ℕ, zero, suc, _+_, _-_, _≤_, _<_}
+use Prim.Native.Nat.{ℕ, zero, suc, _+_, _-_, _<_}
 use native.Mathlib.Omega.{arith}
 use native.Mathlib.Decide.{ℕ-discrete, decLt}
-use lib.ListN.{length, set, getD, length-set, length-append}
+use lib.ListN.{length, set, length-set, length-append}
 use lib.Seq.{getD-set-same, getD-set-other}
 use lib.Dec.{ltb, eqb}
-use borrow.Author.Tests.{lt-ltb, le-ltb, eq-eqb, ne-eqb, eqb-true, ltb-true}
+use borrow.Author.Tests.{lt-ltb, le-ltb, eq-eqb, ne-eqb}
 use Rattle.paper.specs.declared.Found.{Found}
-use Rattle.paper.specs.declared.Found.the-variants.{At, Nothing}
+use Rattle.paper.specs.declared.Found.the-variants.{At}
 use Rattle.paper.specs.Words.{if_then_else_, any, has, keep, below}
-use Rattle.paper.specs.Numbers.{max-sites, Outcome, done, refused, _>>=_, demand}
-use Rattle.paper.specs.Classes.{Classes, classes, up, Trail, find-in, halve-in, is-at, Halved, halved, Swept, sweep, unjoin, Removed, removed, remove-at, remove-below, remove-set-of}
-use Rattle.classes.specs.Well.{Well, WellMade, rank, members, joined-in, has-up, in-class, cnt, bit, rep-of, dropped}
+use Rattle.paper.specs.Numbers.{max-sites}
+use Rattle.paper.specs.Classes.{Classes, classes, up, find-in, halve-in, is-at, Swept, sweep, unjoin, removed}
+use Rattle.classes.specs.Well.{Well, WellMade, members, joined-in, has-up, in-class, cnt, bit, dropped}
 use Rattle.classes.specs.Equal.{sites-below, TakesOut}
 use Rattle.classes.proofs.Counting.{cnt-ext}
 use Rattle.classes.proofs.Halving.{Kept, kept, kept-by, halved-kept, halved-found}

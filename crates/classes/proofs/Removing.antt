@@ -1,21 +1,20 @@
 -- Taking a class out keeps a state well made, makes its sites answer nothing and leaves the others.
 use mathlib.Core.Path.{_≡_, refl, sym, _∙_, ap, subst, subst⁻¹}
-use mathlib.Core.List.{List, [], _∷_, _++_}
-use mathlib.Core.Bool.{Bool, true, false, _&&_, _||_, not}
+use mathlib.Core.List.{List}
+use mathlib.Core.Bool.{Bool, true, false}
 use Prim.Native.Nat.{ℕ, zero, suc, _+_, _-_, _^_, _≤_, _<_}
 use native.Mathlib.Omega.{arith}
-use native.Mathlib.Decide.{ℕ-discrete, decLt}
-use lib.ListN.{length, set, getD, length-set, length-append}
-use lib.Seq.{getD-set-same, getD-set-other}
-use lib.Dec.{ltb, leb, eqb}
-use borrow.Author.Tests.{lt-ltb, le-ltb, eq-eqb, ne-eqb, eqb-true}
+use native.Mathlib.Decide.{ℕ-discrete}
+use lib.ListN.{length}
+use lib.Dec.{ltb, eqb}
+use borrow.Author.Tests.{lt-ltb, le-ltb, eq-eqb, ne-eqb}
 use Rattle.paper.specs.declared.Found.{Found}
 use Rattle.paper.specs.declared.Found.the-variants.{At, Nothing}
 use Rattle.paper.specs.Words.{if_then_else_}
 use Rattle.paper.specs.Numbers.{max-sites}
-use Rattle.paper.specs.Classes.{up, trail, Trail, find-in, is-at}
-use Rattle.classes.specs.Well.{log-sites, Leads, Well, rank, members, joined-in, has-up, in-class, cnt, bit, dropped}
-use Rattle.classes.proofs.Counting.{cnt-ext, cnt-add, cnt-le}
+use Rattle.paper.specs.Classes.{up, Trail, find-in, is-at}
+use Rattle.classes.specs.Well.{log-sites, Leads, Well, rank, members, joined-in, has-up, in-class, bit, dropped}
+use Rattle.classes.proofs.Counting.{cnt-ext, cnt-add}
 use Rattle.classes.proofs.Leading.{find-leads, find-out, find-none, lead-by, lead-lt, one-root}
 use Rattle.classes.proofs.Linked.{Case, outside, lone, led, case}
 

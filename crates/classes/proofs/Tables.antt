@@ -1,20 +1,17 @@
 -- Labels as paper's tables: `join` and `dissolve` keep them ascending, and `dissolve` takes one class apart. So the parts go with the labels through a removal.
-use mathlib.Core.Path.{_≡_, refl, sym, _∙_, ap, subst, subst⁻¹, fun-ext}
-use mathlib.Core.Bool.{Bool, true, false, not}
+use mathlib.Core.Path.{_≡_, refl, sym, _∙_, ap, subst⁻¹, fun-ext}
+use mathlib.Core.Bool.{Bool, true, false}
 use mathlib.Core.Option.{Option, none, some}
-use mathlib.Core.List.{List, [], _∷_, map}
-use Prim.Native.Nat.{ℕ, _≤_, _<_, min, max, compare, Ordering, Ordering·lt, Ordering·eq, Ordering·gt}
-use native.Mathlib.Omega.{arith}
+use mathlib.Core.List.{[], _∷_}
+use Prim.Native.Nat.{ℕ}
 use native.Mathlib.Decide.{ℕ-discrete}
-use lib.Dec.{eqb, ltb, leb}
-use borrow.Author.Tests.{eq-eqb, ne-eqb, eqb-true, eqb-false}
+use lib.Dec.{eqb}
 use Rattle.paper.specs.declared.Found.the-variants.{At}
-use Rattle.paper.specs.Words.{if_then_else_, or-else, keep, look, put}
+use Rattle.paper.specs.Words.{if_then_else_, or-else, keep, look}
 use Rattle.paper.specs.Numbers.{done}
 use Rattle.paper.specs.Classes.{Classes, Removed, remove-set-of}
 use Rattle.paper.specs.Loading.{Labels, lowest, dissolve}
 use Rattle.paper.proofs.Labels.{Sound, look-here, look-past}
-use Rattle.classes.specs.Answers.{rep}
 use Rattle.classes.specs.Well.{WellMade, rep-of}
 use Rattle.classes.specs.Equal.{Holds, dissolve-at}
 use Rattle.classes.proofs.Labelled.{remove-holds}

@@ -1,20 +1,20 @@
 -- A join as 01 says it, of the equivalence `rep p u ≡ rep p v`.
-use mathlib.Core.Path.{_≡_, refl, sym, _∙_, ap, subst, subst⁻¹}
+use mathlib.Core.Path.{_≡_, refl, sym, _∙_, ap}
 use mathlib.Core.Logic.{_⊎_, inl, inr, ⊎-elim}
 use mathlib.Core.List.{List}
-use mathlib.Core.Bool.{Bool, true, false, not, _||_}
-use Prim.Native.Nat.{ℕ, zero, suc, _+_, _≤_, _<_}
+use mathlib.Core.Bool.{Bool, true, false, _||_}
+use Prim.Native.Nat.{ℕ, _+_, _≤_, _<_}
 use native.Mathlib.Omega.{arith}
 use native.Mathlib.Decide.{ℕ-discrete, decLt}
-use lib.Dec.{ltb, eqb}
-use borrow.Author.Tests.{lt-ltb, le-ltb, eq-eqb, ne-eqb, eqb-true}
+use lib.Dec.{eqb}
+use borrow.Author.Tests.{lt-ltb, le-ltb, eq-eqb, ne-eqb}
 use Rattle.paper.specs.declared.Found.{Found}
 use Rattle.paper.specs.declared.Found.the-variants.{At, Nothing}
 use Rattle.paper.specs.Words.{if_then_else_}
-use Rattle.paper.specs.Numbers.{max-sites, Outcome, done, refused, _>>=_, demand}
-use Rattle.paper.specs.Classes.{up, trail, find-in, Trail, Classes, Rooted, enter, link, unite, merge}
-use Rattle.classes.specs.Well.{Leads, Well, rank, turned, WellMade, rep-of, winner, loser, alone-as, cnt, bit, has-up}
-use Rattle.classes.specs.Answers.{or-self, rep, two-classes}
+use Rattle.paper.specs.Numbers.{max-sites}
+use Rattle.paper.specs.Classes.{up, find-in, Trail, Classes, enter, unite}
+use Rattle.classes.specs.Well.{Well, rank, turned, WellMade, rep-of, winner, loser, alone-as, cnt, bit, has-up}
+use Rattle.classes.specs.Answers.{or-self, rep}
 use Rattle.classes.specs.Equal.{class-count, Only, before, forth, back, Unites}
 use Rattle.classes.proofs.Counting.{cnt-add, cnt-one}
 use Rattle.classes.proofs.Leading.{find-leads, find-out, find-none, is-root}

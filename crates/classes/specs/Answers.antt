@@ -9,8 +9,7 @@ use Rattle.paper.specs.declared.Found.{Found}
 use Rattle.paper.specs.declared.Found.the-variants.{At, Nothing}
 use Rattle.paper.specs.Words.{if_then_else_}
 use Rattle.paper.specs.Numbers.{max-sites, Outcome, done, refused}
-use Rattle.paper.specs.Classes.{Classes, classes, Trail, find-in, Halved, find-mut, Rooted, enter, merge, Swept, Removed, remove-below}
-use Rattle.classes.specs.declared.Classes as D
+use Rattle.paper.specs.Classes.{Classes, Trail, find-in, Halved, find-mut, Rooted, enter, merge, Swept, Removed, remove-below}
 use Rattle.classes.specs.declared.Trail as T
 use Rattle.classes.specs.declared.Looked.{Looked}
 use Rattle.classes.specs.declared.Looked.the-variants as L
@@ -22,10 +21,6 @@ use Rattle.classes.specs.declared.Same.{Same}
 use Rattle.classes.specs.declared.Same.the-variants as E
 use Rattle.classes.specs.declared.Taken.{Taken}
 use Rattle.classes.specs.declared.Taken.the-variants as K
-
--- the struct's fields are private: this is what they hold
-abbrev pub of : D.Classes → Classes
-of c = classes (c .parents) (c .ranks) (c .count)
 
 abbrev pub root-in : Classes → ℕ → Rooted
 root-in c r = record { after = c; root = r }

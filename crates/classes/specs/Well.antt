@@ -1,4 +1,4 @@
--- What a well-made state is: what the calls make of the empty one (proofs/Made.antt), and what the laws hold of.
+-- What a well-made state is: what the calls make of the empty one (proofs/Laws.antt, `made-well`), and what the laws hold of.
 use mathlib.Core.Path.{_≡_}
 use mathlib.Core.List.{List}
 use mathlib.Core.Bool.{Bool, true, false}

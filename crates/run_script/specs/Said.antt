@@ -1,117 +1,20 @@
--- What a call of a script is answered, without the LF that ends the line:
---     merge X Y      ok · refused 3 X · refused 2 N              same X Y       true · false · refused 2 N
---     find X         SITE LINKS · none · refused 2 N             remove X       the members ascending, with a space between two · none · refused 2 N
---     findmut X      SITE · none · refused 2 N                   len            a number
---     any other line bad LINE                                    empty          true · false
+-- How a script is read and answered: lines, bytes, chunks. (What a line is answered: tell_reply's Replies.)
 use mathlib.Core.Path.{_≡_}
 use mathlib.Core.Bool.{Bool, true, false, not}
 use mathlib.Core.List.{List, [], _∷_, _++_}
-use Prim.Native.Nat.{ℕ, zero, suc, _+_, _%_, min}
+use Prim.Native.Nat.{ℕ, zero, suc, _+_, _%_}
 use lib.ListN.{length, getD, take, set}
 use lib.Dec.{ltb}
-use Rattle.paper.specs.declared.Found.{Found}
-use Rattle.paper.specs.declared.Found.the-variants as found
-use Rattle.paper.specs.declared.Refusal.{Refusal}
-use Rattle.paper.specs.declared.Refusal.the-variants.{Layout, Unknown, Itself, Unreachable, Hanging, Endless, TooManySites, TooManySources, TooManyFields, TooManyRules, TooManyItems, TooManyConstrained, TooManyEqual, TooManySets, TermTooHigh, UnfoldingTooLong, PlaceUsed, Repeated}
 use Rattle.paper.specs.Words.{if_then_else_}
 use Rattle.paper.specs.Text.{unended}
 use Rattle.paper.specs.Classes.{Classes}
-use Rattle.classes.specs.declared.Trail.{Trail}
-use Rattle.classes.specs.declared.Looked.{Looked}
-use Rattle.classes.specs.declared.Looked.the-variants as looked
-use Rattle.classes.specs.declared.Sought.{Sought}
-use Rattle.classes.specs.declared.Sought.the-variants as sought
-use Rattle.classes.specs.declared.Joined.{Joined}
-use Rattle.classes.specs.declared.Joined.the-variants as joined
-use Rattle.classes.specs.declared.Same.{Same}
-use Rattle.classes.specs.declared.Same.the-variants as same
-use Rattle.classes.specs.declared.Taken.{Taken}
-use Rattle.classes.specs.declared.Taken.the-variants as taken
-use Rattle.classes.specs.declared.script.Reply.{Reply}
-use Rattle.classes.specs.declared.script.Reply.the-variants as reply
-use Rattle.classes.specs.Script.{stepped, call-in}
+use Rattle.class_script.specs.declared.Reply.{Reply}
+use Rattle.class_script.specs.declared.Reply.the-variants as reply
+use Rattle.class_script.specs.Script.{stepped, call-in}
 use Rattle.tell_text.specs.Decimal.{decimal}
 use Rattle.tell_text.specs.Written.{wrote}
+use Rattle.tell_reply.specs.Replies.{reply-text}
 use Rattle.run_script.specs.declared.Place.{Place}
-
-abbrev pub bool-text : Bool → List ℕ
-bool-text true = unended "true"
-bool-text false = unended "false"
-
--- a class call is refused with 2 or 3, and no other number
-abbrev pub refusal-text : Refusal → List ℕ
-refusal-text (Unknown x) = unended "refused 2 " ++ decimal x
-refusal-text (Itself x) = unended "refused 3 " ++ decimal x
-refusal-text (Layout a) = []
-refusal-text (Unreachable a b) = []
-refusal-text (Hanging a) = []
-refusal-text (Endless a) = []
-refusal-text (TooManySites a b) = []
-refusal-text (TooManySources a b) = []
-refusal-text (TooManyFields a b) = []
-refusal-text (TooManyRules a) = []
-refusal-text (TooManyItems a) = []
-refusal-text (TooManyConstrained a) = []
-refusal-text (TooManyEqual a) = []
-refusal-text (TooManySets a) = []
-refusal-text (TermTooHigh a) = []
-refusal-text (UnfoldingTooLong a) = []
-refusal-text (PlaceUsed a) = []
-refusal-text (Repeated a) = []
-
-abbrev pub joined-text : Joined → List ℕ
-joined-text (joined.Done b) = unended "ok"
-joined-text (joined.Refused e) = refusal-text e
-
-abbrev pub found-text : Found → List ℕ
-found-text (found.At s) = decimal s
-found-text found.Nothing = unended "none"
-
-abbrev pub linked : Found → ℕ → List ℕ
-linked (found.At s) n = (decimal s ++ (32 ∷ [])) ++ decimal n
-linked found.Nothing n = unended "none"
-
-abbrev pub trail-text : Trail → List ℕ
-trail-text t = linked (t .found) (t .links)
-
-abbrev pub looked-text : Looked → List ℕ
-looked-text (looked.Got t) = trail-text t
-looked-text (looked.Refused e) = refusal-text e
-
-abbrev pub sought-text : Sought → List ℕ
-sought-text (sought.Got f) = found-text f
-sought-text (sought.Refused e) = refusal-text e
-
-abbrev pub same-text : Same → List ℕ
-same-text (same.Is b) = bool-text b
-same-text (same.Refused e) = refusal-text e
-
--- the member at the place i
-abbrev pub member-text : ℕ → ℕ → List ℕ
-member-text zero x = decimal x
-member-text (suc i) x = (32 ∷ []) ++ decimal x
-
-unfoldable pub members-text : List ℕ → ℕ → List ℕ
-members-text ms zero = []
-members-text ms (suc k) = members-text ms k ++ member-text k (getD ms k 0)
-
-abbrev pub listed-text : List ℕ → ℕ → List ℕ
-listed-text ms zero = unended "none"
-listed-text ms (suc k) = members-text ms (min (suc k) (length ms))
-
-abbrev pub taken-text : List ℕ → Taken → List ℕ
-taken-text ms (taken.Members k) = listed-text ms k
-taken-text ms (taken.Refused e) = refusal-text e
-
-abbrev pub reply-text : List ℕ → ℕ → Reply → List ℕ
-reply-text ms line (reply.Merged j) = joined-text j
-reply-text ms line (reply.Found l) = looked-text l
-reply-text ms line (reply.FoundMut s) = sought-text s
-reply-text ms line (reply.Compared s) = same-text s
-reply-text ms line (reply.Removed t) = taken-text ms t
-reply-text ms line (reply.Length k) = decimal k
-reply-text ms line (reply.Emptiness b) = bool-text b
-reply-text ms line reply.Bad = unended "bad " ++ decimal line
 
 abbrev pub is-bad : Reply → Bool
 is-bad (reply.Merged j) = false
@@ -124,29 +27,45 @@ is-bad (reply.Emptiness b) = false
 is-bad reply.Bad = true
 
 -- ---- a line
+-- the byte that ends one
+abbrev pub lf : ℕ
+lf = 10
+
 -- a line of more bytes than are held is no call
 unfoldable pub replied : Classes → List ℕ → List ℕ → ℕ → Classes × List ℕ × Reply
 replied c ms line used = if ltb (length line) used then (c, ms, reply.Bad) else stepped c ms (call-in (take used line))
 
 -- where the buffer is written out the next answer goes to its start
+abbrev pub full : ℕ
+full = 32768
+
 abbrev pub spared : ℕ → ℕ
-spared n = if ltb 32768 n then 0 else n
+spared n = if ltb full n then 0 else n
 
 -- a line has ended: the call is done, and its answer with an LF stands behind what the buffer had
 pub record Answered (c c′ : Classes) (ms ms′ line out out′ : List ℕ) (p q : Place) : Type 0 where
   pub answer : Reply
   pub end : ℕ
   pub replies : (c′, ms′, answer) ≡ replied c ms line (p .used)
-  pub answers : (out′, end) ≡ wrote (out, p .filled) (reply-text ms′ (p .line) answer ++ (10 ∷ []))
+  pub answers : (out′, end) ≡ wrote (out, p .filled) (reply-text ms′ (p .line) answer ++ (lf ∷ []))
   pub filled : q .filled ≡ spared end
   pub used : q .used ≡ 0
   pub goes : q .goes ≡ not (is-bad answer)
   pub number : q .line ≡ (p .line + 1) % 18446744073709551616
 
 -- a byte of the open line; what passes the room for a line is not kept, and makes the line no call
+abbrev pub line-room : ℕ
+line-room = 256
+
+abbrev pub kept-line : List ℕ → ℕ → ℕ → List ℕ
+kept-line line used b = if ltb used (length line) then set line used b else line
+
+abbrev pub kept-used : List ℕ → ℕ → ℕ
+kept-used line used = if ltb used (length line) then used + 1 else suc line-room
+
 pub record Held (line line′ : List ℕ) (b : ℕ) (p q : Place) : Type 0 where
-  pub kept : line′ ≡ (if ltb (p .used) (length line) then set line (p .used) b else line)
-  pub used : q .used ≡ (if ltb (p .used) (length line) then p .used + 1 else 257)
+  pub kept : line′ ≡ kept-line line (p .used) b
+  pub used : q .used ≡ kept-used line (p .used)
   pub filled : q .filled ≡ p .filled
   pub goes : q .goes ≡ true
   pub number : q .line ≡ p .line
@@ -164,8 +83,8 @@ stand c ms line out p = record { classes = c; members = ms; line = line; out = o
 
 -- an LF ends the line, any other byte is held
 pub record Took (b : ℕ) (s u : Standing) : Type 0 where
-  pub ended : b ≡ 10 → Answered (s .classes) (u .classes) (s .members) (u .members) (s .line) (s .out) (u .out) (s .place) (u .place) × (u .line ≡ s .line)
-  pub held : (b ≡ 10 → ⊥) → Held (s .line) (u .line) b (s .place) (u .place) × (u ≡ stand (s .classes) (s .members) (u .line) (s .out) (u .place))
+  pub ended : b ≡ lf → Answered (s .classes) (u .classes) (s .members) (u .members) (s .line) (s .out) (u .out) (s .place) (u .place) × (u .line ≡ s .line)
+  pub held : (b ≡ lf → ⊥) → Held (s .line) (u .line) b (s .place) (u .place) × (u ≡ stand (s .classes) (s .members) (u .line) (s .out) (u .place))
 
 -- the first i bytes one after the other, while the script goes on
 unfoldable pub Fed-to : List ℕ → ℕ → Standing → Standing → Type 0
@@ -187,18 +106,22 @@ pub data Read (s u : Standing) : Type 0 where
   ended : u ≡ stand (s .classes) (s .members) (s .line) (s .out) (at-end (s .place)) → Read s u
   fed : (chunk : List ℕ) → Fed chunk s u → Read s u
 
+-- turns that no run uses up
+abbrev pub turns-all : ℕ
+turns-all = 18446744073709551615
+
 -- one read after the other, while the script goes on
 unfoldable pub Read-to : ℕ → Standing → Standing → Type 0
 Read-to zero s u = u ≡ s
 Read-to (suc k) s u = (t : Standing) × Read-to k s t × (t .place .goes ≡ true) × Read t u
 
--- until it ends, or turns are used up that no run uses up
+-- until it ends, or the turns are used up
 pub record Ran (s u : Standing) : Type 0 where
   pub many : ℕ
   pub to : Read-to many s u
-  pub all : u .place .goes ≡ true → many ≡ 18446744073709551615
+  pub all : u .place .goes ≡ true → many ≡ turns-all
 
 -- a last line without LF is answered `bad` with its number
 unfoldable pub unended-text : ℕ → ℕ → List ℕ
 unended-text zero line = []
-unended-text (suc n) line = (unended "bad " ++ decimal line) ++ (10 ∷ [])
+unended-text (suc n) line = (unended "bad " ++ decimal line) ++ (lf ∷ [])

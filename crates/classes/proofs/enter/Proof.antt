@@ -8,7 +8,7 @@ use Rattle.classes.proofs.enter.Reads as reads
 use Rattle.classes.proofs.enter.Lts as lts
 use Rattle.classes.proofs.halve_in.Reads as halve-in-reads
 use Rattle.classes.proofs.more.Reads as more-reads
-use Rattle.classes.proofs.wide.Reads as wide-reads
+use Rattle.widths.proofs.size16.Reads as size16-reads
 
 halve-in-requires : tie.Need-halve-in-requires
 halve-in-requires c κs = search needs
@@ -19,8 +19,8 @@ enum-known-f c = search needs
 enum-told : tie.Need-enum-told
 enum-told c = search needs
 
-wide-requires : tie.Need-wide-requires
-wide-requires c κs = search needs
+size16-requires : tie.Need-size16-requires
+size16-requires c κs = search needs
 
 mul-parents : tie.Need-mul-parents
 mul-parents c = search needs
@@ -35,7 +35,7 @@ more-requires : tie.Need-more-requires
 more-requires c κs = search needs
 
 returns : tie.Need-returns
-returns c = entered-new (classes _ _ _) _ (c .before .before .before .before .before .halve-in .ensures) _ _ (c .before .before .wide .ensures) (c .more .ensures) (c .before .before .before .enum-told .given .1)
+returns c = entered-new (classes _ _ _) _ (c .before .before .before .before .before .halve-in .ensures) _ _ (c .before .before .size16 .ensures) (c .more .ensures) (c .before .before .before .enum-told .given .1)
 
 returns-2 : tie.Need-returns-2
 returns-2 c = entered (classes _ _ _) _ (c .before .before .before .halve-in .ensures) _ (c .before .f .given .1)
@@ -47,7 +47,7 @@ enter-spec =
     halve-in-requires
     enum-known-f
     enum-told
-    wide-requires
+    size16-requires
     mul-parents
     element-write-parents
     element-write-ranks

@@ -10,7 +10,7 @@ use Rattle.classes.proofs.halve_in.Statement.{statement}
 use Rattle.classes.proofs.halve_in.Tie as tie
 use Rattle.classes.proofs.halve_in.Reads as reads
 use Rattle.classes.proofs.halve_in.Lts as lts
-use Rattle.classes.proofs.wide.Reads as wide-reads
+use Rattle.widths.proofs.size16.Reads as size16-reads
 
 abbrev Inv-loop : tie.InvT-loop
 Inv-loop parents₀ x at₀ steps₀ parents at steps = (steps ≤ max-sites) × (halve (max-sites - steps) parents at ≡ halve-in parents₀ x)
@@ -22,11 +22,11 @@ loop-holds : tie.Need-loop-holds Inv-loop μ-loop
 unfolding halve-in
 loop-holds c = (search needs, refl)
 
-wide-requires : tie.Need-wide-requires Inv-loop μ-loop
-wide-requires c κs = search needs
+size16-requires : tie.Need-size16-requires Inv-loop μ-loop
+size16-requires c κs = search needs
 
 returns : tie.Need-returns Inv-loop μ-loop
-returns c = half-out _ _ _ _ (c .before .wide .ensures) (omega arith) (c .if1 .taken) (c .before .before .before .loop .inv .1)
+returns c = half-out _ _ _ _ (c .before .size16 .ensures) (omega arith) (c .if1 .taken) (c .before .before .before .loop .inv .1)
 
 mul-up : tie.Need-mul-up Inv-loop μ-loop
 mul-up c = omega arith
@@ -35,13 +35,13 @@ element-copy-out-up : tie.Need-element-copy-out-up Inv-loop μ-loop
 element-copy-out-up c = omega arith
 
 returns-2 : tie.Need-returns-2 Inv-loop μ-loop
-returns-2 c = half-root _ _ _ _ (c .before .before .before .wide .ensures) (omega arith) (omega arith) (c .if2 .taken) (c .before .before .before .before .before .loop .inv .1)
+returns-2 c = half-root _ _ _ _ (c .before .before .before .size16 .ensures) (omega arith) (omega arith) (c .if2 .taken) (c .before .before .before .before .before .loop .inv .1)
 
-wide-requires-2 : tie.Need-wide-requires-2 Inv-loop μ-loop
-wide-requires-2 c κs = search needs
+size16-requires-2 : tie.Need-size16-requires-2 Inv-loop μ-loop
+size16-requires-2 c κs = search needs
 
 returns-3 : tie.Need-returns-3 Inv-loop μ-loop
-returns-3 c = half-none _ _ _ _ (c .before .before .before .before .before .wide .ensures) (omega arith) (omega arith) _ (c .before .wide2 .ensures) (c .before .before .if2 .left) (c .if3 .taken) (c .before .before .before .before .before .before .before .loop .inv .1)
+returns-3 c = half-none _ _ _ _ (c .before .before .before .before .before .size16 .ensures) (omega arith) (omega arith) _ (c .before .size162 .ensures) (c .before .before .if2 .left) (c .if3 .taken) (c .before .before .before .before .before .before .before .loop .inv .1)
 
 mul-over : tie.Need-mul-over Inv-loop μ-loop
 mul-over c = omega arith
@@ -64,7 +64,7 @@ loop-less c = omega arith
 loop-again : tie.Need-loop-again Inv-loop μ-loop
 loop-again c = (
   omega arith,
-  half-step _ _ _ _ (c .before .before .before .before .before .before .wide .ensures) (omega arith) (omega arith) _ (c .before .before .wide2 .ensures) (c .before .before .before .if2 .left) (c .before .if3 .left) (c .before .before .before .before .before .before .before .before .loop .inv .1),
+  half-step _ _ _ _ (c .before .before .before .before .before .before .size16 .ensures) (omega arith) (omega arith) _ (c .before .before .size162 .ensures) (c .before .before .before .if2 .left) (c .before .if3 .left) (c .before .before .before .before .before .before .before .before .loop .inv .1),
 )
 
 returns-4 : tie.Need-returns-4 Inv-loop μ-loop
@@ -79,12 +79,12 @@ halve-in-spec =
     Inv-loop
     μ-loop
     loop-holds
-    wide-requires
+    size16-requires
     returns
     mul-up
     element-copy-out-up
     returns-2
-    wide-requires-2
+    size16-requires-2
     returns-3
     mul-over
     element-copy-out-over

@@ -7,19 +7,19 @@ use Rattle.classes.proofs.in_same_set_in.Tie as tie
 use Rattle.classes.proofs.in_same_set_in.Reads as reads
 use Rattle.classes.proofs.in_same_set_in.Lts as lts
 use Rattle.classes.proofs.trail_in.Reads as trail-in-reads
-use Rattle.classes.proofs.wide.Reads as wide-reads
+use Rattle.widths.proofs.size16.Reads as size16-reads
 
-wide-requires : tie.Need-wide-requires
-wide-requires c κs = search needs
+size16-requires : tie.Need-size16-requires
+size16-requires c κs = search needs
 
 returns : tie.Need-returns
-returns c = λ R n. same-x _ _ _ (test-out _ _ (c .before .wide .ensures) (c .if1 .taken))
+returns c = λ R n. same-x _ _ _ (test-out _ _ (c .before .size16 .ensures) (c .if1 .taken))
 
-wide-requires-2 : tie.Need-wide-requires-2
-wide-requires-2 c κs = search needs
+size16-requires-2 : tie.Need-size16-requires-2
+size16-requires-2 c κs = search needs
 
 returns-2 : tie.Need-returns-2
-returns-2 c = λ R n. same-y _ _ _ (test-in _ _ (c .before .before .before .wide .ensures) (c .before .before .if1 .left)) (test-out _ _ (c .before .wide2 .ensures) (c .if2 .taken))
+returns-2 c = λ R n. same-y _ _ _ (test-in _ _ (c .before .before .before .size16 .ensures) (c .before .before .if1 .left)) (test-out _ _ (c .before .size162 .ensures) (c .if2 .taken))
 
 trail-in-requires : tie.Need-trail-in-requires
 trail-in-requires c κs = search needs
@@ -32,7 +32,7 @@ enum-told c = search needs
 
 returns-3 : tie.Need-returns-3
 returns-3 c =
-    λ R n. same-no _ _ _ (test-in _ _ (c .before .before .before .before .before .before .wide .ensures) (c .before .before .before .before .before .if1 .left)) (test-in _ _ (c .before .before .before .before .wide2 .ensures) (c .before .before .before .if2 .left)) _ (c .before .before .trail-in .ensures) (c .enum-told .given .1)
+    λ R n. same-no _ _ _ (test-in _ _ (c .before .before .before .before .before .before .size16 .ensures) (c .before .before .before .before .before .if1 .left)) (test-in _ _ (c .before .before .before .before .size162 .ensures) (c .before .before .before .if2 .left)) _ (c .before .before .trail-in .ensures) (c .enum-told .given .1)
 
 trail-in-requires-2 : tie.Need-trail-in-requires-2
 trail-in-requires-2 c κs = search needs
@@ -45,21 +45,21 @@ enum-told-2 c = search needs
 
 returns-4 : tie.Need-returns-4
 returns-4 c =
-    λ R n. same-two _ _ _ (test-in _ _ (c .before .before .before .before .before .before .before .before .before .before .wide .ensures) (c .before .before .before .before .before .before .before .before .before .if1 .left)) (test-in _ _ (c .before .before .before .before .before .before .before .before .wide2 .ensures) (c .before .before .before .before .before .before .before .if2 .left)) _ _ _ Nothing
+    λ R n. same-two _ _ _ (test-in _ _ (c .before .before .before .before .before .before .before .before .before .before .size16 .ensures) (c .before .before .before .before .before .before .before .before .before .if1 .left)) (test-in _ _ (c .before .before .before .before .before .before .before .before .size162 .ensures) (c .before .before .before .before .before .before .before .if2 .left)) _ _ _ Nothing
     (c .before .before .before .before .before .before .trail-in .ensures) (c .before .before .before .before .f .given .1) (c .before .before .trail-in2 .ensures) (c .enum-told2 .given .1)
 
 returns-5 : tie.Need-returns-5
 returns-5 c =
-    λ R n. same-two _ _ _ (test-in _ _ (c .before .before .before .before .before .before .before .before .before .before .before .wide .ensures) (c .before .before .before .before .before .before .before .before .before .before .if1 .left)) (test-in _ _ (c .before .before .before .before .before .before .before .before .before .wide2 .ensures) (c .before .before .before .before .before .before .before .before .if2 .left)) _ _ _ (At _)
+    λ R n. same-two _ _ _ (test-in _ _ (c .before .before .before .before .before .before .before .before .before .before .before .size16 .ensures) (c .before .before .before .before .before .before .before .before .before .before .if1 .left)) (test-in _ _ (c .before .before .before .before .before .before .before .before .before .size162 .ensures) (c .before .before .before .before .before .before .before .before .if2 .left)) _ _ _ (At _)
     (c .before .before .before .before .before .before .before .trail-in .ensures) (c .before .before .before .before .before .f .given .1) (c .before .before .before .trail-in2 .ensures) (c .before .g .given .1)
 
 pub in-same-set-in-spec : {M : Type 1} → statement M
 in-same-set-in-spec =
     tie.close
     (tie.spec
-    wide-requires
+    size16-requires
     returns
-    wide-requires-2
+    size16-requires-2
     returns-2
     trail-in-requires
     enum-known-f

@@ -8,16 +8,16 @@ use Rattle.classes.proofs.link.Tie as tie
 use Rattle.classes.proofs.link.Reads as reads
 use Rattle.classes.proofs.link.Lts as lts
 use Rattle.classes.proofs.higher.Reads as higher-reads
-use Rattle.classes.proofs.wide.Reads as wide-reads
+use Rattle.widths.proofs.size16.Reads as size16-reads
 
 returns : tie.Need-returns
 returns c = λ n. link-same _ _ _ _ _ refl refl (c .if1 .taken)
 
-wide-requires : tie.Need-wide-requires
-wide-requires c κs = search needs
+size16-requires : tie.Need-size16-requires
+size16-requires c κs = search needs
 
-wide-requires-2 : tie.Need-wide-requires-2
-wide-requires-2 c κs = search needs
+size16-requires-2 : tie.Need-size16-requires-2
+size16-requires-2 c κs = search needs
 
 element-copy-out-s : tie.Need-element-copy-out-s
 element-copy-out-s c = search needs
@@ -32,7 +32,7 @@ element-write-parents : tie.Need-element-write-parents
 element-write-parents c = search needs
 
 returns-2 : tie.Need-returns-2
-returns-2 c = λ n. link-low (classes _ _ n) _ _ _ _ (c .before .before .before .before .wide .ensures) (c .before .before .before .wide2 .ensures) (c .before .before .before .before .before .if1 .left) (c .if2 .taken)
+returns-2 c = λ n. link-low (classes _ _ n) _ _ _ _ (c .before .before .before .before .size16 .ensures) (c .before .before .before .size162 .ensures) (c .before .before .before .before .before .if1 .left) (c .if2 .taken)
 
 mul-parents-2 : tie.Need-mul-parents-2
 mul-parents-2 c = search needs
@@ -47,18 +47,18 @@ element-write-ranks : tie.Need-element-write-ranks
 element-write-ranks c = search needs
 
 returns-3 : tie.Need-returns-3
-returns-3 c = λ n. link-tie (classes _ _ n) _ _ _ _ (c .before .before .before .before .before .before .wide .ensures) (c .before .before .before .before .before .wide2 .ensures) (c .before .before .before .before .before .before .before .if1 .left) (c .before .before .if2 .left) (c .before .if3 .taken) _ (c .higher .ensures)
+returns-3 c = λ n. link-tie (classes _ _ n) _ _ _ _ (c .before .before .before .before .before .before .size16 .ensures) (c .before .before .before .before .before .size162 .ensures) (c .before .before .before .before .before .before .before .if1 .left) (c .before .before .if2 .left) (c .before .if3 .taken) _ (c .higher .ensures)
 
 returns-4 : tie.Need-returns-4
-returns-4 c = λ n. link-high (classes _ _ n) _ _ _ _ (c .before .before .before .before .before .wide .ensures) (c .before .before .before .before .wide2 .ensures) (c .before .before .before .before .before .before .if1 .left) (c .before .if2 .left) (c .if3 .left)
+returns-4 c = λ n. link-high (classes _ _ n) _ _ _ _ (c .before .before .before .before .before .size16 .ensures) (c .before .before .before .before .size162 .ensures) (c .before .before .before .before .before .before .if1 .left) (c .before .if2 .left) (c .if3 .left)
 
 pub link-spec : {M : Type 1} → statement M
 link-spec =
     tie.close
     (tie.spec
     returns
-    wide-requires
-    wide-requires-2
+    size16-requires
+    size16-requires-2
     element-copy-out-s
     element-copy-out-t
     mul-parents

@@ -9,47 +9,47 @@ use Rattle.classes.proofs.merge_in.Reads as reads
 use Rattle.classes.proofs.merge_in.Lts as lts
 use Rattle.classes.proofs.enter.Reads as enter-reads
 use Rattle.classes.proofs.link.Reads as link-reads
-use Rattle.classes.proofs.wide.Reads as wide-reads
+use Rattle.widths.proofs.size16.Reads as size16-reads
 
-wide-requires : tie.Need-wide-requires
-wide-requires c κs = search needs
+size16-requires : tie.Need-size16-requires
+size16-requires c κs = search needs
 
 returns : tie.Need-returns
-returns c = merge-x _ _ _ (test-out _ _ (c .before .wide .ensures) (c .if1 .taken))
+returns c = merge-x _ _ _ (test-out _ _ (c .before .size16 .ensures) (c .if1 .taken))
 
-wide-requires-2 : tie.Need-wide-requires-2
-wide-requires-2 c κs = search needs
+size16-requires-2 : tie.Need-size16-requires-2
+size16-requires-2 c κs = search needs
 
 returns-2 : tie.Need-returns-2
-returns-2 c = merge-y _ _ _ (test-in _ _ (c .before .before .before .wide .ensures) (c .before .before .if1 .left)) (test-out _ _ (c .before .wide2 .ensures) (c .if2 .taken))
+returns-2 c = merge-y _ _ _ (test-in _ _ (c .before .before .before .size16 .ensures) (c .before .before .if1 .left)) (test-out _ _ (c .before .size162 .ensures) (c .if2 .taken))
 
 returns-3 : tie.Need-returns-3
-returns-3 c = merge-same _ _ _ (test-in _ _ (c .before .before .before .before .wide .ensures) (c .before .before .before .if1 .left)) (test-in _ _ (c .before .before .wide2 .ensures) (c .before .if2 .left)) (c .if3 .taken)
+returns-3 c = merge-same _ _ _ (test-in _ _ (c .before .before .before .before .size16 .ensures) (c .before .before .before .if1 .left)) (test-in _ _ (c .before .before .size162 .ensures) (c .before .if2 .left)) (c .if3 .taken)
 
 enter-requires : tie.Need-enter-requires
-enter-requires c κs = omega (arith, c .before .before .before .before .before .before .before .wide .ensures)
+enter-requires c κs = omega (arith, c .before .before .before .before .before .before .before .size16 .ensures)
 
 enter-requires-2 : tie.Need-enter-requires-2
-enter-requires-2 c κs = omega (arith, c .before .before .before .before .before .before .before .before .before .wide2 .ensures)
+enter-requires-2 c κs = omega (arith, c .before .before .before .before .before .before .before .before .before .size162 .ensures)
 
 link-requires : tie.Need-link-requires
 link-requires c κs = (
-  rooted-lt _ _ (omega (arith, c .before .before .before .before .before .before .before .before .before .before .before .before .before .before .wide .ensures)) (root-in _ _) (c .before .before .before .before .before .before .enter .ensures),
-  rooted-lt _ _ (omega (arith, c .before .before .before .before .before .before .before .before .before .before .before .before .wide2 .ensures)) (root-in _ _) (c .before .before .enter2 .ensures),
+  rooted-lt _ _ (omega (arith, c .before .before .before .before .before .before .before .before .before .before .before .before .before .before .size16 .ensures)) (root-in _ _) (c .before .before .before .before .before .before .enter .ensures),
+  rooted-lt _ _ (omega (arith, c .before .before .before .before .before .before .before .before .before .before .before .before .size162 .ensures)) (root-in _ _) (c .before .before .enter2 .ensures),
 )
 
 returns-4 : tie.Need-returns-4
 returns-4 c =
-    merge-done _ _ _ (test-in _ _ (c .before .before .before .before .before .before .before .before .before .before .before .before .before .before .before .wide .ensures) (c .before .before .before .before .before .before .before .before .before .before .before .before .before .before .if1 .left)) (test-in _ _ (c .before .before .before .before .before .before .before .before .before .before .before .before .before .wide2 .ensures) (c .before .before .before .before .before .before .before .before .before .before .before .before .if2 .left)) (c .before .before .before .before .before .before .before .before .before .before .before .if3 .left)
+    merge-done _ _ _ (test-in _ _ (c .before .before .before .before .before .before .before .before .before .before .before .before .before .before .before .size16 .ensures) (c .before .before .before .before .before .before .before .before .before .before .before .before .before .before .if1 .left)) (test-in _ _ (c .before .before .before .before .before .before .before .before .before .before .before .before .before .size162 .ensures) (c .before .before .before .before .before .before .before .before .before .before .before .before .if2 .left)) (c .before .before .before .before .before .before .before .before .before .before .before .if3 .left)
     (root-in _ _) (root-in _ _) _ (c .before .before .before .before .before .before .before .enter .ensures) (c .before .before .before .enter2 .ensures) (c .link .ensures _)
 
 pub merge-in-spec : {M : Type 1} → statement M
 merge-in-spec =
     tie.close
     (tie.spec
-    wide-requires
+    size16-requires
     returns
-    wide-requires-2
+    size16-requires-2
     returns-2
     returns-3
     enter-requires

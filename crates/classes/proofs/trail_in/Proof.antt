@@ -10,7 +10,7 @@ use Rattle.classes.proofs.trail_in.Statement.{statement}
 use Rattle.classes.proofs.trail_in.Tie as tie
 use Rattle.classes.proofs.trail_in.Reads as reads
 use Rattle.classes.proofs.trail_in.Lts as lts
-use Rattle.classes.proofs.wide.Reads as wide-reads
+use Rattle.widths.proofs.size16.Reads as size16-reads
 
 abbrev Inv-loop : tie.InvT-loop
 Inv-loop parents x at₀ links₀ at links = (links ≤ max-sites) × (seek (max-sites - links) parents at links ≡ find-in parents x)
@@ -22,11 +22,11 @@ loop-holds : tie.Need-loop-holds Inv-loop μ-loop
 unfolding find-in
 loop-holds c = (search needs, refl)
 
-wide-requires : tie.Need-wide-requires Inv-loop μ-loop
-wide-requires c κs = search needs
+size16-requires : tie.Need-size16-requires Inv-loop μ-loop
+size16-requires c κs = search needs
 
 returns : tie.Need-returns Inv-loop μ-loop
-returns c = at-out _ _ _ _ (c .before .wide .ensures) (omega arith) (c .if1 .taken) (c .before .before .before .loop .inv .1)
+returns c = at-out _ _ _ _ (c .before .size16 .ensures) (omega arith) (c .if1 .taken) (c .before .before .before .loop .inv .1)
 
 mul-up : tie.Need-mul-up Inv-loop μ-loop
 mul-up c = omega arith
@@ -35,7 +35,7 @@ element-copy-out-up : tie.Need-element-copy-out-up Inv-loop μ-loop
 element-copy-out-up c = omega arith
 
 returns-2 : tie.Need-returns-2 Inv-loop μ-loop
-returns-2 c = at-root _ _ _ _ (c .before .before .before .wide .ensures) (omega arith) (omega arith) (c .if2 .taken) (c .before .before .before .before .before .loop .inv .1)
+returns-2 c = at-root _ _ _ _ (c .before .before .before .size16 .ensures) (omega arith) (omega arith) (c .if2 .taken) (c .before .before .before .before .before .loop .inv .1)
 
 add-links : tie.Need-add-links Inv-loop μ-loop
 add-links c = omega arith
@@ -44,7 +44,7 @@ loop-less : tie.Need-loop-less Inv-loop μ-loop
 loop-less c = omega arith
 
 loop-again : tie.Need-loop-again Inv-loop μ-loop
-loop-again c = (omega arith, at-step _ _ _ _ (c .before .before .before .wide .ensures) (omega arith) (omega arith) (c .if2 .left) (c .before .before .before .before .before .loop .inv .1))
+loop-again c = (omega arith, at-step _ _ _ _ (c .before .before .before .size16 .ensures) (omega arith) (omega arith) (c .if2 .left) (c .before .before .before .before .before .loop .inv .1))
 
 returns-3 : tie.Need-returns-3 Inv-loop μ-loop
 returns-3 c =
@@ -58,7 +58,7 @@ trail-in-spec =
     Inv-loop
     μ-loop
     loop-holds
-    wide-requires
+    size16-requires
     returns
     mul-up
     element-copy-out-up

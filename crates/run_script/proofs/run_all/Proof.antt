@@ -4,8 +4,8 @@ use Prim.Native.Nat.{_≤_, _-_}
 use native.Mathlib.Omega.{arith}
 use lib.ListN.{length}
 use Rattle.paper.specs.Classes.{classes}
-use Rattle.run_script.specs.Said.{stand, Read-to}
-use Rattle.run_script.proofs.Saying.{turns-all, read-none, read-more, read-stop, read-all, stops, goes}
+use Rattle.run_script.specs.Said.{stand, turns-all, Read-to}
+use Rattle.run_script.proofs.Saying.{read-none, read-more, read-stop, read-all, stops, goes}
 use borrow.Author.Needs.{needs}
 use Rattle.run_script.proofs.run_all.Statement.{statement}
 use Rattle.run_script.proofs.run_all.Tie as tie

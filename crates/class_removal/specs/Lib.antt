@@ -1,0 +1,2 @@
+-- What the contracts cite beside `classes` and paper's Classes.
+pub mod Listed

@@ -1,0 +1,3 @@
+-- Laws of what a line says.
+mod Reading
+mod Stepping

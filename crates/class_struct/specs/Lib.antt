@@ -1,0 +1,3 @@
+-- What the contracts cite beside `classes` and paper's Classes.
+pub mod Fields
+pub mod Turns
