@@ -18,7 +18,7 @@ use Rattle.paper.specs.Loading.{Kept}
 use Rattle.paper.specs.Rules.{Listed, overlap, mask, Graph, edge, masks, linked, by-place, take-places, overlap-lists, masked-by, mask-lists, listed-from, report-of, no-rule}
 use Rattle.rule_words.specs.Stored.{run, base, place-at, kept-at, kept-in, kept-first}
 use Rattle.rule_words.proofs.StoreLaws.{run-same}
-use Rattle.sheet_digits.specs.Digits.{digits}
+use Rattle.sheet_digits.specs.Digits.{digits-of}
 use Rattle.sheet_digits.proofs.DigitLaws.{digits-append, hex-digits}
 use Rattle.report.specs.Rows.{bits, bit-at, filled, place-in, named, earlier, lower-word, either, row-word, take-from}
 use Rattle.report.specs.Lines.{place-text, places-text, rest-text, overlap-text, mask-text, masks-in, rule-text, lists-text}
@@ -34,8 +34,8 @@ keep-nothing : {A : Type 0} (t : A → Bool) → keep t [] ≡ []
 unfolding keep
 keep-nothing t = refl
 
-digits-none : digits [] ≡ []
-unfolding digits
+digits-none : digits-of [] ≡ []
+unfolding digits-of
 digits-none = refl
 
 places-start : (ps : List ℕ) (w : ℕ) → places-text ps w 0 ≡ []
@@ -46,17 +46,17 @@ places-more : (ps : List ℕ) (w k : ℕ) → places-text ps w (suc k) ≡ place
 unfolding places-text
 places-more ps w k = refl
 
-digits-cons : (b : ℕ) (s : List ℕ) → digits (b ∷ s) ≡ digits (b ∷ []) ++ digits s
+digits-cons : (b : ℕ) (s : List ℕ) → digits-of (b ∷ s) ≡ digits-of (b ∷ []) ++ digits-of s
 digits-cons b s = digits-append (b ∷ []) s
 
 -- a frame's digits, piece by piece
-overlap-line : (p : ℕ) (ns : List ℕ) → digits (listed-found (overlap p ns)) ++ (10 ∷ []) ≡ digits (18 ∷ []) ++ (digits (two (length ns + 1)) ++ (digits (four p) ++ (digits (joined (map four ns)) ++ (10 ∷ []))))
+overlap-line : (p : ℕ) (ns : List ℕ) → digits-of (listed-found (overlap p ns)) ++ (10 ∷ []) ≡ digits-of (18 ∷ []) ++ (digits-of (two (length ns + 1)) ++ (digits-of (four p) ++ (digits-of (joined (map four ns)) ++ (10 ∷ []))))
 unfolding listed-found
 overlap-line p ns =
     rw (digits-cons 18 (two (suc (length ns)) ++ joined (four p ∷ map four ns)), digits-append (two (suc (length ns))) (joined (four p ∷ map four ns)), joined-cons (four p) (map four ns), digits-append (four p) (joined (map four ns)), add-one (length ns))
     (simp append-assoc)
 
-mask-line : (p : ℕ) (ns : List ℕ) → digits (listed-found (mask p ns)) ++ (10 ∷ []) ≡ digits (19 ∷ []) ++ (digits (four p) ++ (digits (two (length ns)) ++ (digits (joined (map four ns)) ++ (10 ∷ []))))
+mask-line : (p : ℕ) (ns : List ℕ) → digits-of (listed-found (mask p ns)) ++ (10 ∷ []) ≡ digits-of (19 ∷ []) ++ (digits-of (four p) ++ (digits-of (two (length ns)) ++ (digits-of (joined (map four ns)) ++ (10 ∷ []))))
 unfolding listed-found
 mask-line p ns =
     rw (digits-cons 19 (four p ++ (two (length ns) ++ joined (map four ns))), digits-append (four p) (two (length ns) ++ joined (map four ns)), digits-append (two (length ns)) (joined (map four ns)))
@@ -65,13 +65,13 @@ mask-line p ns =
 -- ---- the places of a word's bits
 module _ (names : List ℕ) (P : ℕ → ℕ) (f : ℕ → Bool) (n : ℕ) (few : n ≤ 64) (same : (q : ℕ) → q < n → getD names q 0 ≡ P q) where
   abbrev Named : ℕ → List ℕ
-  Named k = digits (joined (map four (map P (keep f (numbers k)))))
+  Named k = digits-of (joined (map four (map P (keep f (numbers k)))))
 
-  place-is : (k : ℕ) → k < n → place-text names (bits f n) k ≡ digits (joined (map four (map P (keep f (k ∷ [])))))
+  place-is : (k : ℕ) → k < n → place-text names (bits f n) k ≡ digits-of (joined (map four (map P (keep f (k ∷ [])))))
   unfolding place-text
   place-is k h = rw (bits-at f n k h few, same k h) (go (f k) refl)
     where
-      go : (t : Bool) → f k ≡ t → (if t then digits (four (P k)) else []) ≡ digits (joined (map four (map P (keep f (k ∷ [])))))
+      go : (t : Bool) → f k ≡ t → (if t then digits-of (four (P k)) else []) ≡ digits-of (joined (map four (map P (keep f (k ∷ [])))))
       go true e = rw (keep-yes f k [] e, keep-nothing f, joined-one (four (P k)))
       go false e = rw (keep-no f k [] e, keep-nothing f, joined-none {A = ℕ}) (sym digits-none)
 
@@ -86,7 +86,7 @@ module _ (names : List ℕ) (P : ℕ → ℕ) (f : ℕ → Bool) (n : ℕ) (few 
   abbrev pub Members : List ℕ
   Members = map P (keep f (numbers n))
 
-  rest-is : rest-text names (bits f n) n ≡ digits (joined (map four (map P (keep f (numbers n))))) ++ (10 ∷ [])
+  rest-is : rest-text names (bits f n) n ≡ digits-of (joined (map four (map P (keep f (numbers n))))) ++ (10 ∷ [])
   unfolding rest-text
   rest-is = rw (places-are n (omega arith))
 

@@ -24,13 +24,13 @@ use Rattle.sites.specs.declared.Unfolded.the-variants.{Bytes, Refused}
 use Rattle.sites.specs.Slots.{sites-in, unfolded-as, after-unfold, put}
 use Rattle.sites.proofs.Places.{sites-length}
 use Rattle.sites.proofs.Unfolds.{put-front}
-use Rattle.sheet_findings.specs.Written.{digits-of}
+use Rattle.sheet_digits.specs.Digits.{digits-of}
 use Rattle.rule_words.specs.Packing.{narrow}
 use Rattle.rule_words.specs.Packing as K
 use Rattle.rule_words.specs.Stored.{kept-in, kept-at, base, run, constrained-at, equal-at, constraint-at, place-at, count-at}
 use Rattle.tell_text.specs.Written.{Room, wrote, after, follows, nothing}
 use Rattle.tell_text.specs.Decimal.{decimal}
-use Rattle.tell_text.proofs.Laws.{digits-after}
+use Rattle.sheet_digits.proofs.DigitLaws.{digits-append}
 use Rattle.tell_kept.specs.Listed.{or-over, site-text, c-line, c-lines, member-text, members, class-line, classes, head-text, total-line, kept-lines, told-text, refused-line, overlap-word, pair-line, set-line, terms-text, cyclic-line}
 
 -- ---- one text after the other
@@ -65,7 +65,7 @@ bytes-told (refused x) u k room out e g h = absurd (let z : _≡_ {A = ℕ} 0 1 
 pub int-put : (p q r s : Room) (ty high low : ℕ) → q ≡ wrote p (digits-of (3 ∷ two ty)) → r ≡ wrote q (digits-of (eight high)) → s ≡ wrote r (digits-of (eight low)) → s ≡ wrote p (digits-of (constraint-body (ConstInt ty high low)))
 unfolding constraint-body
 int-put p q r s ty high low e f g =
-    let d : digits-of ((3 ∷ two ty) ++ (eight high ++ eight low)) ≡ digits-of (3 ∷ two ty) ++ (digits-of (eight high) ++ digits-of (eight low)) = digits-after (3 ∷ two ty) (eight high ++ eight low) ∙ ap (λ z. digits-of (3 ∷ two ty) ++ z) (digits-after (eight high) (eight low)) in
+    let d : digits-of ((3 ∷ two ty) ++ (eight high ++ eight low)) ≡ digits-of (3 ∷ two ty) ++ (digits-of (eight high) ++ digits-of (eight low)) = digits-append (3 ∷ two ty) (eight high ++ eight low) ∙ ap (λ z. digits-of (3 ∷ two ty) ++ z) (digits-append (eight high) (eight low)) in
     chain3 p q r s (digits-of (3 ∷ two ty)) (digits-of (eight high)) (digits-of (eight low)) e f g ∙ ap (λ z. wrote p z) (sym d)
 
 pub constraint-put : (p q : Room) (c d : Constraint) → d ≡ c → q ≡ wrote p (digits-of (constraint-body c)) → q ≡ wrote p (digits-of (constraint-body d))

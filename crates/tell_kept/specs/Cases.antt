@@ -10,7 +10,7 @@ use Rattle.paper.specs.Sites.{argument, all-sites}
 use Rattle.paper.specs.Rules.{total}
 use Rattle.paper.specs.Layout.{digit-of}
 use Rattle.paper.specs.Text.{text, sheet}
-use Rattle.sheet_findings.specs.Written.{digits-of}
+use Rattle.sheet_digits.specs.Digits.{digits-of}
 use Rattle.tell_text.specs.Decimal.{decimal, digits}
 use Rattle.tell_kept.specs.Listed.{site-text, c-line, c-lines, member-text, members, class-line, classes, head-text, total-line, kept-lines, told-text, refused-line, set-line, terms-text, cyclic-line}
 

@@ -13,7 +13,7 @@ use Rattle.paper.specs.Sites.{Sites, constraint-body, unfold-answer}
 use Rattle.paper.specs.Loading.{Kept}
 use Rattle.paper.specs.Rules.{may-overlap, total}
 use Rattle.paper.specs.Text.{unended, text}
-use Rattle.sheet_findings.specs.Written.{digits-of}
+use Rattle.sheet_digits.specs.Digits.{digits-of}
 use Rattle.rule_words.specs.Packing.{narrow}
 use Rattle.tell_text.specs.Decimal.{decimal}
 

@@ -7,7 +7,7 @@ ghost use Rattle.paper.specs.Words.{flag};
 ghost use Rattle.paper.specs.Numbers.{told};
 ghost use Rattle.paper.specs.Sites.{constraint-body};
 ghost use Rattle.sites.specs.Slots.{sites-in};
-ghost use Rattle.sheet_findings.specs.Written.{digits-of};
+ghost use Rattle.sheet_digits.specs.Digits.{digits-of};
 ghost use Rattle.rule_words.specs.Stored.{kept-in, run, constrained-at, equal-at, constraint-at};
 ghost use Rattle.tell_text.specs.Written.{wrote};
 ghost use Rattle.tell_kept.specs.Listed.{site-text, c-line, c-lines, member-text, members, class-line, classes, head-text, total-line, kept-lines, told-text, refused-line, overlap-word, pair-line, set-line, terms-text, cyclic-line};

@@ -1,10 +1,10 @@
 use Rattle.sheet_digits.proofs.DigitLaws.{byte-put}
 use borrow.Author.Needs.{needs}
 use native.Mathlib.Omega.{arith}
-use Rattle.sheet_digits.proofs.byte.Statement.{statement}
-use Rattle.sheet_digits.proofs.byte.Tie as tie
-use Rattle.sheet_digits.proofs.byte.Reads as reads
-use Rattle.sheet_digits.proofs.byte.Lts as lts
+use Rattle.sheet_digits.proofs.write_byte.Statement.{statement}
+use Rattle.sheet_digits.proofs.write_byte.Tie as tie
+use Rattle.sheet_digits.proofs.write_byte.Reads as reads
+use Rattle.sheet_digits.proofs.write_byte.Lts as lts
 use Rattle.sheet_digits.proofs.digit.Reads as digit-reads
 use Rattle.sheet_digits.proofs.put.Reads as put-reads
 
@@ -36,8 +36,8 @@ same-length c = search needs
 returns : tie.Need-returns
 returns c = byte-put _ _ _ _ _ _ _ (c .before .before .before .before .before .before .before .before .digit .ensures) (c .before .before .before .digit2 .ensures) (c .before .before .before .before .before .before .before .put .ensures) (c .before .before .put2 .ensures)
 
-pub byte-spec : {M : Type 1} → statement M
-byte-spec =
+pub write-byte-spec : {M : Type 1} → statement M
+write-byte-spec =
     tie.close
     (tie.spec
     digit-requires
