@@ -10,11 +10,12 @@ use lib.Seq.{sets, length-sets}
 use lib.Count.{ones, ones-le}
 use lib.Dec.{eqb}
 use borrow.Author.Tests.{eq-eqb, ne-eqb}
+use Rattle.paper.specs.Numbers.{max-rules}
 use Rattle.paper.specs.Words.{if_then_else_, two, four}
 use Rattle.sheet_digits.specs.Digits.{digits-of}
 use Rattle.sheet_digits.proofs.DigitLaws.{then-sets, length-digits}
 use Rattle.report.specs.Rows.{bits, bit-at}
-use Rattle.report.specs.Lines.{Wrote, place-text, places-text, rest-text, overlap-text, mask-text, masks-in, rule-text, lists-text}
+use Rattle.report.specs.Lines.{line-room, report-room, Wrote, place-text, places-text, rest-text, overlap-text, mask-text, masks-in, rule-text, lists-text}
 
 pub wrote-none : (l : List ℕ) (at : ℕ) → Wrote l l at at []
 wrote-none l at = record { ends = omega arith; into = refl }
@@ -65,7 +66,7 @@ pub places-turn : (l v z : List ℕ) (at e f : ℕ) (ps : List ℕ) (w k : ℕ) 
 unfolding places-text
 places-turn l v z at e f ps w k a b = rw add-one (wrote-then a b)
 
-pub places-fit : (l v : List ℕ) (at e : ℕ) (ps : List ℕ) (w k : ℕ) → Wrote l v at e (places-text ps w k) → k ≤ 64 → e ≤ at + 512
+pub places-fit : (l v : List ℕ) (at e : ℕ) (ps : List ℕ) (w k : ℕ) → Wrote l v at e (places-text ps w k) → k ≤ max-rules → e ≤ at + 8 * max-rules
 places-fit l v at e ps w k a h = omega (arith, a .ends, places-short ps w k)
 
 pub places-all : (l v : List ℕ) (at e : ℕ) (ps : List ℕ) (w k n : ℕ) → k ≤ n → n ≤ k → Wrote l v at e (places-text ps w k) → Wrote l v at e (places-text ps w n)
@@ -152,7 +153,7 @@ module _ (ws all os ps ts : List ℕ) (n : ℕ) where
   unfolding rule-text
   rule-long p = simp length-append (omega (arith, overlap-long ps p (getD ts p 0) n, mask-long all (getD ps p 0) (bits (masks-in ws (getD os p 0)) n) n))
 
-  pub lists-long : n ≤ 64 → (k : ℕ) → length (lists-text ws all os ps ts n k) ≤ 1054 * k
+  pub lists-long : n ≤ max-rules → (k : ℕ) → length (lists-text ws all os ps ts n k) ≤ 2 * line-room * k
   unfolding lists-text
   lists-long h zero = omega arith
   lists-long h (suc k) = simp length-append (omega (arith, lists-long h k, rule-long k))
@@ -169,17 +170,17 @@ module _ (ws all os ps ts : List ℕ) (n : ℕ) where
   unfolding lists-text
   lists-turn k a b = rw add-one (wrote-then a b)
 
-  pub lists-fit : {l v : List ℕ} {e : ℕ} (k : ℕ) → Wrote l v 0 e (lists-text ws all os ps ts n k) → n ≤ 64 → k ≤ n → e ≤ 67456
+  pub lists-fit : {l v : List ℕ} {e : ℕ} (k : ℕ) → Wrote l v 0 e (lists-text ws all os ps ts n k) → n ≤ max-rules → k ≤ n → e ≤ report-room
   lists-fit k a h m = omega (arith, a .ends, lists-long h k)
 
   pub lists-all : {l v : List ℕ} {e : ℕ} (k : ℕ) → k ≤ n → n ≤ k → Wrote l v 0 e (lists-text ws all os ps ts n k) → Wrote l v 0 e (lists-text ws all os ps ts n n)
   lists-all k h m a = let z : k ≡ n = omega arith in rw z at a
 
-pub overlap-fit : {l v : List ℕ} {at e : ℕ} (ps : List ℕ) (p w n : ℕ) → Wrote l v at e (overlap-text ps p w n) → n ≤ 64 → e ≤ at + 527
+pub overlap-fit : {l v : List ℕ} {at e : ℕ} (ps : List ℕ) (p w n : ℕ) → Wrote l v at e (overlap-text ps p w n) → n ≤ max-rules → e ≤ at + line-room
 overlap-fit ps p w n a h = omega (arith, a .ends, overlap-long ps p w n)
 
-pub mask-fit : {l v : List ℕ} {at e : ℕ} (ps : List ℕ) (p w n : ℕ) → Wrote l v at e (mask-text ps p w n) → n ≤ 64 → e ≤ at + 527
+pub mask-fit : {l v : List ℕ} {at e : ℕ} (ps : List ℕ) (p w n : ℕ) → Wrote l v at e (mask-text ps p w n) → n ≤ max-rules → e ≤ at + line-room
 mask-fit ps p w n a h = omega (arith, a .ends, mask-long ps p w n)
 
-pub line-fit : {l v : List ℕ} {at e : ℕ} (ps : List ℕ) (w n : ℕ) → Wrote l v at e (places-text ps w n) → n ≤ 64 → e ≤ at + 512
+pub line-fit : {l v : List ℕ} {at e : ℕ} (ps : List ℕ) (w n : ℕ) → Wrote l v at e (places-text ps w n) → n ≤ max-rules → e ≤ at + 8 * max-rules
 line-fit ps w n a h = omega (arith, a .ends, places-short ps w n)

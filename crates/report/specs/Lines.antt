@@ -57,9 +57,13 @@ lists-text ws all os ps ts n (suc k) = lists-text ws all os ps ts n k ++ rule-te
 unfoldable pub report-text : List ℕ → ℕ → ℕ → List ℕ
 report-text ws n flags = joined (map (λ l. hex (listed-found l)) (report-for flags (kept-first ws n)))
 
--- room that is enough for any report (proofs/ReportLaws.antt, `room-enough`)
+-- room that is enough for any line: the kind, a count, a place and the LF, and eight digits for each rule; and for any report, since a rule
+-- begins at most two (proofs/ReportLaws.antt, `room-enough`)
+abbrev pub line-room : ℕ
+line-room = 15 + 8 * max-rules
+
 abbrev pub report-room : ℕ
-report-room = 2 * max-rules * (15 + 8 * max-rules)
+report-room = 2 * max-rules * line-room
 
 unfoldable pub reported : List ℕ → ℕ → ℕ → List ℕ → Reported
 reported ws n flags room =
