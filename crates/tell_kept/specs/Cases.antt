@@ -34,6 +34,9 @@ two-circles : cyclic-line (7 ∷ 8 ∷ []) ≡ text "cyclic 0007 0008"
 unfolding all-listed
 two-circles = refl
 
-a-kept-rule : kept-lines (argument 0 ∷ argument 1 ∷ argument 2 ∷ []) (record { place = 10; priority = 1; constraints = (0, ConstInt 3 0 5) ∷ []; equals = (1, 1) ∷ (2, 1) ∷ [] }) ≡ sheet ("rule 0000000A 0000000000000001 kept" ∷ " c 0300 03000300000000000000000000000000000005" ∷ " e 0301 0302" ∷ " total 3" ∷ [])
+a-kept-rule :
+    kept-lines (argument 0 ∷ argument 1 ∷ argument 2 ∷ [])
+    (record { place = 10; priority = 1; constraints = (0, ConstInt 3 0 5) ∷ []; equals = (1, 1) ∷ (2, 1) ∷ [] })
+    ≡ sheet ("rule 0000000A 0000000000000001 kept" ∷ " c 0300 03000300000000000000000000000000000005" ∷ " e 0301 0302" ∷ " total 3" ∷ [])
 unfolding all-listed
 a-kept-rule = refl

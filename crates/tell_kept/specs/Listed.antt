@@ -57,7 +57,9 @@ unfoldable pub total-line : ℕ → List ℕ
 total-line n = unended " total " ++ (decimal n ++ (10 ∷ []))
 
 unfoldable pub kept-lines : Sites → Kept → List ℕ
-kept-lines t k = head-text (k .place) (k .priority) ++ (text " kept" ++ (c-lines t (k .constraints) ++ (classes t (k .equals) (k .equals) ++ total-line (total k))))
+kept-lines t k =
+    head-text (k .place) (k .priority)
+    ++ (text " kept" ++ (c-lines t (k .constraints) ++ (classes t (k .equals) (k .equals) ++ total-line (total k))))
 
 -- the number and what is told with it
 unfoldable pub told-text : List ℕ → List ℕ

@@ -293,7 +293,8 @@ fn overlap_word(out: &mut [u8], at: usize, o: Overlap) -> usize
 
 // The kept rules i and j.
 pub fn put_pair(out: &mut [u8], at: usize, words: &[u64], i: u32, j: u32) -> usize
-    ensures { λ r. ⌜ (now (out .exit), r) ≡ wrote (now (out .entry), at) (pair-line (kept-in (now (words .entry)) i) (kept-in (now (words .entry)) j)) ⌝ }
+    ensures { λ r. let ws = now (words .entry) in
+        ⌜ (now (out .exit), r) ≡ wrote (now (out .entry), at) (pair-line (kept-in ws i) (kept-in ws j)) ⌝ }
 {
     let a = put_text(out, at, b"pair ");
     let b = put_four(out, a, place(words, start(i)));

@@ -12,7 +12,7 @@ use borrow.Author.Tests.{eq-eqb, ne-eqb}
 use Rattle.paper.specs.Text.{unended}
 use Rattle.tell_text.specs.Written.{Room, wrote, after, follows, nothing}
 use Rattle.tell_text.specs.Decimal.{decimal}
-use Rattle.tell_english.specs.Parts.{two-at, four-at, separator, rest, places, plural, part, filled}
+use Rattle.tell_parts.specs.Parts.{two-at, four-at, separator, rest, places, plural, part, filled}
 
 -- ---- numbers of a frame
 pub past-end : (f : List ℕ) (i : ℕ) → length f ≤ i → 0 ≡ getD f i 0

@@ -1,11 +1,11 @@
-use Rattle.tell_english.proofs.PartLaws.{place-put}
+use Rattle.tell_parts.proofs.PartLaws.{place-put}
 use borrow.Author.Needs.{needs}
-use Rattle.tell_english.proofs.put_place.Statement.{statement}
-use Rattle.tell_english.proofs.put_place.Tie as tie
-use Rattle.tell_english.proofs.put_place.Reads as reads
-use Rattle.tell_english.proofs.put_place.Lts as lts
-use Rattle.tell_english.proofs.four_at.Reads as four-at-reads
-use Rattle.tell_english.proofs.put_separator.Reads as put-separator-reads
+use Rattle.tell_parts.proofs.put_place.Statement.{statement}
+use Rattle.tell_parts.proofs.put_place.Tie as tie
+use Rattle.tell_parts.proofs.put_place.Reads as reads
+use Rattle.tell_parts.proofs.put_place.Lts as lts
+use Rattle.tell_parts.proofs.four_at.Reads as four-at-reads
+use Rattle.tell_parts.proofs.put_separator.Reads as put-separator-reads
 use Rattle.tell_text.proofs.put_decimal.Reads as put-decimal-reads
 
 -- src/lib.rt:76:9

@@ -4,13 +4,13 @@ use lib.ListN.{length, drop}
 use native.Mathlib.Omega.{arith}
 use borrow.Author.Needs.{needs}
 use Rattle.tell_text.specs.Written.{wrote}
-use Rattle.tell_english.specs.Parts.{filled}
-use Rattle.tell_english.proofs.PartLaws.{part-turn, parts-done}
-use Rattle.tell_english.proofs.fill.Statement.{statement}
-use Rattle.tell_english.proofs.fill.Tie as tie
-use Rattle.tell_english.proofs.fill.Reads as reads
-use Rattle.tell_english.proofs.fill.Lts as lts
-use Rattle.tell_english.proofs.put_part.Reads as put-part-reads
+use Rattle.tell_parts.specs.Parts.{filled}
+use Rattle.tell_parts.proofs.PartLaws.{part-turn, parts-done}
+use Rattle.tell_parts.proofs.fill.Statement.{statement}
+use Rattle.tell_parts.proofs.fill.Tie as tie
+use Rattle.tell_parts.proofs.fill.Reads as reads
+use Rattle.tell_parts.proofs.fill.Lts as lts
+use Rattle.tell_parts.proofs.put_part.Reads as put-part-reads
 
 abbrev Inv-loop : tie.InvT-loop
 Inv-loop words f out₀ at k₀ i₀ out k i = (length out ≡ length out₀) × (wrote (out, k) (filled f (drop i words)) ≡ wrote (out₀, at) (filled f words))

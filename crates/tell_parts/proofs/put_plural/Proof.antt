@@ -1,9 +1,9 @@
-use Rattle.tell_english.proofs.PartLaws.{instead, singular, many}
+use Rattle.tell_parts.proofs.PartLaws.{instead, singular, many}
 use borrow.Author.Needs.{needs}
-use Rattle.tell_english.proofs.put_plural.Statement.{statement}
-use Rattle.tell_english.proofs.put_plural.Tie as tie
-use Rattle.tell_english.proofs.put_plural.Reads as reads
-use Rattle.tell_english.proofs.put_plural.Lts as lts
+use Rattle.tell_parts.proofs.put_plural.Statement.{statement}
+use Rattle.tell_parts.proofs.put_plural.Tie as tie
+use Rattle.tell_parts.proofs.put_plural.Reads as reads
+use Rattle.tell_parts.proofs.put_plural.Lts as lts
 use Rattle.tell_text.proofs.put.Reads as put-reads
 
 -- src/lib.rt:112:9

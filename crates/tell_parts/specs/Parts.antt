@@ -1,4 +1,9 @@
--- Words with parts of a frame put in, numbers in decimal.
+-- Words with parts of a frame put in, numbers in decimal. In the words stand for a part of the frame:
+--     # the number of four bytes after the kind: a place, or a line
+--     % the first place of a list of overlaps      * the places from byte 7 on, with commas and `and`
+--     @ the number of two bytes after the kind     $ the number of two bytes after that
+--     { an s, but where @ is 1                     } an s, but where $ is 1
+--     ^ the number of a refusal                    ~ the first byte
 use mathlib.Core.Bool.{Bool, true, false}
 use mathlib.Core.List.{List, [], _∷_, _++_}
 use Prim.Native.Nat.{ℕ, zero, suc, _+_, _-_, _*_, _/_}
@@ -30,7 +35,7 @@ places f = decimal (four-at f 7) ++ rest f 11 ((length f - 11) / 4)
 unfoldable pub plural : ℕ → List ℕ
 plural n = if eqb n 1 then [] else unended "s"
 
--- what a byte of the words stands for (Words.antt has the list): # % * @ $ { } ^ ~
+-- what a byte of the words stands for: # % * @ $ { } ^ ~
 unfoldable pub part : List ℕ → ℕ → List ℕ
 part f b =
     if eqb b 35 then decimal (four-at f 1) else

@@ -1,11 +1,11 @@
 use native.Mathlib.Omega.{arith}
-use Rattle.tell_english.proofs.PartLaws.{four-is}
+use Rattle.tell_parts.proofs.PartLaws.{four-is}
 use borrow.Author.Needs.{needs}
-use Rattle.tell_english.proofs.four_at.Statement.{statement}
-use Rattle.tell_english.proofs.four_at.Tie as tie
-use Rattle.tell_english.proofs.four_at.Reads as reads
-use Rattle.tell_english.proofs.four_at.Lts as lts
-use Rattle.tell_english.proofs.two_at.Reads as two-at-reads
+use Rattle.tell_parts.proofs.four_at.Statement.{statement}
+use Rattle.tell_parts.proofs.four_at.Tie as tie
+use Rattle.tell_parts.proofs.four_at.Reads as reads
+use Rattle.tell_parts.proofs.four_at.Lts as lts
+use Rattle.tell_parts.proofs.two_at.Reads as two-at-reads
 
 -- src/lib.rt:59:5
 two-at-requires : tie.Need-two-at-requires

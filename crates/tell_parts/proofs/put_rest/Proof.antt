@@ -4,13 +4,13 @@ use lib.ListN.{length}
 use native.Mathlib.Omega.{arith}
 use borrow.Author.Needs.{needs}
 use Rattle.tell_text.specs.Written.{wrote}
-use Rattle.tell_english.specs.Parts.{rest}
-use Rattle.tell_english.proofs.PartLaws.{rest-turn, rest-done}
-use Rattle.tell_english.proofs.put_rest.Statement.{statement}
-use Rattle.tell_english.proofs.put_rest.Tie as tie
-use Rattle.tell_english.proofs.put_rest.Reads as reads
-use Rattle.tell_english.proofs.put_rest.Lts as lts
-use Rattle.tell_english.proofs.put_place.Reads as put-place-reads
+use Rattle.tell_parts.specs.Parts.{rest}
+use Rattle.tell_parts.proofs.PartLaws.{rest-turn, rest-done}
+use Rattle.tell_parts.proofs.put_rest.Statement.{statement}
+use Rattle.tell_parts.proofs.put_rest.Tie as tie
+use Rattle.tell_parts.proofs.put_rest.Reads as reads
+use Rattle.tell_parts.proofs.put_rest.Lts as lts
+use Rattle.tell_parts.proofs.put_place.Reads as put-place-reads
 
 abbrev Inv-loop : tie.InvT-loop
 Inv-loop f from count out₀ at k₀ i₀ left₀ out k i left = (length out ≡ length out₀) × (i + 4 * left ≤ length f) × (wrote (out, k) (rest f i left) ≡ wrote (out₀, at) (rest f from count))

@@ -1,10 +1,10 @@
 use mathlib.Core.Path.{refl}
-use Rattle.tell_english.proofs.PartLaws.{instead, last-separator, other-separator}
+use Rattle.tell_parts.proofs.PartLaws.{instead, last-separator, other-separator}
 use borrow.Author.Needs.{needs}
-use Rattle.tell_english.proofs.put_separator.Statement.{statement}
-use Rattle.tell_english.proofs.put_separator.Tie as tie
-use Rattle.tell_english.proofs.put_separator.Reads as reads
-use Rattle.tell_english.proofs.put_separator.Lts as lts
+use Rattle.tell_parts.proofs.put_separator.Statement.{statement}
+use Rattle.tell_parts.proofs.put_separator.Tie as tie
+use Rattle.tell_parts.proofs.put_separator.Reads as reads
+use Rattle.tell_parts.proofs.put_separator.Lts as lts
 use Rattle.tell_text.proofs.put_text.Reads as put-text-reads
 
 -- src/lib.rt:67:34

@@ -1,11 +1,11 @@
-use Rattle.tell_english.proofs.PartLaws.{one-place, more-places}
+use Rattle.tell_parts.proofs.PartLaws.{one-place, more-places}
 use borrow.Author.Needs.{needs}
-use Rattle.tell_english.proofs.put_places.Statement.{statement}
-use Rattle.tell_english.proofs.put_places.Tie as tie
-use Rattle.tell_english.proofs.put_places.Reads as reads
-use Rattle.tell_english.proofs.put_places.Lts as lts
-use Rattle.tell_english.proofs.four_at.Reads as four-at-reads
-use Rattle.tell_english.proofs.put_rest.Reads as put-rest-reads
+use Rattle.tell_parts.proofs.put_places.Statement.{statement}
+use Rattle.tell_parts.proofs.put_places.Tie as tie
+use Rattle.tell_parts.proofs.put_places.Reads as reads
+use Rattle.tell_parts.proofs.put_places.Lts as lts
+use Rattle.tell_parts.proofs.four_at.Reads as four-at-reads
+use Rattle.tell_parts.proofs.put_rest.Reads as put-rest-reads
 use Rattle.tell_text.proofs.put_decimal.Reads as put-decimal-reads
 
 -- src/lib.rt:101:34

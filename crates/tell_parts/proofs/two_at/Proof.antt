@@ -1,11 +1,11 @@
 use native.Mathlib.Omega.{arith}
-use Rattle.tell_english.proofs.PartLaws.{two-is}
+use Rattle.tell_parts.proofs.PartLaws.{two-is}
 use borrow.Author.Needs.{needs}
-use Rattle.tell_english.proofs.two_at.Statement.{statement}
-use Rattle.tell_english.proofs.two_at.Tie as tie
-use Rattle.tell_english.proofs.two_at.Reads as reads
-use Rattle.tell_english.proofs.two_at.Lts as lts
-use Rattle.tell_english.proofs.byte_at.Reads as byte-at-reads
+use Rattle.tell_parts.proofs.two_at.Statement.{statement}
+use Rattle.tell_parts.proofs.two_at.Tie as tie
+use Rattle.tell_parts.proofs.two_at.Reads as reads
+use Rattle.tell_parts.proofs.two_at.Lts as lts
+use Rattle.tell_parts.proofs.byte_at.Reads as byte-at-reads
 
 -- src/lib.rt:52:5
 byte-at-requires : tie.Need-byte-at-requires

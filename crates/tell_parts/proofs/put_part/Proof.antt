@@ -1,14 +1,14 @@
-use Rattle.tell_english.proofs.PartLaws.{instead, is-four, is-first, is-places, is-two, is-second, is-plural, is-second-plural, is-number, is-kind, is-itself}
+use Rattle.tell_parts.proofs.PartLaws.{instead, is-four, is-first, is-places, is-two, is-second, is-plural, is-second-plural, is-number, is-kind, is-itself}
 use borrow.Author.Needs.{needs}
-use Rattle.tell_english.proofs.put_part.Statement.{statement}
-use Rattle.tell_english.proofs.put_part.Tie as tie
-use Rattle.tell_english.proofs.put_part.Reads as reads
-use Rattle.tell_english.proofs.put_part.Lts as lts
-use Rattle.tell_english.proofs.byte_at.Reads as byte-at-reads
-use Rattle.tell_english.proofs.four_at.Reads as four-at-reads
-use Rattle.tell_english.proofs.put_places.Reads as put-places-reads
-use Rattle.tell_english.proofs.put_plural.Reads as put-plural-reads
-use Rattle.tell_english.proofs.two_at.Reads as two-at-reads
+use Rattle.tell_parts.proofs.put_part.Statement.{statement}
+use Rattle.tell_parts.proofs.put_part.Tie as tie
+use Rattle.tell_parts.proofs.put_part.Reads as reads
+use Rattle.tell_parts.proofs.put_part.Lts as lts
+use Rattle.tell_parts.proofs.byte_at.Reads as byte-at-reads
+use Rattle.tell_parts.proofs.four_at.Reads as four-at-reads
+use Rattle.tell_parts.proofs.put_places.Reads as put-places-reads
+use Rattle.tell_parts.proofs.put_plural.Reads as put-plural-reads
+use Rattle.tell_parts.proofs.two_at.Reads as two-at-reads
 use Rattle.tell_text.proofs.put.Reads as put-reads
 use Rattle.tell_text.proofs.put_decimal.Reads as put-decimal-reads
 
