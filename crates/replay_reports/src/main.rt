@@ -156,7 +156,7 @@ fn keep(
     if m > equal.len() {
         return s;
     }
-    if i as usize >= RULES {
+    if i >= 64 {
         return s;
     }
     if rule_words::write(
