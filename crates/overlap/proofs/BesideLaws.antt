@@ -17,10 +17,11 @@ use Rattle.paper.specs.declared.Overlap.the-variants.{Yes, Subset}
 use Rattle.paper.specs.Words.{if_then_else_, any, look}
 use Rattle.paper.specs.Sites.{same-constraint}
 use Rattle.paper.specs.Rules.{differ, other-there, no-equals, compare-with}
-use Rattle.rule_words.specs.Stored.{run, count-at, constraint-at, constrained-at, kept-at}
+use Rattle.rule_words.specs.Stored.{first-constrained, constrained-word, constrained-count, run, constraint-at, constrained-at, kept-at}
 use Rattle.overlap.specs.declared.Seen.{Seen}
 use Rattle.overlap.specs.declared.Seen.the-variants.{Told, Unclear}
 use Rattle.overlap.specs.Rising.{Rising}
+use Rattle.overlap.specs.Equals.{subset-or-yes}
 use Rattle.overlap.proofs.WalkLaws.{look-hit, look-next, look-end, Walked, walked-none, walked-missing, walked-same}
 use Rattle.overlap.proofs.AnswerLaws.{site-here, same-here, answer-part, answer-all}
 
@@ -174,15 +175,15 @@ module _ (f : ℕ → ℕ × Constraint) (n : ℕ) (g : ℕ → ℕ × Constrain
 pub record Beside (ws : List ℕ) (a n b m : ℕ) (all : Bool) (last p q : ℕ) : Type 0 where
   pub x : ℕ
   pub y : ℕ
-  pub at-p : p ≡ a + 4 + 4 * x
-  pub at-q : q ≡ b + 4 + 4 * y
+  pub at-p : p ≡ constrained-word a x
+  pub at-q : q ≡ constrained-word b y
   pub merged : Merged (constrained-at ws a) n (constrained-at ws b) m all last x y
 
-pub beside-none : (ws : List ℕ) (a n b m : ℕ) → Beside ws a n b m true 0 (a + 4) (b + 4)
+pub beside-none : (ws : List ℕ) (a n b m : ℕ) → Beside ws a n b m true 0 (a + first-constrained) (b + first-constrained)
 beside-none ws a n b m = record { x = 0; y = 0; at-p = omega arith; at-q = omega arith; merged = merged-none _ _ _ _ }
 
 module _ (ws : List ℕ) (a n b m : ℕ) (all : Bool) (last p q : ℕ) (w : Beside ws a n b m all last p q) where
-  module _ (l : p < a + 4 + 4 * n) (ahead : (q ≤ b + 4) ⊎ (last < getD ws p 0)) where
+  module _ (l : p < constrained-word a n) (ahead : (q ≤ b + first-constrained) ⊎ (last < getD ws p 0)) where
     here : getD ws p 0 ≡ constrained-at ws a (w .x) .0
     here = site-here ws a (w .x) p (w .at-p)
 
@@ -192,16 +193,16 @@ module _ (ws : List ℕ) (a n b m : ℕ) (all : Bool) (last p q : ℕ) (w : Besi
     begun : (w .y ≡ 0) ⊎ (last < getD ws p 0)
     begun = ⊎-elim (λ z. inl (omega (arith, w .at-q))) (λ z. inr z) ahead
 
-    next-p : p + 4 ≡ a + 4 + 4 * (w .x + 1)
+    next-p : p + 4 ≡ a + first-constrained + 4 * (w .x + 1)
     next-p = omega (arith, w .at-p)
 
-    next-q : q + 4 ≡ b + 4 + 4 * (w .y + 1)
+    next-q : q + 4 ≡ b + first-constrained + 4 * (w .y + 1)
     next-q = omega (arith, w .at-q)
 
-    beside-end : b + 4 + 4 * m ≤ q → Beside ws a n b m false last (p + 4) q
+    beside-end : constrained-word b m ≤ q → Beside ws a n b m false last (p + 4) q
     beside-end h = record { x = w .x + 1; y = w .y; at-p = next-p; at-q = w .at-q; merged = merged-end _ _ _ _ _ _ _ _ _ (w .merged) here less begun (omega (arith, w .at-q)) }
 
-    module _ (h : q < b + 4 + 4 * m) where
+    module _ (h : q < constrained-word b m) where
       there-q : getD ws q 0 ≡ constrained-at ws b (w .y) .0
       there-q = site-here ws b (w .y) q (w .at-q)
 
@@ -224,22 +225,22 @@ module _ (ws : List ℕ) (a n b m : ℕ) (all : Bool) (last p q : ℕ) (w : Besi
         beside-no : r ≡ false → differ (run (constrained-at ws a) 0 n) (run (constrained-at ws b) 0 m) ≡ true
         beside-no t = merged-no _ _ _ _ _ _ _ _ _ (w .merged) here less begun _ room there-q s (compared ∙ t)
 
-  module _ (h : a + 4 + 4 * n ≤ p) (c : n ≡ count-at ws (a + 2)) (d : m ≡ count-at ws (b + 2)) where
+  module _ (h : constrained-word a n ≤ p) (c : n ≡ constrained-count ws a) (d : m ≡ constrained-count ws b) where
     done : n ≤ w .x
     done = omega (arith, w .at-p)
 
     -- every site was found
-    pub beside-all : all ≡ true → (r : Overlap) → r ≡ (if no-equals (kept-at ws a .equals) && no-equals (kept-at ws b .equals) then Subset else Yes) → r ≡ compare-with (kept-at ws a) (kept-at ws b)
+    pub beside-all : all ≡ true → (r : Overlap) → r ≡ subset-or-yes (kept-at ws a) (kept-at ws b) → r ≡ compare-with (kept-at ws a) (kept-at ws b)
     beside-all t r i = answer-all ws a b n m c d all (w .x) done (w .merged .sure (λ z. never (sym z ∙ t))) t r i
 
     -- one was not, and what is left of the larger ascends
-    pub beside-part : all ≡ false → Rising ws q (b + 4 + 4 * m) last → Yes ≡ compare-with (kept-at ws a) (kept-at ws b)
+    pub beside-part : all ≡ false → Rising ws q (constrained-word b m) last → Yes ≡ compare-with (kept-at ws a) (kept-at ws b)
     beside-part t r = answer-part ws a b n m c d all (w .x) done (w .merged .sure (λ _. risen-on _ (w .y) m last (w .merged .risen) (λ k g l. rw (← site k g) (r .over (k - w .y) (omega (arith, w .at-q)))) (λ j k g e l. rw (← site j g, ← site k (omega arith)) (r .rises (j - w .y) (k - w .y) (omega arith) (omega (arith, w .at-q)))))) t
       where
         site : (k : ℕ) → w .y ≤ k → getD ws (q + 4 * (k - w .y)) 0 ≡ constrained-at ws b k .0
         site k g = site-here ws b k _ (omega (arith, w .at-q))
 
-    pub beside-ended : (s : Seen) → ((o : Overlap) → s ≡ Told o → all ≡ true → o ≡ (if no-equals (kept-at ws a .equals) && no-equals (kept-at ws b .equals) then Subset else Yes)) → ((o : Overlap) → s ≡ Told o → all ≡ false → (o ≡ Yes) × Rising ws q (b + 4 + 4 * m) last) → (o : Overlap) → s ≡ Told o → o ≡ compare-with (kept-at ws a) (kept-at ws b)
+    pub beside-ended : (s : Seen) → ((o : Overlap) → s ≡ Told o → all ≡ true → o ≡ subset-or-yes (kept-at ws a) (kept-at ws b)) → ((o : Overlap) → s ≡ Told o → all ≡ false → (o ≡ Yes) × Rising ws q (constrained-word b m) last) → (o : Overlap) → s ≡ Told o → o ≡ compare-with (kept-at ws a) (kept-at ws b)
     beside-ended s f g o e = go all refl
       where
         go : (t : Bool) → all ≡ t → o ≡ compare-with (kept-at ws a) (kept-at ws b)
@@ -249,19 +250,19 @@ module _ (ws : List ℕ) (a n b m : ℕ) (all : Bool) (last p q : ℕ) (w : Besi
 -- ---- the inner walk: the site at p is looked for from q on
 pub record Inner (ws : List ℕ) (a n b m : ℕ) (all : Bool) (last p site q : ℕ) : Type 0 where
   pub beside : Beside ws a n b m all last p q
-  pub less : p < a + 4 + 4 * n
+  pub less : p < constrained-word a n
   pub here : site ≡ getD ws p 0
-  pub ahead : (q ≤ b + 4) ⊎ (last < getD ws p 0)
+  pub ahead : (q ≤ b + first-constrained) ⊎ (last < getD ws p 0)
 
 module _ (ws : List ℕ) (a n b m : ℕ) (all : Bool) (last p q : ℕ) where
-  pub inner-start : Beside ws a n b m all last p q → p < a + 4 + 4 * n → (q ≤ b + 4) ⊎ (last < getD ws p 0) → Inner ws a n b m all last p (getD ws p 0) q
+  pub inner-start : Beside ws a n b m all last p q → p < constrained-word a n → (q ≤ b + first-constrained) ⊎ (last < getD ws p 0) → Inner ws a n b m all last p (getD ws p 0) q
   inner-start w l d = record { beside = w; less = l; here = refl; ahead = d }
 
   module _ (site : ℕ) (w : Inner ws a n b m all last p site q) where
-    pub inner-end : b + 4 + 4 * m ≤ q → Beside ws a n b m false last (p + 4) q
+    pub inner-end : constrained-word b m ≤ q → Beside ws a n b m false last (p + 4) q
     inner-end h = beside-end _ _ _ _ _ _ _ _ _ (w .beside) (w .less) (w .ahead) h
 
-    module _ (h : q < b + 4 + 4 * m) where
+    module _ (h : q < constrained-word b m) where
       pub inner-missing : site < getD ws q 0 → Beside ws a n b m false last (p + 4) q
       inner-missing s = beside-missing _ _ _ _ _ _ _ _ _ (w .beside) (w .less) (w .ahead) h (omega (arith, w .here))
 

@@ -6,8 +6,19 @@
 //   i j o                       the comparison of two rules
 //   i t                         a rule's total
 //   flags p                     the report; the next set begins
+use paper::CONSTRAINED;
+use paper::EQUALS;
 use paper::Overlap;
+use paper::RULES;
+use report::REPORT_ROOM;
 use report::Reported;
+use rule_words::STRIDE;
+use widths::word8;
+
+// The words of a set's kept rules, and of the constraints of a rule, three to a constraint.
+const KEPT_ROOM: usize = RULES * STRIDE;
+
+const SHAPES_ROOM: usize = 3 * CONSTRAINED;
 
 struct State {
     value: u64,
@@ -33,23 +44,19 @@ fn begin() -> State {
     }
 }
 
-fn wide(x: u8) -> u64 {
-    x as u64
-}
-
 // A digit's value, 16 where it is none.
 fn digit(x: u8) -> u64 {
     if x < 48 {
         return 16;
     }
     if x < 58 {
-        return wide(x - 48);
+        return word8(x - 48);
     }
     if x < 65 {
         return 16;
     }
     if x < 71 {
-        return wide(x - 55);
+        return word8(x - 55);
     }
     16
 }
@@ -112,7 +119,7 @@ fn low32(v: u64) -> u32 {
 
 fn constrained(s: State, sites: &mut [u16], shapes: &mut [u64]) -> State {
     let n = s.sites;
-    if n >= 33 {
+    if n > CONSTRAINED {
         return s;
     }
     put16(sites, n, s.a);
@@ -124,7 +131,7 @@ fn constrained(s: State, sites: &mut [u16], shapes: &mut [u64]) -> State {
 
 fn equals(s: State, equal: &mut [u16], low: &mut [u16]) -> State {
     let n = s.equal;
-    if n >= 33 {
+    if n > EQUALS {
         return s;
     }
     put16(equal, n, s.c);
@@ -268,12 +275,12 @@ fn run(
 fn main() {
     let mut text = io::large_buffer();
     let n = io::read_full(0, &mut text);
-    let mut words = [0u64; 12544];
-    let mut sites = [0u16; 32];
-    let mut shapes = [0u64; 96];
-    let mut equal = [0u16; 32];
-    let mut low = [0u16; 32];
-    let mut room = [0u8; 67456];
+    let mut words = [0u64; KEPT_ROOM];
+    let mut sites = [0u16; CONSTRAINED];
+    let mut shapes = [0u64; SHAPES_ROOM];
+    let mut equal = [0u16; EQUALS];
+    let mut low = [0u16; EQUALS];
+    let mut room = [0u8; REPORT_ROOM];
     run(
         &text[..n],
         &mut words,

@@ -14,6 +14,7 @@ use lib.Pow.{pow-lt, pow-add, pow-pos, pow-mono, high, split}
 use native.Mathlib.Nat.{mod-lt, add-mul, mul-assoc}
 use lib.Dec.{eqb, ltb, leb}
 use borrow.Author.Tests.{eq-eqb, ne-eqb, eqb-true, lt-ltb, le-ltb, ltb-true, ltb-false, le-leb, lt-leb}
+use Rattle.paper.specs.Numbers.{max-rules}
 use Rattle.paper.specs.Words.{if_then_else_, flag}
 use Rattle.paper.specs.Rules.{edge}
 use Rattle.rule_words.specs.Stored.{base, place-at, kept-in}
@@ -23,7 +24,7 @@ pub upto : {A : Type 0} (f : ℕ → A) (r : A) (k n : ℕ) → k ≤ n → n �
 upto f r k n h l e = let z : k ≡ n = omega arith in e ∙ ap f z
 
 -- ---- arrays
-pub filled-none : (f : ℕ → ℕ) → replicate 64 0 ≡ filled f 0
+pub filled-none : (f : ℕ → ℕ) → replicate max-rules 0 ≡ filled f 0
 unfolding filled
 filled-none f = refl
 
@@ -31,12 +32,12 @@ pub filled-next : (f : ℕ → ℕ) (k : ℕ) (xs : List ℕ) (v : ℕ) → xs �
 unfolding filled
 filled-next f k xs v e g = rw (add-one, e, g)
 
-pub filled-length : (f : ℕ → ℕ) (k : ℕ) → length (filled f k) ≡ 64
+pub filled-length : (f : ℕ → ℕ) (k : ℕ) → length (filled f k) ≡ max-rules
 unfolding filled
-filled-length f zero = length-replicate {A = ℕ} 64 0
+filled-length f zero = length-replicate {A = ℕ} max-rules 0
 filled-length f (suc k) = length-set (filled f k) k (f k) ∙ filled-length f k
 
-pub filled-at : (f : ℕ → ℕ) (k i : ℕ) → i < k → k ≤ 64 → getD (filled f k) i 0 ≡ f i
+pub filled-at : (f : ℕ → ℕ) (k i : ℕ) → i < k → k ≤ max-rules → getD (filled f k) i 0 ≡ f i
 unfolding filled
 filled-at f zero i h l = absurd (omega arith)
 filled-at f (suc k) i h l = go (ℕ-discrete i k) (λ m. filled-at f k i m (omega arith))
@@ -163,7 +164,7 @@ bits-odd f (suc j) p h = go (ℕ-discrete p j) (λ l. bits-odd f j p l)
         let d : flag (f j) * (2 ^ (j - p - 1) * 2) ≡ flag (f j) * 2 ^ (j - p - 1) * 2 = sym (mul-assoc (flag (f j)) (2 ^ (j - p - 1)) 2) in
         rw (bits-top f j, c, shifted (flag (f j) * (2 ^ (j - p - 1) * 2)) (bits f j) p, d) (omega (arith, g l))
 
-pub bits-at : (f : ℕ → Bool) (n p : ℕ) → p < n → n ≤ 64 → bit-at (bits f n) p ≡ f p
+pub bits-at : (f : ℕ → Bool) (n p : ℕ) → p < n → n ≤ max-rules → bit-at (bits f n) p ≡ f p
 unfolding bit-at
 bits-at f n p h l = let m : p < 64 = omega arith in rw (lt-ltb p 64 m, bits-odd f n p h) (test (f p))
   where

@@ -11,6 +11,7 @@ use lib.Bits.{bitAnd}
 use lib.Count.{ones}
 use lib.Dec.{eqb, leb}
 use borrow.Author.Tests.{eqb-true, eqb-false, eq-eqb, ne-eqb}
+use Rattle.paper.specs.Numbers.{max-rules}
 use Rattle.paper.specs.Words.{if_then_else_, keep}
 use Rattle.paper.specs.Rules.{Graph, neighbours, degree, better, busiest, without, take-places}
 use Rattle.report.specs.Rows.{bits, bit-at, degree-of, better-of, busiest-of, cleared, take-from}
@@ -98,12 +99,12 @@ mixed false y r a = refl
 pub record Held (n : ℕ) (g : Graph) (rows : List ℕ) (left : ℕ) : Type 0 where
   pub links : ℕ → ℕ → Bool
   pub stays : ℕ → Bool
-  pub long : length rows ≡ 64
+  pub long : length rows ≡ max-rules
   pub row : (p : ℕ) → p < n → getD rows p 0 ≡ bits (links p) n
   pub all : left ≡ bits stays 64
   pub is : (p q : ℕ) → p < n → q < n → g p q ≡ (links p q && stays q)
 
-module _ (n : ℕ) (g : Graph) (rows : List ℕ) (left : ℕ) (h : Held n g rows left) (few : n ≤ 64) (pos : 0 < n) where
+module _ (n : ℕ) (g : Graph) (rows : List ℕ) (left : ℕ) (h : Held n g rows left) (few : n ≤ max-rules) (pos : 0 < n) where
   near-bits : (p : ℕ) → p < n → bitAnd (getD rows p 0) left ≡ bits (g p) n
   near-bits p l =
       rw (h .row p l, h .all) (and-wide (h .links p) (h .stays) n 64 few ∙ bits-same (λ j. h .links p j && h .stays j) (g p) n (λ q m. sym (h .is p q l m)))
@@ -242,7 +243,7 @@ without-self n g b j m = without-is b g b j ∙ rw (eq-eqb b b refl)
 abbrev Gone : ℕ → ℕ → Graph → List ℕ → ℕ → List ℕ → ℕ → Type 0
 Gone k n g rows left taken i = (firsts i (take-places k n g) ≡ []) × (getD (take-from k n rows left taken) i 0 ≡ getD taken i 0)
 
-gone-turn : (k n : ℕ) (g : Graph) (rows : List ℕ) (left : ℕ) (taken : List ℕ) (i : ℕ) (h : Held n g rows left) (few : n ≤ 64) (l : i < n) (pos : 0 < n) → ((j : ℕ) → j < n → g i j ≡ false) → Turn n g rows left h few pos
+gone-turn : (k n : ℕ) (g : Graph) (rows : List ℕ) (left : ℕ) (taken : List ℕ) (i : ℕ) (h : Held n g rows left) (few : n ≤ max-rules) (l : i < n) (pos : 0 < n) → ((j : ℕ) → j < n → g i j ≡ false) → Turn n g rows left h few pos
     → (top rows left n < n → Gone k n (without (top rows left n) g) (set rows (top rows left n) 0) (cleared left (top rows left n)) (set taken (top rows left n) (word-of rows left n)) i)
     → Gone (suc k) n g rows left taken i
 gone-turn k n g rows left taken i h few l pos dead (stops z e) rec = (ap (firsts i) (places-stop k n g e) ∙ firsts-none i, ap (λ y. getD y i 0) (from-stop k n rows left taken z))
@@ -254,7 +255,7 @@ gone-turn k n g rows left taken i h few l pos dead (goes s z m ms e) rec =
       ap (λ y. getD y i 0) (from-go k n rows left taken z) ∙ (r .1 ∙ getD-set-other taken (top rows left n) i (word-of rows left n) 0 (λ q. w (sym q))),
     )
 
-pub gone : (k n : ℕ) (g : Graph) (rows : List ℕ) (left : ℕ) (taken : List ℕ) (i : ℕ) → Held n g rows left → n ≤ 64 → i < n → ((j : ℕ) → j < n → g i j ≡ false) → (firsts i (take-places k n g) ≡ []) × (getD (take-from k n rows left taken) i 0 ≡ getD taken i 0)
+pub gone : (k n : ℕ) (g : Graph) (rows : List ℕ) (left : ℕ) (taken : List ℕ) (i : ℕ) → Held n g rows left → n ≤ max-rules → i < n → ((j : ℕ) → j < n → g i j ≡ false) → (firsts i (take-places k n g) ≡ []) × (getD (take-from k n rows left taken) i 0 ≡ getD taken i 0)
 gone zero n g rows left taken i h few l dead = (ap (firsts i) (places-none n g) ∙ firsts-none i, ap (λ z. getD z i 0) (from-none n rows left taken))
 gone (suc k) n g rows left taken i h few l dead =
     let pos : 0 < n = omega arith in
@@ -298,7 +299,7 @@ live-passed k n g rows left taken i m ms w z eb e (once f v x u) =
     let y = ap (λ y. getD y i 0) (from-go k n rows left taken z) in
     once f (y ∙ v) (λ q. x (sym y ∙ q)) (passed k n g (top rows left n) i m ms w eb e ∙ u)
 
-live-turn : (k n : ℕ) (g : Graph) (rows : List ℕ) (left : ℕ) (taken : List ℕ) (i : ℕ) (h : Held n g rows left) (few : n ≤ 64) (l : i < n) (pos : 0 < n) → length taken ≡ 64 → getD taken i 0 ≡ 0 → Turn n g rows left h few pos → Dec (top rows left n ≡ i)
+live-turn : (k n : ℕ) (g : Graph) (rows : List ℕ) (left : ℕ) (taken : List ℕ) (i : ℕ) (h : Held n g rows left) (few : n ≤ max-rules) (l : i < n) (pos : 0 < n) → length taken ≡ max-rules → getD taken i 0 ≡ 0 → Turn n g rows left h few pos → Dec (top rows left n ≡ i)
     → (top rows left n < n → (top rows left n ≡ i → ⊥) → Taken n i (getD (next k n rows left taken) i 0) (firsts i (take-places k n (without (top rows left n) g))))
     → Live (suc k) n g rows left taken i
 live-turn k n g rows left taken i h few l pos t e (stops z f) d rec = live-stop k n g rows left taken i e z f
@@ -308,7 +309,7 @@ live-turn k n g rows left taken i h few l pos t e (goes s z m ms f) (yes q) rec 
 live-turn k n g rows left taken i h few l pos t e (goes s z m ms f) (no q) rec =
     live-passed k n g rows left taken i m ms q z (busiest-same n g rows left h few pos n (omega arith)) f (rec s q)
 
-pub live : (k n : ℕ) (g : Graph) (rows : List ℕ) (left : ℕ) (taken : List ℕ) (i : ℕ) → Held n g rows left → n ≤ 64 → i < n → length taken ≡ 64 → getD taken i 0 ≡ 0 → Taken n i (getD (take-from k n rows left taken) i 0) (firsts i (take-places k n g))
+pub live : (k n : ℕ) (g : Graph) (rows : List ℕ) (left : ℕ) (taken : List ℕ) (i : ℕ) → Held n g rows left → n ≤ max-rules → i < n → length taken ≡ max-rules → getD taken i 0 ≡ 0 → Taken n i (getD (take-from k n rows left taken) i 0) (firsts i (take-places k n g))
 live zero n g rows left taken i h few l t e = never (ap (λ z. getD z i 0) (from-none n rows left taken) ∙ e) (ap (firsts i) (places-none n g) ∙ firsts-none i)
 live (suc k) n g rows left taken i h few l t e =
     let pos : 0 < n = omega arith in

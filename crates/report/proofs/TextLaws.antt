@@ -11,6 +11,7 @@ use lib.Seq.{getD-take, length-take-le}
 use lib.Count.{ones}
 use lib.Dec.{eqb, ltb}
 use borrow.Author.Tests.{eq-eqb, ne-eqb, lt-ltb, le-ltb}
+use Rattle.paper.specs.Numbers.{max-rules}
 use Rattle.paper.specs.Words.{if_then_else_, keep, below, joined, sort-by, two, four}
 use Rattle.paper.specs.Layout.{hex}
 use Rattle.paper.specs.Sheets.{listed-found}
@@ -18,7 +19,7 @@ use Rattle.paper.specs.Loading.{Kept}
 use Rattle.paper.specs.Rules.{Listed, overlap, mask, Graph, edge, masks, linked, by-place, take-places, overlap-lists, masked-by, mask-lists, listed-from, report-of, no-rule}
 use Rattle.rule_words.specs.Stored.{run, base, place-at, kept-at, kept-in, kept-first}
 use Rattle.rule_words.proofs.StoreLaws.{run-same}
-use Rattle.sheet_digits.specs.Digits.{digits}
+use Rattle.sheet_digits.specs.Digits.{digits-of}
 use Rattle.sheet_digits.proofs.DigitLaws.{digits-append, hex-digits}
 use Rattle.report.specs.Rows.{bits, bit-at, filled, place-in, named, earlier, lower-word, either, row-word, take-from}
 use Rattle.report.specs.Lines.{place-text, places-text, rest-text, overlap-text, mask-text, masks-in, rule-text, lists-text}
@@ -34,8 +35,8 @@ keep-nothing : {A : Type 0} (t : A → Bool) → keep t [] ≡ []
 unfolding keep
 keep-nothing t = refl
 
-digits-none : digits [] ≡ []
-unfolding digits
+digits-none : digits-of [] ≡ []
+unfolding digits-of
 digits-none = refl
 
 places-start : (ps : List ℕ) (w : ℕ) → places-text ps w 0 ≡ []
@@ -46,32 +47,32 @@ places-more : (ps : List ℕ) (w k : ℕ) → places-text ps w (suc k) ≡ place
 unfolding places-text
 places-more ps w k = refl
 
-digits-cons : (b : ℕ) (s : List ℕ) → digits (b ∷ s) ≡ digits (b ∷ []) ++ digits s
+digits-cons : (b : ℕ) (s : List ℕ) → digits-of (b ∷ s) ≡ digits-of (b ∷ []) ++ digits-of s
 digits-cons b s = digits-append (b ∷ []) s
 
 -- a frame's digits, piece by piece
-overlap-line : (p : ℕ) (ns : List ℕ) → digits (listed-found (overlap p ns)) ++ (10 ∷ []) ≡ digits (18 ∷ []) ++ (digits (two (length ns + 1)) ++ (digits (four p) ++ (digits (joined (map four ns)) ++ (10 ∷ []))))
+overlap-line : (p : ℕ) (ns : List ℕ) → digits-of (listed-found (overlap p ns)) ++ (10 ∷ []) ≡ digits-of (18 ∷ []) ++ (digits-of (two (length ns + 1)) ++ (digits-of (four p) ++ (digits-of (joined (map four ns)) ++ (10 ∷ []))))
 unfolding listed-found
 overlap-line p ns =
     rw (digits-cons 18 (two (suc (length ns)) ++ joined (four p ∷ map four ns)), digits-append (two (suc (length ns))) (joined (four p ∷ map four ns)), joined-cons (four p) (map four ns), digits-append (four p) (joined (map four ns)), add-one (length ns))
     (simp append-assoc)
 
-mask-line : (p : ℕ) (ns : List ℕ) → digits (listed-found (mask p ns)) ++ (10 ∷ []) ≡ digits (19 ∷ []) ++ (digits (four p) ++ (digits (two (length ns)) ++ (digits (joined (map four ns)) ++ (10 ∷ []))))
+mask-line : (p : ℕ) (ns : List ℕ) → digits-of (listed-found (mask p ns)) ++ (10 ∷ []) ≡ digits-of (19 ∷ []) ++ (digits-of (four p) ++ (digits-of (two (length ns)) ++ (digits-of (joined (map four ns)) ++ (10 ∷ []))))
 unfolding listed-found
 mask-line p ns =
     rw (digits-cons 19 (four p ++ (two (length ns) ++ joined (map four ns))), digits-append (four p) (two (length ns) ++ joined (map four ns)), digits-append (two (length ns)) (joined (map four ns)))
     (simp append-assoc)
 
 -- ---- the places of a word's bits
-module _ (names : List ℕ) (P : ℕ → ℕ) (f : ℕ → Bool) (n : ℕ) (few : n ≤ 64) (same : (q : ℕ) → q < n → getD names q 0 ≡ P q) where
+module _ (names : List ℕ) (P : ℕ → ℕ) (f : ℕ → Bool) (n : ℕ) (few : n ≤ max-rules) (same : (q : ℕ) → q < n → getD names q 0 ≡ P q) where
   abbrev Named : ℕ → List ℕ
-  Named k = digits (joined (map four (map P (keep f (numbers k)))))
+  Named k = digits-of (joined (map four (map P (keep f (numbers k)))))
 
-  place-is : (k : ℕ) → k < n → place-text names (bits f n) k ≡ digits (joined (map four (map P (keep f (k ∷ [])))))
+  place-is : (k : ℕ) → k < n → place-text names (bits f n) k ≡ digits-of (joined (map four (map P (keep f (k ∷ [])))))
   unfolding place-text
   place-is k h = rw (bits-at f n k h few, same k h) (go (f k) refl)
     where
-      go : (t : Bool) → f k ≡ t → (if t then digits (four (P k)) else []) ≡ digits (joined (map four (map P (keep f (k ∷ [])))))
+      go : (t : Bool) → f k ≡ t → (if t then digits-of (four (P k)) else []) ≡ digits-of (joined (map four (map P (keep f (k ∷ [])))))
       go true e = rw (keep-yes f k [] e, keep-nothing f, joined-one (four (P k)))
       go false e = rw (keep-no f k [] e, keep-nothing f, joined-none {A = ℕ}) (sym digits-none)
 
@@ -86,7 +87,7 @@ module _ (names : List ℕ) (P : ℕ → ℕ) (f : ℕ → Bool) (n : ℕ) (few 
   abbrev pub Members : List ℕ
   Members = map P (keep f (numbers n))
 
-  rest-is : rest-text names (bits f n) n ≡ digits (joined (map four (map P (keep f (numbers n))))) ++ (10 ∷ [])
+  rest-is : rest-text names (bits f n) n ≡ digits-of (joined (map four (map P (keep f (numbers n))))) ++ (10 ∷ [])
   unfolding rest-text
   rest-is = rw (places-are n (omega arith))
 
@@ -149,12 +150,12 @@ module _ (ws : List ℕ) (n : ℕ) (os : List ℕ) (long : n ≤ length os) (sor
   places-at p h =
       List·getD-map (λ (k : Kept). k .place) (by-place (kept-first ws n)) p no-rule ∙ (ap (λ (k : Kept). k .place) (sorted-at p h) ∙ place-kept ws (getD os p 0))
 
-  named-at : n ≤ 64 → (p : ℕ) → p < n → getD (filled (named ws os) n) p 0 ≡ getD (map (λ k. k .place) (by-place (kept-first ws n))) p 0
+  named-at : n ≤ max-rules → (p : ℕ) → p < n → getD (filled (named ws os) n) p 0 ≡ getD (map (λ k. k .place) (by-place (kept-first ws n))) p 0
   unfolding named
   named-at few p h = filled-at (named ws os) n p h few ∙ sym (places-at p h)
 
   -- ---- their edges
-  module _ (few : n ≤ 64) where
+  module _ (few : n ≤ max-rules) where
     abbrev low : List ℕ
     low = filled (lower-word ws os) n
 
@@ -222,7 +223,7 @@ overlap-empty ps p w n e = rw (eq-eqb w 0 e)
 abbrev pub text : List Listed → List ℕ
 text ls = joined (map line ls)
 
-mask-all : (all : List ℕ) (P : ℕ → ℕ) (f : ℕ → Bool) (n p : ℕ) → n ≤ 64 → ((q : ℕ) → q < n → getD all q 0 ≡ P q) → mask-text all p (bits f n) n ≡ text (mask-lists p (map P (keep f (numbers n))))
+mask-all : (all : List ℕ) (P : ℕ → ℕ) (f : ℕ → Bool) (n p : ℕ) → n ≤ max-rules → ((q : ℕ) → q < n → getD all q 0 ≡ P q) → mask-text all p (bits f n) n ≡ text (mask-lists p (map P (keep f (numbers n))))
 mask-all all P f n p few same = go (ℕ-discrete (bits f n) 0)
   where
     counted : length (map P (keep f (numbers n))) ≡ tally f n
@@ -241,7 +242,7 @@ lists-are : (ps : List ℕ) (taken : Lists) (i : ℕ) → overlap-lists ps taken
 unfolding overlap-lists
 lists-are ps taken i = refl
 
-overlap-all : (names ps : List ℕ) (taken : Lists) (n p w : ℕ) → n ≤ 64 → p < n → ((q : ℕ) → q < n → getD names q 0 ≡ getD ps q 0) → Taken n p w (firsts p taken) → overlap-text names p w n ≡ text (overlap-lists ps taken p)
+overlap-all : (names ps : List ℕ) (taken : Lists) (n p w : ℕ) → n ≤ max-rules → p < n → ((q : ℕ) → q < n → getD names q 0 ≡ getD ps q 0) → Taken n p w (firsts p taken) → overlap-text names p w n ≡ text (overlap-lists ps taken p)
 overlap-all names ps taken n p w few h same (never z e) =
     overlap-empty names p w n z ∙ sym (ap text (lists-are ps taken p ∙ ap (map (λ (l : ℕ × List ℕ). overlap (getD ps (l .0) 0) (map (λ j. getD ps j 0) (l .1)))) e) ∙ joined-none)
 overlap-all names ps taken n p w few h same (once f v z e) =
@@ -290,7 +291,7 @@ report-is : (ks : List Kept) → report-of ks ≡ listed-from (by-place ks) ks
 unfolding report-of
 report-is ks = refl
 
-module _ (ws : List ℕ) (n : ℕ) (os : List ℕ) (long : n ≤ length os) (sorted : take n os ≡ sort-by (place-in ws) (run (λ j. j) 0 n)) (few : n ≤ 64) where
+module _ (ws : List ℕ) (n : ℕ) (os : List ℕ) (long : n ≤ length os) (sorted : take n os ≡ sort-by (place-in ws) (run (λ j. j) 0 n)) (few : n ≤ max-rules) where
   abbrev Rules : List Kept
   Rules = by-place (kept-first ws n)
 
@@ -301,7 +302,7 @@ module _ (ws : List ℕ) (n : ℕ) (os : List ℕ) (long : n ≤ length os) (sor
   Rows = filled (row-word (filled (lower-word ws os) n) n) n
 
   abbrev Words : List ℕ
-  Words = take-from n n (filled (row-word (filled (lower-word ws os) n) n) n) 18446744073709551615 (replicate 64 0)
+  Words = take-from n n (filled (row-word (filled (lower-word ws os) n) n) n) 18446744073709551615 (replicate max-rules 0)
 
   abbrev All : List ℕ
   All = filled (place-in ws) n
@@ -318,12 +319,12 @@ module _ (ws : List ℕ) (n : ℕ) (os : List ℕ) (long : n ≤ length os) (sor
   rule-at : (p : ℕ) → p < n → rule-text ws (filled (place-in ws) n) os (filled (named ws os) n) Words n p ≡ text (At p)
   rule-at p h =
       let l : p < 64 = omega arith in
-      let t = live n n (linked (by-place (kept-first ws n))) Rows 18446744073709551615 (replicate 64 0) p (rows-held ws n os long sorted few) few h (length-replicate {A = ℕ} 64 0) (getD-replicate {A = ℕ} 64 p 0 0 l) in
+      let t = live n n (linked (by-place (kept-first ws n))) Rows 18446744073709551615 (replicate max-rules 0) p (rows-held ws n os long sorted few) few h (length-replicate {A = ℕ} max-rules 0) (getD-replicate {A = ℕ} 64 p 0 0 l) in
       rule-is ws All os Names Words n p
       ∙ (rw (overlap-all Names (map (λ k. k .place) (by-place (kept-first ws n))) (take-places n n (linked (by-place (kept-first ws n)))) n p (getD Words p 0) few h (named-at ws n os long sorted few) t, mask-at p h)
       (sym (text-append (overlap-lists (map (λ k. k .place) (by-place (kept-first ws n))) (take-places n n (linked (by-place (kept-first ws n)))) p) (mask-lists (getD (map (λ k. k .place) (by-place (kept-first ws n))) p 0) (masked-by (kept-first ws n) (getD (by-place (kept-first ws n)) p no-rule))))))
 
-  pub lists-report : lists-text ws (filled (place-in ws) n) os (filled (named ws os) n) (take-from n n (filled (row-word (filled (lower-word ws os) n) n) n) 18446744073709551615 (replicate 64 0)) n n ≡ text (report-of (kept-first ws n))
+  pub lists-report : lists-text ws (filled (place-in ws) n) os (filled (named ws os) n) (take-from n n (filled (row-word (filled (lower-word ws os) n) n) n) 18446744073709551615 (replicate max-rules 0)) n n ≡ text (report-of (kept-first ws n))
   lists-report =
       lists-are-text ws All os Names Words n At rule-at n (omega arith)
       ∙ ap text (with-is n (by-place (kept-first ws n)) (kept-first ws n) ∙ (ap (λ z. listed-with z (by-place (kept-first ws n)) (kept-first ws n)) (sym (sorted-length ws n os long sorted)) ∙ (sym (listed-is (by-place (kept-first ws n)) (kept-first ws n)) ∙ sym (report-is (kept-first ws n)))))

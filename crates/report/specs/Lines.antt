@@ -13,7 +13,7 @@ use Rattle.paper.specs.Layout.{hex}
 use Rattle.paper.specs.Sheets.{listed-found}
 use Rattle.paper.specs.Rules.{masks, report-for}
 use Rattle.rule_words.specs.Stored.{kept-in, kept-first}
-use Rattle.sheet_digits.specs.Digits.{digits}
+use Rattle.sheet_digits.specs.Digits.{digits-of}
 use Rattle.report.specs.declared.Reported.{Reported}
 use Rattle.report.specs.declared.Reported.the-variants.{Done, TooManyRules, NoRoom}
 use Rattle.report.specs.Rows.{bits, bit-at}
@@ -25,7 +25,7 @@ pub record Wrote (old new : List ℕ) (at end : ℕ) (text : List ℕ) : Type 0 
 
 -- the place k where its bit of w is there; and the first n
 unfoldable pub place-text : List ℕ → ℕ → ℕ → List ℕ
-place-text ps w k = if bit-at w k then digits (four (getD ps k 0)) else []
+place-text ps w k = if bit-at w k then digits-of (four (getD ps k 0)) else []
 
 unfoldable pub places-text : List ℕ → ℕ → ℕ → List ℕ
 places-text ps w zero = []
@@ -37,10 +37,10 @@ rest-text ps w n = places-text ps w n ++ (10 ∷ [])
 
 unfoldable pub overlap-text : List ℕ → ℕ → ℕ → ℕ → List ℕ
 overlap-text ps p w n =
-    if eqb w 0 then [] else digits (18 ∷ []) ++ (digits (two (ones w + 1)) ++ (digits (four (getD ps p 0)) ++ rest-text ps w n))
+    if eqb w 0 then [] else digits-of (18 ∷ []) ++ (digits-of (two (ones w + 1)) ++ (digits-of (four (getD ps p 0)) ++ rest-text ps w n))
 
 unfoldable pub mask-text : List ℕ → ℕ → ℕ → ℕ → List ℕ
-mask-text ps p w n = if eqb w 0 then [] else digits (19 ∷ []) ++ (digits (four p) ++ (digits (two (ones w)) ++ rest-text ps w n))
+mask-text ps p w n = if eqb w 0 then [] else digits-of (19 ∷ []) ++ (digits-of (four p) ++ (digits-of (two (ones w)) ++ rest-text ps w n))
 
 unfoldable pub masks-in : List ℕ → ℕ → ℕ → Bool
 masks-in ws i j = masks (kept-in ws i) (kept-in ws j)
@@ -57,9 +57,13 @@ lists-text ws all os ps ts n (suc k) = lists-text ws all os ps ts n k ++ rule-te
 unfoldable pub report-text : List ℕ → ℕ → ℕ → List ℕ
 report-text ws n flags = joined (map (λ l. hex (listed-found l)) (report-for flags (kept-first ws n)))
 
--- room that is enough for any report (proofs/ReportLaws.antt, `room-enough`)
+-- room that is enough for any line: the kind, a count, a place and the LF, and eight digits for each rule; and for any report, since a rule
+-- begins at most two (proofs/ReportLaws.antt, `room-enough`)
+abbrev pub line-room : ℕ
+line-room = 15 + 8 * max-rules
+
 abbrev pub report-room : ℕ
-report-room = 2 * max-rules * (15 + 8 * max-rules)
+report-room = 2 * max-rules * line-room
 
 unfoldable pub reported : List ℕ → ℕ → ℕ → List ℕ → Reported
 reported ws n flags room =

@@ -6,6 +6,7 @@ use lib.ListN.{getD, set, replicate}
 use lib.Bits.{bitAnd}
 use lib.Count.{ones}
 use lib.Dec.{eqb, ltb, leb}
+use Rattle.paper.specs.Numbers.{max-rules}
 use Rattle.paper.specs.Words.{if_then_else_}
 use Rattle.paper.specs.Rules.{edge}
 use Rattle.rule_words.specs.Stored.{base, place-at, kept-in}
@@ -18,9 +19,9 @@ bits f (suc j) = bits f j + (if f j then 2 ^ j else 0)
 unfoldable pub bit-at : ℕ → ℕ → Bool
 bit-at w j = ltb j 64 && eqb (w / 2 ^ j % 2) 1
 
--- f 0 .. f (n - 1) in an array of 64, zeros after
+-- f 0 .. f (n - 1) in an array of max-rules, zeros after
 unfoldable pub filled : (ℕ → ℕ) → ℕ → List ℕ
-filled f zero = replicate 64 0
+filled f zero = replicate max-rules 0
 filled f (suc k) = set (filled f k) k (f k)
 
 unfoldable pub place-in : List ℕ → ℕ → ℕ

@@ -7,13 +7,13 @@ use lib.ListN.{getD}
 use Rattle.paper.specs.Rules.{rank}
 use Rattle.rule_words.specs.Stored.{count-at}
 
-pub count-less : (ws : List ℕ) (at w : ℕ) → w ≡ getD ws at 0 → w < 32 → (w ≡ count-at ws at) × (w ≤ 32)
+pub count-less : (ws : List ℕ) (at most w : ℕ) → w ≡ getD ws at 0 → w < most → (w ≡ count-at ws at most) × (w ≤ most)
 unfolding count-at
-count-less ws at w e h = (omega arith, omega arith)
+count-less ws at most w e h = (omega arith, omega arith)
 
-pub count-more : (ws : List ℕ) (at w : ℕ) → w ≡ getD ws at 0 → 32 ≤ w → (32 ≡ count-at ws at) × (32 ≤ 32)
+pub count-more : (ws : List ℕ) (at most w : ℕ) → w ≡ getD ws at 0 → most ≤ w → (most ≡ count-at ws at most) × (most ≤ most)
 unfolding count-at
-count-more ws at w e h = (omega arith, omega arith)
+count-more ws at most w e h = (omega arith, omega arith)
 
 -- stored and read back
 pub rank-rank : (p : ℕ) → p < 18446744073709551616 → rank (rank p) ≡ p

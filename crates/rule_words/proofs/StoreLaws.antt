@@ -12,10 +12,11 @@ use lib.Dec.{leb}
 use borrow.Author.Tests.{le-leb, lt-leb, leb-true}
 use Rattle.paper.specs.declared.Constraint.{Constraint}
 use Rattle.paper.specs.Words.{if_then_else_}
+use Rattle.paper.specs.Numbers.{max-constrained, max-equal}
 use Rattle.paper.specs.Loading.{Kept}
 use Rattle.paper.specs.Rules.{rank}
 use Rattle.rule_words.specs.Packing.{unpack}
-use Rattle.rule_words.specs.Stored.{run, base, place-at, count-at, constraint-at, constrained-at, equal-at, kept-at, kept-in, put-two, put-four, put-constrained, put-equal, put-rule, fits-in, written, handed}
+use Rattle.rule_words.specs.Stored.{first-constrained, first-equal, stride, constrained-word, equal-word, run, base, place-at, rank-at, count-at, constrained-count, equal-count, constraint-at, constrained-at, equal-at, kept-at, kept-in, put-two, put-four, put-constrained, put-equal, put-rule, fits-in, written, handed}
 use Rattle.rule_words.proofs.CountLaws.{rank-rank}
 
 -- ---- four words, two words
@@ -94,22 +95,22 @@ module _ (ws : List ℕ) (b : ℕ) (ss sh : List ℕ) where
   constrained-length zero = refl
   constrained-length (suc k) = four-length _ _ _ _ _ _ ∙ constrained-length k
 
-  constrained-out : (k q : ℕ) → Out q (b + 4) (4 * k) → getD (put-constrained ws b ss sh k) q 0 ≡ getD ws q 0
+  constrained-out : (k q : ℕ) → Out q (b + first-constrained) (4 * k) → getD (put-constrained ws b ss sh k) q 0 ≡ getD ws q 0
   unfolding put-constrained
   constrained-out zero q o = refl
   constrained-out (suc k) q (under h) = four-out _ _ _ _ _ _ q (under (omega arith)) ∙ constrained-out k q (under h)
   constrained-out (suc k) q (over h) = four-out _ _ _ _ _ _ q (over (omega arith)) ∙ constrained-out k q (over (omega arith))
 
   abbrev Site : List ℕ → ℕ → Type 0
-  Site xs j = Four xs (b + 4 + 4 * j) (getD ss j 0) (getD sh (3 * j) 0) (getD sh (3 * j + 1) 0) (getD sh (3 * j + 2) 0)
+  Site xs j = Four xs (constrained-word b j) (getD ss j 0) (getD sh (3 * j) 0) (getD sh (3 * j + 1) 0) (getD sh (3 * j + 2) 0)
 
-  constrained-there : (k j : ℕ) → j < k → b + 4 + 4 * k ≤ length ws → Site (put-constrained ws b ss sh k) j
+  constrained-there : (k j : ℕ) → j < k → constrained-word b k ≤ length ws → Site (put-constrained ws b ss sh k) j
   unfolding put-constrained
   constrained-there zero j h l = absurd (omega arith)
   constrained-there (suc k) j h l = go (ℕ-discrete j k) (λ i. constrained-there k j i (omega arith))
     where
       go : Dec (j ≡ k) → (j < k → Site (put-constrained ws b ss sh k) j) → Site (put-constrained ws b ss sh (suc k)) j
-      go (yes e) f = rw e (four-there (put-constrained ws b ss sh k) (b + 4 + 4 * k) _ _ _ _ (omega (arith, constrained-length k)))
+      go (yes e) f = rw e (four-there (put-constrained ws b ss sh k) (constrained-word b k) _ _ _ _ (omega (arith, constrained-length k)))
       go (no n) f =
           let i = f (omega arith) in
           record {
@@ -125,22 +126,22 @@ module _ (ws : List ℕ) (b : ℕ) (es lo : List ℕ) where
   equal-length zero = refl
   equal-length (suc k) = two-length _ _ _ _ ∙ equal-length k
 
-  equal-out : (k q : ℕ) → Out q (b + 132) (2 * k) → getD (put-equal ws b es lo k) q 0 ≡ getD ws q 0
+  equal-out : (k q : ℕ) → Out q (b + first-equal) (2 * k) → getD (put-equal ws b es lo k) q 0 ≡ getD ws q 0
   unfolding put-equal
   equal-out zero q o = refl
   equal-out (suc k) q (under h) = two-out _ _ _ _ q (under (omega arith)) ∙ equal-out k q (under h)
   equal-out (suc k) q (over h) = two-out _ _ _ _ q (over (omega arith)) ∙ equal-out k q (over (omega arith))
 
   abbrev Member : List ℕ → ℕ → Type 0
-  Member xs j = Two xs (b + 132 + 2 * j) (getD es j 0) (getD lo j 0)
+  Member xs j = Two xs (equal-word b j) (getD es j 0) (getD lo j 0)
 
-  equal-there : (k j : ℕ) → j < k → b + 132 + 2 * k ≤ length ws → Member (put-equal ws b es lo k) j
+  equal-there : (k j : ℕ) → j < k → equal-word b k ≤ length ws → Member (put-equal ws b es lo k) j
   unfolding put-equal
   equal-there zero j h l = absurd (omega arith)
   equal-there (suc k) j h l = go (ℕ-discrete j k) (λ i. equal-there k j i (omega arith))
     where
       go : Dec (j ≡ k) → (j < k → Member (put-equal ws b es lo k) j) → Member (put-equal ws b es lo (suc k)) j
-      go (yes e) f = rw e (two-there (put-equal ws b es lo k) (b + 132 + 2 * k) _ _ (omega (arith, equal-length k)))
+      go (yes e) f = rw e (two-there (put-equal ws b es lo k) (equal-word b k) _ _ (omega (arith, equal-length k)))
       go (no n) f =
           let i = f (omega arith) in
           record { one = two-out _ _ _ _ _ (under (omega arith)) ∙ i .one; two = two-out _ _ _ _ _ (under (omega arith)) ∙ i .two }
@@ -154,38 +155,43 @@ run-same f g x (suc n) h =
     let b : run f (suc x) n ≡ run g (suc x) n = run-same f g (suc x) n (λ j l m. h j (omega arith) (omega arith)) in
     rw (a, b)
 
-count-few : (ws : List ℕ) (at : ℕ) → count-at ws at ≤ 32
+count-few : (ws : List ℕ) (at most : ℕ) → count-at ws at most ≤ most
 unfolding count-at
-count-few ws at = omega arith
+count-few ws at most = omega arith
 
-module _ (v w : List ℕ) (b : ℕ) (h : (q : ℕ) → b ≤ q → q < b + 196 → getD v q 0 ≡ getD w q 0) where
-  counts-same : (at : ℕ) → b ≤ at → at < b + 196 → count-at v at ≡ count-at w at
+module _ (v w : List ℕ) (b : ℕ) (h : (q : ℕ) → b ≤ q → q < b + stride → getD v q 0 ≡ getD w q 0) where
+  counts-same : (at most : ℕ) → b ≤ at → at < b + stride → count-at v at most ≡ count-at w at most
   unfolding count-at
-  counts-same at l m = rw (h at l m)
+  counts-same at most l m = rw (h at l m)
 
   places-same : place-at v b ≡ place-at w b
   unfolding place-at
   places-same = rw (h b (omega arith) (omega arith))
 
-  sites-same : (j : ℕ) → j < 32 → constrained-at v b j ≡ constrained-at w b j
+  sites-same : (j : ℕ) → j < max-constrained → constrained-at v b j ≡ constrained-at w b j
   unfolding constrained-at constraint-at
   sites-same j l =
-      rw (h (b + 4 + 4 * j) (omega arith) (omega arith), h (b + 5 + 4 * j) (omega arith) (omega arith), h (b + 5 + 4 * j + 1) (omega arith) (omega arith), h (b + 5 + 4 * j + 2) (omega arith) (omega arith))
+      rw (
+        h (constrained-word b j) (omega arith) (omega arith),
+        h (constrained-word b j + 1) (omega arith) (omega arith),
+        h (constrained-word b j + 1 + 1) (omega arith) (omega arith),
+        h (constrained-word b j + 1 + 2) (omega arith) (omega arith),
+      )
 
-  members-same : (j : ℕ) → j < 32 → equal-at v b j ≡ equal-at w b j
+  members-same : (j : ℕ) → j < max-equal → equal-at v b j ≡ equal-at w b j
   unfolding equal-at
-  members-same j l = rw (h (b + 132 + 2 * j) (omega arith) (omega arith), h (b + 132 + 1 + 2 * j) (omega arith) (omega arith))
+  members-same j l = rw (h (equal-word b j) (omega arith) (omega arith), h (equal-word b j + 1) (omega arith) (omega arith))
 
   pub kept-same : kept-at v b ≡ kept-at w b
   unfolding kept-at
   kept-same =
-      let r : rank (getD v (b + 1) 0) ≡ rank (getD w (b + 1) 0) = ap rank (h (b + 1) (omega arith) (omega arith)) in
-      let s : run (constrained-at v b) 0 (count-at v (b + 2)) ≡ run (constrained-at w b) 0 (count-at w (b + 2)) =
-      ap (run (constrained-at v b) 0) (counts-same (b + 2) (omega arith) (omega arith))
-      ∙ run-same _ _ 0 (count-at w (b + 2)) (λ j l m. sites-same j (omega (arith, count-few w (b + 2)))) in
-      let t : run (equal-at v b) 0 (count-at v (b + 3)) ≡ run (equal-at w b) 0 (count-at w (b + 3)) =
-      ap (run (equal-at v b) 0) (counts-same (b + 3) (omega arith) (omega arith))
-      ∙ run-same _ _ 0 (count-at w (b + 3)) (λ j l m. members-same j (omega (arith, count-few w (b + 3)))) in
+      let r : rank (rank-at v b) ≡ rank (rank-at w b) = ap rank (h (b + 1) (omega arith) (omega arith)) in
+      let s : run (constrained-at v b) 0 (constrained-count v b) ≡ run (constrained-at w b) 0 (constrained-count w b) =
+      ap (run (constrained-at v b) 0) (counts-same (b + 2) max-constrained (omega arith) (omega arith))
+      ∙ run-same _ _ 0 (constrained-count w b) (λ j l m. sites-same j (omega (arith, count-few w (b + 2) max-constrained))) in
+      let t : run (equal-at v b) 0 (equal-count v b) ≡ run (equal-at w b) 0 (equal-count w b) =
+      ap (run (equal-at v b) 0) (counts-same (b + 3) max-equal (omega arith) (omega arith))
+      ∙ run-same _ _ 0 (equal-count w b) (λ j l m. members-same j (omega (arith, count-few w (b + 3) max-equal))) in
       rw (places-same, r, s, t)
 
 -- ---- a rule that is written
@@ -200,50 +206,49 @@ module _ (ws : List ℕ) (b p q : ℕ) (ss sh es lo : List ℕ) where
   unfolding put-rule
   rule-length = equal-length sited b es lo (length es) ∙ (constrained-length headed b ss sh (length ss) ∙ four-length ws b p (rank q) (length ss) (length es))
 
-  module _ (fc : length ss ≤ 32) (fe : length es ≤ 32) where
+  module _ (fc : length ss ≤ max-constrained) (fe : length es ≤ max-equal) where
     -- no word outside of the stride is touched
-    rule-out : (r : ℕ) → Out r b 196 → getD (put-rule ws b p q ss sh es lo) r 0 ≡ getD ws r 0
+    rule-out : (r : ℕ) → Out r b stride → getD (put-rule ws b p q ss sh es lo) r 0 ≡ getD ws r 0
     unfolding put-rule
     rule-out r (under h) = equal-out sited b es lo (length es) r (under (omega arith)) ∙ (constrained-out headed b ss sh (length ss) r (under (omega arith)) ∙ four-out ws b p (rank q) (length ss) (length es) r (under h))
     rule-out r (over h) = equal-out sited b es lo (length es) r (over (omega arith)) ∙ (constrained-out headed b ss sh (length ss) r (over (omega arith)) ∙ four-out ws b p (rank q) (length ss) (length es) r (over (omega arith)))
 
-    module _ (l : b + 196 ≤ length ws) where
+    module _ (l : b + stride ≤ length ws) where
       rule-head : Four (put-rule ws b p q ss sh es lo) b p (rank q) (length ss) (length es)
       unfolding put-rule
       rule-head =
           let i = four-there ws b p (rank q) (length ss) (length es) (omega arith) in
           record { one = back b (omega arith) ∙ i .one; two = back (b + 1) (omega arith) ∙ i .two; three = back (b + 2) (omega arith) ∙ i .three; four = back (b + 3) (omega arith) ∙ i .four }
         where
-          back : (r : ℕ) → r < b + 4 → getD (put-equal sited b es lo (length es)) r 0 ≡ getD headed r 0
+          back : (r : ℕ) → r < b + first-constrained → getD (put-equal sited b es lo (length es)) r 0 ≡ getD headed r 0
           back r h = equal-out sited b es lo (length es) r (under (omega arith)) ∙ constrained-out headed b ss sh (length ss) r (under h)
 
       rule-site : (j : ℕ) → j < length ss → constrained-at (put-rule ws b p q ss sh es lo) b j ≡ (getD ss j 0, unpack (getD sh (3 * j) 0) (getD sh (3 * j + 1) 0) (getD sh (3 * j + 2) 0))
       unfolding put-rule constrained-at constraint-at
       rule-site j h =
           let i = constrained-there headed b ss sh (length ss) j h (omega (arith, four-length ws b p (rank q) (length ss) (length es))) in
-          let z1 : b + 5 + 4 * j ≡ b + 4 + 4 * j + 1 = omega arith in
-          let z2 : b + 5 + 4 * j + 1 ≡ b + 4 + 4 * j + 2 = omega arith in
-          let z3 : b + 5 + 4 * j + 2 ≡ b + 4 + 4 * j + 3 = omega arith in
+          let at = constrained-word b j in
+          let z2 : at + 1 + 1 ≡ at + 2 = omega arith in
+          let z3 : at + 1 + 2 ≡ at + 3 = omega arith in
           rw (
-            back (b + 4 + 4 * j) (omega arith) ∙ i .one,
-            back (b + 5 + 4 * j) (omega arith) ∙ (ap (λ x. getD sited x 0) z1 ∙ i .two),
-            back (b + 5 + 4 * j + 1) (omega arith) ∙ (ap (λ x. getD sited x 0) z2 ∙ i .three),
-            back (b + 5 + 4 * j + 2) (omega arith) ∙ (ap (λ x. getD sited x 0) z3 ∙ i .four),
+            back at (omega arith) ∙ i .one,
+            back (at + 1) (omega arith) ∙ i .two,
+            back (at + 1 + 1) (omega arith) ∙ (ap (λ x. getD sited x 0) z2 ∙ i .three),
+            back (at + 1 + 2) (omega arith) ∙ (ap (λ x. getD sited x 0) z3 ∙ i .four),
           )
         where
-          back : (r : ℕ) → r < b + 132 → getD (put-equal sited b es lo (length es)) r 0 ≡ getD sited r 0
+          back : (r : ℕ) → r < b + first-equal → getD (put-equal sited b es lo (length es)) r 0 ≡ getD sited r 0
           back r h = equal-out sited b es lo (length es) r (under h)
 
       rule-member : (j : ℕ) → j < length es → equal-at (put-rule ws b p q ss sh es lo) b j ≡ (getD es j 0, getD lo j 0)
       unfolding put-rule equal-at
       rule-member j h =
           let i = equal-there sited b es lo (length es) j h (omega (arith, constrained-length headed b ss sh (length ss), four-length ws b p (rank q) (length ss) (length es))) in
-          let z : b + 132 + 1 + 2 * j ≡ b + 132 + 2 * j + 1 = omega arith in
-          rw (i .one, ap (λ x. getD (put-equal sited b es lo (length es)) x 0) z ∙ i .two)
+          rw (i .one, i .two)
 
-      counted : (v : List ℕ) (at n : ℕ) → getD v at 0 ≡ n → n ≤ 32 → count-at v at ≡ n
+      counted : (v : List ℕ) (at most n : ℕ) → getD v at 0 ≡ n → n ≤ most → count-at v at most ≡ n
       unfolding count-at
-      counted v at n e h = omega arith
+      counted v at most n e h = omega arith
 
       -- what is written is what is read
       pub rule-kept : p < 4294967296 → q < 18446744073709551616 → kept-at (put-rule ws b p q ss sh es lo) b ≡ handed p q ss sh es lo
@@ -252,11 +257,11 @@ module _ (ws : List ℕ) (b p q : ℕ) (ss sh es lo : List ℕ) where
           let v : List ℕ = put-rule ws b p q ss sh es lo in
           let i = rule-head in
           let a : getD v b 0 % 4294967296 ≡ p = omega (arith, i .one) in
-          let c : rank (getD v (b + 1) 0) ≡ q = ap rank (i .two) ∙ rank-rank q hq in
-          let d : run (constrained-at v b) 0 (count-at v (b + 2)) ≡ run (λ j. (getD ss j 0, unpack (getD sh (3 * j) 0) (getD sh (3 * j + 1) 0) (getD sh (3 * j + 2) 0))) 0 (length ss) =
-          ap (run (constrained-at v b) 0) (counted v (b + 2) (length ss) (i .three) fc) ∙ run-same _ _ 0 (length ss) (λ j x y. rule-site j (omega arith)) in
-          let e : run (equal-at v b) 0 (count-at v (b + 3)) ≡ run (λ j. (getD es j 0, getD lo j 0)) 0 (length es) =
-          ap (run (equal-at v b) 0) (counted v (b + 3) (length es) (i .four) fe) ∙ run-same _ _ 0 (length es) (λ j x y. rule-member j (omega arith)) in
+          let c : rank (rank-at v b) ≡ q = ap rank (i .two) ∙ rank-rank q hq in
+          let d : run (constrained-at v b) 0 (constrained-count v b) ≡ run (λ j. (getD ss j 0, unpack (getD sh (3 * j) 0) (getD sh (3 * j + 1) 0) (getD sh (3 * j + 2) 0))) 0 (length ss) =
+          ap (run (constrained-at v b) 0) (counted v (b + 2) max-constrained (length ss) (i .three) fc) ∙ run-same _ _ 0 (length ss) (λ j x y. rule-site j (omega arith)) in
+          let e : run (equal-at v b) 0 (equal-count v b) ≡ run (λ j. (getD es j 0, getD lo j 0)) 0 (length es) =
+          ap (run (equal-at v b) 0) (counted v (b + 3) max-equal (length es) (i .four) fe) ∙ run-same _ _ 0 (length es) (λ j x y. rule-member j (omega arith)) in
           rw (a, c, d, e)
 
 -- ---- the whole of `written`
@@ -264,15 +269,15 @@ both : (s t : Bool) → (s && t) ≡ true → (s ≡ true) × (t ≡ true)
 both true t e = (refl, e)
 both false t e = let z : _≡_ {A = ℕ} 0 1 = cc in absurd (omega arith)
 
-apart : (i j q : ℕ) → (i ≡ j → ⊥) → base j ≤ q → q < base j + 196 → Out q (base i) 196
+apart : (i j q : ℕ) → (i ≡ j → ⊥) → base j ≤ q → q < base j + stride → Out q (base i) stride
 unfolding base
 apart i j q n h k = go (decLt i j)
   where
-    go : Dec (i < j) → Out q (196 * i) 196
+    go : Dec (i < j) → Out q (stride * i) stride
     go (yes l) = over (omega arith)
     go (no l) = let m : j < i = omega arith in under (omega arith)
 
-outside-as : (ws : List ℕ) (i p q : ℕ) (ss sh es lo : List ℕ) (r : ℕ) → Out r (base i) 196 → (t : Bool) → fits-in ws i ss es ≡ t → getD (written ws i p q ss sh es lo) r 0 ≡ getD ws r 0
+outside-as : (ws : List ℕ) (i p q : ℕ) (ss sh es lo : List ℕ) (r : ℕ) → Out r (base i) stride → (t : Bool) → fits-in ws i ss es ≡ t → getD (written ws i p q ss sh es lo) r 0 ≡ getD ws r 0
 unfolding written fits-in
 outside-as ws i p q ss sh es lo r o true e =
     let a = both _ _ e in

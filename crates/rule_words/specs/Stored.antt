@@ -13,12 +13,22 @@ use Rattle.paper.specs.Loading.{Kept}
 use Rattle.paper.specs.Rules.{rank}
 use Rattle.rule_words.specs.Packing.{unpack}
 
--- where the equal sites begin in a stride, and its length
+-- where the constrained sites and the equal sites begin in a stride, and its length
+abbrev pub first-constrained : ℕ
+first-constrained = 4
+
 abbrev pub first-equal : ℕ
-first-equal = 4 + 4 * max-constrained
+first-equal = first-constrained + 4 * max-constrained
 
 abbrev pub stride : ℕ
-stride = 4 + 4 * max-constrained + 2 * max-equal
+stride = first-equal + 2 * max-equal
+
+-- where the words of a constrained site, and of an equal site, of the rule at b start
+abbrev pub constrained-word : ℕ → ℕ → ℕ
+constrained-word b k = b + first-constrained + 4 * k
+
+abbrev pub equal-word : ℕ → ℕ → ℕ
+equal-word b k = b + first-equal + 2 * k
 
 -- f i, f (i + 1) .. , k of them
 unfoldable pub run : {A : Type 0} → (ℕ → A) → ℕ → ℕ → List A
@@ -33,21 +43,36 @@ base i = stride * i
 unfoldable pub place-at : List ℕ → ℕ → ℕ
 place-at ws b = getD ws b 0 % 4294967296
 
-unfoldable pub count-at : List ℕ → ℕ → ℕ
-count-at ws at = min (getD ws at 0) 32
+-- the rank of its priority
+abbrev pub rank-at : List ℕ → ℕ → ℕ
+rank-at ws b = getD ws (b + 1) 0
+
+unfoldable pub count-at : List ℕ → ℕ → ℕ → ℕ
+count-at ws at most = min (getD ws at 0) most
+
+abbrev pub constrained-count : List ℕ → ℕ → ℕ
+constrained-count ws b = count-at ws (b + 2) max-constrained
+
+abbrev pub equal-count : List ℕ → ℕ → ℕ
+equal-count ws b = count-at ws (b + 3) max-equal
 
 unfoldable pub constraint-at : List ℕ → ℕ → Constraint
 constraint-at ws p = unpack (getD ws p 0) (getD ws (p + 1) 0) (getD ws (p + 2) 0)
 
 unfoldable pub constrained-at : List ℕ → ℕ → ℕ → ℕ × Constraint
-constrained-at ws b k = (getD ws (b + 4 + 4 * k) 0, constraint-at ws (b + 5 + 4 * k))
+constrained-at ws b k = (getD ws (constrained-word b k) 0, constraint-at ws (constrained-word b k + 1))
 
 unfoldable pub equal-at : List ℕ → ℕ → ℕ → ℕ × ℕ
-equal-at ws b k = (getD ws (b + first-equal + 2 * k) 0, getD ws (b + first-equal + 1 + 2 * k) 0)
+equal-at ws b k = (getD ws (equal-word b k) 0, getD ws (equal-word b k + 1) 0)
 
 -- the kept rule whose words start at b
 unfoldable pub kept-at : List ℕ → ℕ → Kept
-kept-at ws b = record { place = place-at ws b; priority = rank (getD ws (b + 1) 0); constraints = run (constrained-at ws b) 0 (count-at ws (b + 2)); equals = run (equal-at ws b) 0 (count-at ws (b + 3)) }
+kept-at ws b = record {
+  place = place-at ws b;
+  priority = rank (rank-at ws b);
+  constraints = run (constrained-at ws b) 0 (constrained-count ws b);
+  equals = run (equal-at ws b) 0 (equal-count ws b);
+}
 
 unfoldable pub kept-in : List ℕ → ℕ → Kept
 kept-in ws i = kept-at ws (base i)
@@ -68,12 +93,12 @@ put-two ws p a b = set (set ws p a) (p + 1) b
 unfoldable pub put-constrained : List ℕ → ℕ → List ℕ → List ℕ → ℕ → List ℕ
 put-constrained ws b ss sh zero = ws
 put-constrained ws b ss sh (suc k) =
-    put-four (put-constrained ws b ss sh k) (b + 4 + 4 * k) (getD ss k 0) (getD sh (3 * k) 0) (getD sh (3 * k + 1) 0) (getD sh (3 * k + 2) 0)
+    put-four (put-constrained ws b ss sh k) (constrained-word b k) (getD ss k 0) (getD sh (3 * k) 0) (getD sh (3 * k + 1) 0) (getD sh (3 * k + 2) 0)
 
 -- the first k of the sites es, each with the lowest member of its class
 unfoldable pub put-equal : List ℕ → ℕ → List ℕ → List ℕ → ℕ → List ℕ
 put-equal ws b es lo zero = ws
-put-equal ws b es lo (suc k) = put-two (put-equal ws b es lo k) (b + first-equal + 2 * k) (getD es k 0) (getD lo k 0)
+put-equal ws b es lo (suc k) = put-two (put-equal ws b es lo k) (equal-word b k) (getD es k 0) (getD lo k 0)
 
 unfoldable pub put-rule : List ℕ → ℕ → ℕ → ℕ → List ℕ → List ℕ → List ℕ → List ℕ → List ℕ
 put-rule ws b p q ss sh es lo =

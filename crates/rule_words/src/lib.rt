@@ -3,34 +3,41 @@ ghost use mathlib.Core.Path.{_≡_};
 ghost use Prim.Native.Nat.{ℕ, _+_, _*_, _≤_, _<_};
 ghost use lib.ListN.{length, getD, set};
 ghost use Rattle.paper.specs.declared.Constraint.the-variants.{Variant};
+ghost use Rattle.paper.specs.Numbers.{max-constrained, max-equal};
 ghost use Rattle.paper.specs.Rules.{rank};
 ghost use Rattle.rule_words.specs.Packing.{head, second, third, unpack, narrow};
-ghost use Rattle.rule_words.specs.Stored.{count-at, place-at, base, put-two, put-four, put-constrained, put-equal, fits-in, written};
+ghost use Rattle.rule_words.specs.Stored.{constrained-word, equal-word, count-at, constrained-count, equal-count, rank-at, place-at, constrained-at, equal-at, base, put-two, put-four, put-constrained, put-equal, fits-in, written};
 use paper::CONSTRAINED;
 use paper::Constraint;
 use paper::EQUALS;
+use widths::size64;
+use widths::word8;
+use widths::word16;
 
-// Words a kept rule takes: place, priority, two counts, then four for each constrained site and two for each equal site.
-pub const STRIDE: usize = 4 + 4 * CONSTRAINED + 2 * EQUALS;
+// The words of a kept rule, from its first on: place, rank of the priority, how many constrained and how many equal sites; then the constrained sites,
+// then the equal sites.
+const RANK: usize = 1;
 
-const FIRST_EQUAL: usize = 4 + 4 * CONSTRAINED;
+const CONSTRAINED_COUNT: usize = 2;
+
+const EQUAL_COUNT: usize = 3;
+
+pub const FIRST_CONSTRAINED: usize = 4;
+
+pub const FIRST_EQUAL: usize = FIRST_CONSTRAINED + SITE_WORDS * CONSTRAINED;
+
+pub const STRIDE: usize = FIRST_EQUAL + EQUAL_WORDS * EQUALS;
+
+// A constrained site: the site, and the three words of its constraint.
+pub const SITE_WORDS: usize = 4;
+
+// An equal site, and the lowest member of its class.
+const EQUAL_WORDS: usize = 2;
 
 pub struct Packed {
     pub head: u64,
     pub second: u64,
     pub third: u64,
-}
-
-fn wide(x: u16) -> u64
-    ensures { λ r. ⌜ r ≡ x ⌝ }
-{
-    x as u64
-}
-
-fn wide8(x: u8) -> u64
-    ensures { λ r. ⌜ r ≡ x ⌝ }
-{
-    x as u64
 }
 
 // A constraint's words, in their order.
@@ -55,16 +62,16 @@ pub fn pack(c: Constraint) -> Packed
             ty,
             variant,
             fields,
-        } => three_words(wide(ty), wide(variant), wide8(fields)),
-        Constraint::Struct { ty, fields } => three_words(65536 + wide(ty), wide8(fields), 0),
+        } => three_words(word16(ty), word16(variant), word8(fields)),
+        Constraint::Struct { ty, fields } => three_words(65536 + word16(ty), word8(fields), 0),
         Constraint::ConstBool { ty, val } => {
             if val {
-                return three_words(131072 + wide(ty), 1, 0);
+                return three_words(131072 + word16(ty), 1, 0);
             }
-            three_words(131072 + wide(ty), 0, 0)
+            three_words(131072 + word16(ty), 0, 0)
         }
-        Constraint::ConstInt { ty, high, low } => three_words(196608 + wide(ty), high, low),
-        Constraint::ConstPrim { val } => three_words(262144 + wide(val), 0, 0),
+        Constraint::ConstInt { ty, high, low } => three_words(196608 + word16(ty), high, low),
+        Constraint::ConstPrim { val } => three_words(262144 + word16(val), 0, 0),
         Constraint::Some => three_words(327680, 0, 0),
     }
 }
@@ -135,15 +142,91 @@ pub fn word(words: &[u64], k: usize) -> u64
     0
 }
 
-pub fn count(words: &[u64], at: usize) -> usize
-    ensures { λ r. ⌜ r ≡ count-at (now (words .entry)) at ⌝ }
-    ensures { λ r. ⌜ r ≤ 32 ⌝ }
+// A count above its limit is the limit.
+fn count(words: &[u64], at: usize, most: usize) -> usize
+    ensures { λ r. ⌜ r ≡ count-at (now (words .entry)) at most ⌝ }
+    ensures { λ r. ⌜ r ≤ most ⌝ }
 {
-    let n = word(words, at);
-    if n < 32 {
-        return n as usize;
+    let n = size64(word(words, at));
+    if n < most {
+        return n;
     }
-    32
+    most
+}
+
+// How many constrained sites the rule at b has.
+pub fn constrained(words: &[u64], b: usize) -> usize
+    requires { ⌜ b + 1000000 < 18446744073709551616 ⌝ }
+    ensures { λ r. ⌜ r ≡ constrained-count (now (words .entry)) b ⌝ }
+    ensures { λ r. ⌜ r ≤ max-constrained ⌝ }
+{
+    count(words, b + CONSTRAINED_COUNT, CONSTRAINED)
+}
+
+// How many equal sites the rule at b has.
+pub fn equals(words: &[u64], b: usize) -> usize
+    requires { ⌜ b + 1000000 < 18446744073709551616 ⌝ }
+    ensures { λ r. ⌜ r ≡ equal-count (now (words .entry)) b ⌝ }
+    ensures { λ r. ⌜ r ≤ max-equal ⌝ }
+{
+    count(words, b + EQUAL_COUNT, EQUALS)
+}
+
+// The priority of the rule at b, as an unsigned number that keeps the order.
+pub fn rank(words: &[u64], b: usize) -> u64
+    requires { ⌜ b + 1000000 < 18446744073709551616 ⌝ }
+    ensures { λ r. ⌜ r ≡ rank-at (now (words .entry)) b ⌝ }
+{
+    word(words, b + RANK)
+}
+
+// Where the words of the constrained site k of the rule at b start.
+pub fn constrained_start(b: usize, k: usize) -> usize
+    requires { ⌜ (b + 1000000 < 18446744073709551616) × (k ≤ max-constrained) ⌝ }
+    ensures { λ r. ⌜ (r ≡ constrained-word b k) × (r + 1000 < 18446744073709551616) ⌝ }
+{
+    b + FIRST_CONSTRAINED + SITE_WORDS * k
+}
+
+// Where the words of the equal site k of the rule at b start.
+fn equal_start(b: usize, k: usize) -> usize
+    requires { ⌜ (b + 1000000 < 18446744073709551616) × (k ≤ max-equal) ⌝ }
+    ensures { λ r. ⌜ (r ≡ equal-word b k) × (r + 1000 < 18446744073709551616) ⌝ }
+{
+    b + FIRST_EQUAL + EQUAL_WORDS * k
+}
+
+// The constrained site k of the rule at b.
+pub fn site_at(words: &[u64], b: usize, k: usize) -> u64
+    requires { ⌜ (b + 1000000 < 18446744073709551616) × (k ≤ max-constrained) ⌝ }
+    ensures { λ r. ⌜ r ≡ constrained-at (now (words .entry)) b k .0 ⌝ }
+{
+    word(words, constrained_start(b, k))
+}
+
+// Its constraint.
+pub fn constraint_at(words: &[u64], b: usize, k: usize) -> Constraint
+    requires { ⌜ (b + 1000000 < 18446744073709551616) × (k ≤ max-constrained) ⌝ }
+    ensures { λ r. ⌜ r ≡ narrow (constrained-at (now (words .entry)) b k .1) ⌝ }
+{
+    let p = constrained_start(b, k);
+    unpack(word(words, p + 1), word(words, p + 2), word(words, p + 3))
+}
+
+// The equal site k of the rule at b.
+pub fn equal_at(words: &[u64], b: usize, k: usize) -> u64
+    requires { ⌜ (b + 1000000 < 18446744073709551616) × (k ≤ max-equal) ⌝ }
+    ensures { λ r. ⌜ r ≡ equal-at (now (words .entry)) b k .0 ⌝ }
+{
+    word(words, equal_start(b, k))
+}
+
+// The lowest member of its class.
+pub fn lowest_at(words: &[u64], b: usize, k: usize) -> u64
+    requires { ⌜ (b + 1000000 < 18446744073709551616) × (k ≤ max-equal) ⌝ }
+    ensures { λ r. ⌜ r ≡ equal-at (now (words .entry)) b k .1 ⌝ }
+{
+    word(words, equal_start(b, k) + 1)
 }
 
 // Where the words of rule i start.
@@ -203,14 +286,14 @@ fn site(sites: &[u16], k: usize) -> u64
     ensures { λ r. ⌜ r ≡ getD (now (sites .entry)) k 0 ⌝ }
 {
     if k < sites.len() {
-        return wide(sites[k]);
+        return word16(sites[k]);
     }
     0
 }
 
 // The constrained sites of the rule at b, each with the three words of its constraint.
 fn put_constrained(words: &mut [u64], b: usize, sites: &[u16], shapes: &[u64], n: usize)
-    requires { ⌜ (b + 1000000 < 18446744073709551616) × (n ≤ 32) ⌝ }
+    requires { ⌜ (b + 1000000 < 18446744073709551616) × (n ≤ max-constrained) ⌝ }
     ensures { λ _. ⌜ now (words .exit) ≡ put-constrained (now (words .entry)) b (now (sites .entry)) (now (shapes .entry)) n ⌝ }
 {
     let mut k: usize = 0;
@@ -219,21 +302,21 @@ fn put_constrained(words: &mut [u64], b: usize, sites: &[u16], shapes: &[u64], n
         let one = word(shapes, 3 * k);
         let two = word(shapes, 3 * k + 1);
         let three = word(shapes, 3 * k + 2);
-        put_four(words, b + 4 + 4 * k, s, one, two, three);
+        put_four(words, constrained_start(b, k), s, one, two, three);
         k += 1;
     }
 }
 
 // The equal sites of the rule at b, each with the lowest member of its class.
 fn put_equal(words: &mut [u64], b: usize, equal: &[u16], low: &[u16], n: usize)
-    requires { ⌜ (b + 1000000 < 18446744073709551616) × (n ≤ 32) ⌝ }
+    requires { ⌜ (b + 1000000 < 18446744073709551616) × (n ≤ max-equal) ⌝ }
     ensures { λ _. ⌜ now (words .exit) ≡ put-equal (now (words .entry)) b (now (equal .entry)) (now (low .entry)) n ⌝ }
 {
     let mut k: usize = 0;
     while k < n {
         let s = site(equal, k);
         let l = site(low, k);
-        put_two(words, b + FIRST_EQUAL + 2 * k, s, l);
+        put_two(words, equal_start(b, k), s, l);
         k += 1;
     }
 }
@@ -251,7 +334,8 @@ pub fn write(
     low: &[u16],
 ) -> bool
     ensures { λ r. ⌜ r ≡ fits-in (now (words .entry)) i (now (sites .entry)) (now (equal .entry)) ⌝ }
-    ensures { λ _. ⌜ now (words .exit) ≡ written (now (words .entry)) i place priority (now (sites .entry)) (now (shapes .entry)) (now (equal .entry)) (now (low .entry)) ⌝ }
+    ensures { λ _. let ss = now (sites .entry) in let es = now (equal .entry) in
+        ⌜ now (words .exit) ≡ written (now (words .entry)) i place priority ss (now (shapes .entry)) es (now (low .entry)) ⌝ }
 {
     let n = sites.len();
     let m = equal.len();

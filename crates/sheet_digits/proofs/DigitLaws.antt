@@ -9,20 +9,20 @@ use lib.Seq.{sets}
 use borrow.Author.Tests.{lt-ltb, le-ltb}
 use Rattle.paper.specs.Words.{two, four}
 use Rattle.paper.specs.Layout.{digit-of, hex}
-use Rattle.sheet_digits.specs.Digits.{digits}
+use Rattle.sheet_digits.specs.Digits.{digits-of}
 
-pub digits-append : (s t : List ℕ) → digits (s ++ t) ≡ digits s ++ digits t
-unfolding digits
+pub digits-append : (s t : List ℕ) → digits-of (s ++ t) ≡ digits-of s ++ digits-of t
+unfolding digits-of
 digits-append [] t = refl
 digits-append (b ∷ s) t = rw (digits-append s t)
 
-pub hex-digits : (s : List ℕ) → hex s ≡ digits s ++ (10 ∷ [])
-unfolding digits hex
+pub hex-digits : (s : List ℕ) → hex s ≡ digits-of s ++ (10 ∷ [])
+unfolding digits-of hex
 hex-digits [] = refl
 hex-digits (b ∷ s) = rw (hex-digits s)
 
-pub length-digits : (s : List ℕ) → length (digits s) ≡ 2 * length s
-unfolding digits
+pub length-digits : (s : List ℕ) → length (digits-of s) ≡ 2 * length s
+unfolding digits-of
 length-digits [] = refl
 length-digits (b ∷ s) = omega (arith, length-digits s)
 
@@ -42,17 +42,17 @@ pub digit-high : (v : ℕ) → 10 ≤ v → v + 55 ≡ digit-of v
 unfolding digit-of
 digit-high v h = rw (le-ltb v 10 h)
 
-pub byte-put : (l v w : List ℕ) (i b x y : ℕ) → x ≡ digit-of (b / 16) → y ≡ digit-of (b % 16) → v ≡ set l i x → w ≡ set v (i + 1) y → w ≡ sets l i (digits (b ∷ []))
-unfolding digits
+pub byte-put : (l v w : List ℕ) (i b x y : ℕ) → x ≡ digit-of (b / 16) → y ≡ digit-of (b % 16) → v ≡ set l i x → w ≡ set v (i + 1) y → w ≡ sets l i (digits-of (b ∷ []))
+unfolding digits-of
 byte-put l v w i b x y e f g h = h ∙ rw (g, e, f, add-one)
 
-pub two-put : (l v w : List ℕ) (i n : ℕ) → v ≡ sets l i (digits (n / 256 ∷ [])) → w ≡ sets v (i + 2) (digits (n % 256 ∷ [])) → w ≡ sets l i (digits (two n))
-unfolding two digits
-two-put l v w i n e f = then-sets l v w i (i + 2) (digits (n / 256 ∷ [])) (digits (n % 256 ∷ [])) e refl f
+pub two-put : (l v w : List ℕ) (i n : ℕ) → v ≡ sets l i (digits-of (n / 256 ∷ [])) → w ≡ sets v (i + 2) (digits-of (n % 256 ∷ [])) → w ≡ sets l i (digits-of (two n))
+unfolding two digits-of
+two-put l v w i n e f = then-sets l v w i (i + 2) (digits-of (n / 256 ∷ [])) (digits-of (n % 256 ∷ [])) e refl f
 
-pub four-put : (l v w x y : List ℕ) (i n : ℕ) → v ≡ sets l i (digits (n / 256 / 256 / 256 ∷ [])) → w ≡ sets v (i + 2) (digits (n / 256 / 256 % 256 ∷ [])) → x ≡ sets w (i + 4) (digits (n / 256 % 256 ∷ [])) → y ≡ sets x (i + 6) (digits (n % 256 ∷ [])) → y ≡ sets l i (digits (four n))
-unfolding four digits
+pub four-put : (l v w x y : List ℕ) (i n : ℕ) → v ≡ sets l i (digits-of (n / 256 / 256 / 256 ∷ [])) → w ≡ sets v (i + 2) (digits-of (n / 256 / 256 % 256 ∷ [])) → x ≡ sets w (i + 4) (digits-of (n / 256 % 256 ∷ [])) → y ≡ sets x (i + 6) (digits-of (n % 256 ∷ [])) → y ≡ sets l i (digits-of (four n))
+unfolding four digits-of
 four-put l v w x y i n e f g h =
-    let a = then-sets l v w i (i + 2) (digits (n / 256 / 256 / 256 ∷ [])) (digits (n / 256 / 256 % 256 ∷ [])) e refl f in
-    let b = then-sets l w x i (i + 4) (digits (n / 256 / 256 / 256 ∷ n / 256 / 256 % 256 ∷ [])) (digits (n / 256 % 256 ∷ [])) a refl g in
-    then-sets l x y i (i + 6) (digits (n / 256 / 256 / 256 ∷ n / 256 / 256 % 256 ∷ n / 256 % 256 ∷ [])) (digits (n % 256 ∷ [])) b refl h
+    let a = then-sets l v w i (i + 2) (digits-of (n / 256 / 256 / 256 ∷ [])) (digits-of (n / 256 / 256 % 256 ∷ [])) e refl f in
+    let b = then-sets l w x i (i + 4) (digits-of (n / 256 / 256 / 256 ∷ n / 256 / 256 % 256 ∷ [])) (digits-of (n / 256 % 256 ∷ [])) a refl g in
+    then-sets l x y i (i + 6) (digits-of (n / 256 / 256 / 256 ∷ n / 256 / 256 % 256 ∷ n / 256 % 256 ∷ [])) (digits-of (n % 256 ∷ [])) b refl h

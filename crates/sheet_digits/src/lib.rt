@@ -1,14 +1,16 @@
-// A finding's bytes as digits of a line, written into lent room. Past the end of the room nothing is stored.
+// Bytes as upper-case hexadecimal digits, written into lent room: every line of findings and every text stands on these. Past the end of the room
+// nothing is stored.
 ghost use mathlib.Core.Path.{_≡_};
 ghost use mathlib.Core.List.{List, [], _∷_};
-ghost use Prim.Native.Nat.{ℕ, _<_};
+ghost use Prim.Native.Nat.{ℕ, _+_, _<_};
 ghost use lib.ListN.{set};
 ghost use lib.Seq.{sets};
 ghost use Rattle.paper.specs.Words.{two, four};
 ghost use Rattle.paper.specs.Layout.{digit-of};
-ghost use Rattle.sheet_digits.specs.Digits.{digits};
+ghost use Rattle.sheet_digits.specs.Digits.{digits-of};
 
-fn digit(v: u8) -> u8
+// A digit.
+pub fn digit(v: u8) -> u8
     requires { ⌜ v < 16 ⌝ }
     ensures { λ r. ⌜ r ≡ digit-of v ⌝ }
 {
@@ -27,38 +29,38 @@ fn put(room: &mut [u8], at: usize, v: u8)
 }
 
 // A byte, two digits.
-fn byte(room: &mut [u8], p: usize, b: u8)
-    requires { ⌜ p < 4294967396 ⌝ }
-    ensures { λ _. ⌜ now (room .exit) ≡ sets (now (room .entry)) p (digits (b ∷ [])) ⌝ }
+pub fn write_byte(room: &mut [u8], at: usize, b: u8)
+    requires { ⌜ at + 1 < 18446744073709551616 ⌝ }
+    ensures { λ _. ⌜ now (room .exit) ≡ sets (now (room .entry)) at (digits-of (b ∷ [])) ⌝ }
 {
-    put(room, p, digit(b / 16));
-    put(room, p + 1, digit(b % 16));
+    put(room, at, digit(b / 16));
+    put(room, at + 1, digit(b % 16));
 }
 
 pub fn put_byte(room: &mut [u8], at: u32, b: u8)
-    ensures { λ _. ⌜ now (room .exit) ≡ sets (now (room .entry)) at (digits (b ∷ [])) ⌝ }
+    ensures { λ _. ⌜ now (room .exit) ≡ sets (now (room .entry)) at (digits-of (b ∷ [])) ⌝ }
 {
-    byte(room, at as usize, b);
+    write_byte(room, at as usize, b);
 }
 
 // A number of two bytes.
 pub fn put_two(room: &mut [u8], at: u32, v: u16)
-    ensures { λ _. ⌜ now (room .exit) ≡ sets (now (room .entry)) at (digits (two v)) ⌝ }
+    ensures { λ _. ⌜ now (room .exit) ≡ sets (now (room .entry)) at (digits-of (two v)) ⌝ }
 {
     let p = at as usize;
-    byte(room, p, (v / 256) as u8);
-    byte(room, p + 2, (v % 256) as u8);
+    write_byte(room, p, (v / 256) as u8);
+    write_byte(room, p + 2, (v % 256) as u8);
 }
 
 // A number of four bytes.
 pub fn put_four(room: &mut [u8], at: u32, v: u32)
-    ensures { λ _. ⌜ now (room .exit) ≡ sets (now (room .entry)) at (digits (four v)) ⌝ }
+    ensures { λ _. ⌜ now (room .exit) ≡ sets (now (room .entry)) at (digits-of (four v)) ⌝ }
 {
     let p = at as usize;
-    byte(room, p, (v / 256 / 256 / 256) as u8);
-    byte(room, p + 2, (v / 256 / 256 % 256) as u8);
-    byte(room, p + 4, (v / 256 % 256) as u8);
-    byte(room, p + 6, (v % 256) as u8);
+    write_byte(room, p, (v / 256 / 256 / 256) as u8);
+    write_byte(room, p + 2, (v / 256 / 256 % 256) as u8);
+    write_byte(room, p + 4, (v / 256 % 256) as u8);
+    write_byte(room, p + 6, (v % 256) as u8);
 }
 
 // The end of the line.

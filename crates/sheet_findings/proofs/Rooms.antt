@@ -5,30 +5,21 @@ use mathlib.Core.List.{List, [], _∷_, _++_}
 use Prim.Native.Nat.{ℕ, zero, suc, _+_, _-_, _*_, _/_, _%_, _≤_, _<_}
 use native.Mathlib.Omega.{arith}
 use lib.ListN.{length, getD, take, drop, set, length-append, length-set}
-use lib.Seq.{paste, paste-zero, paste-suc, take-at, getD-at}
+use lib.Seq.{sets, paste, paste-zero, paste-suc, take-at, getD-at}
 use lib.Dec.{leb}
 use borrow.Author.Tests.{le-leb, lt-leb}
 use Rattle.paper.specs.declared.Refusal.{Refusal}
 use Rattle.paper.specs.Numbers.{number}
 use Rattle.paper.specs.Layout.{digit-of, hex}
 use Rattle.paper.specs.Sheets.{refusal-found, stop-found}
+use Rattle.sheet_digits.proofs.DigitLaws.{hex-digits, length-digits}
 use Rattle.sheet_findings.specs.declared.Room.{Room}
 use Rattle.sheet_findings.specs.declared.Room.the-variants.{To, Short}
 use Rattle.sheet_findings.specs.Written.{written-at, room-said, room-after, digits-of, five-found}
 
 -- ---- digits
-length-digits : (b : List ℕ) → length (digits-of b) ≡ 2 * length b
-unfolding digits-of
-length-digits [] = refl
-length-digits (x ∷ b) = let h = length-digits b in omega arith
-
-hex-is : (b : List ℕ) → hex b ≡ digits-of b ++ (10 ∷ [])
-unfolding hex digits-of
-hex-is [] = refl
-hex-is (x ∷ b) = ap (λ t. digit-of (x / 16) ∷ digit-of (x % 16) ∷ t) (hex-is b)
-
 length-hex : (b : List ℕ) → length (hex b) ≡ 2 * length b + 1
-length-hex b = ap length (hex-is b) ∙ (length-append (digits-of b) (10 ∷ []) ∙ ap (λ n. n + 1) (length-digits b))
+length-hex b = ap length (hex-digits b) ∙ (length-append (digits-of b) (10 ∷ []) ∙ ap (λ n. n + 1) (length-digits b))
 
 high-at : (b : List ℕ) (j : ℕ) → j < length b → getD (digits-of b) (2 * j) 0 ≡ digit-of (getD b j 0 / 16)
 unfolding digits-of
@@ -57,15 +48,17 @@ pasted m at s n e = rw (take-whole s n e, ← e)
 pub none-written : (m : List ℕ) (at : ℕ) (b : List ℕ) → m ≡ paste m at (digits-of b) (2 * 0)
 none-written m at b = paste-zero m at (digits-of b)
 
-pub byte-written : (m : List ℕ) (at : ℕ) (b : List ℕ) (j h l : ℕ) → at + 2 * length b ≤ length m → j < length b → h ≡ digit-of (getD b j 0 / 16) → l ≡ digit-of (getD b j 0 % 16) → (out : List ℕ) → out ≡ paste m at (digits-of b) (2 * j) → set (set out (at + 2 * j) h) (at + 2 * j + 1) l ≡ paste m at (digits-of b) (2 * (j + 1))
-byte-written m at b j h l r k e f out p =
+pub byte-written : (m : List ℕ) (at : ℕ) (b : List ℕ) (j : ℕ) → at + 2 * length b ≤ length m → j < length b → (out out′ : List ℕ) → out ≡ paste m at (digits-of b) (2 * j)
+    → out′ ≡ sets out (at + 2 * j) (digits-of (getD b j 0 ∷ [])) → out′ ≡ paste m at (digits-of b) (2 * (j + 1))
+unfolding digits-of
+byte-written m at b j r k out out′ p e =
     let s = digits-of b in
     let n = length-digits b in
     let one : set (paste m at s (2 * j)) (at + 2 * j) (getD s (2 * j) 0) ≡ paste m at s (suc (2 * j)) = paste-suc m at s (2 * j) 0 (omega arith) (omega arith) in
     let other : set (paste m at s (suc (2 * j))) (at + suc (2 * j)) (getD s (suc (2 * j)) 0) ≡ paste m at s (suc (suc (2 * j))) = paste-suc m at s (suc (2 * j)) 0 (omega arith) (omega arith) in
-    let i : at + 2 * j + 1 ≡ at + suc (2 * j) = omega arith in
+    let i : suc (at + 2 * j) ≡ at + suc (2 * j) = omega arith in
     let q : 2 * (j + 1) ≡ suc (suc (2 * j)) = omega arith in
-    rw (p, e, f, i, q, ← (high-at b j k), ← (low-at b j k), one) other
+    e ∙ rw (p, i, q, ← (high-at b j k), ← (low-at b j k), one) other
 
 pub all-written : (m : List ℕ) (at : ℕ) (b : List ℕ) (j : ℕ) → j ≡ length b → (out : List ℕ) → out ≡ paste m at (digits-of b) (2 * j) → out ≡ written-at m at (digits-of b)
 all-written m at b j e out p = p ∙ pasted m at (digits-of b) (2 * j) (length-digits b ∙ ap (λ n. 2 * n) (sym e))
@@ -77,8 +70,8 @@ ended m at b h =
     let d = digits-of b in
     let n = length-digits b in
     let k = length-hex b in
-    let t : take (length d) (hex b) ≡ d = rw (hex-is b) (take-at d (10 ∷ []) (length d) refl) in
-    let g : getD (hex b) (length d) 0 ≡ 10 = rw (hex-is b) (getD-at d 10 [] 0 (length d) refl) in
+    let t : take (length d) (hex b) ≡ d = rw (hex-digits b) (take-at d (10 ∷ []) (length d) refl) in
+    let g : getD (hex b) (length d) 0 ≡ 10 = rw (hex-digits b) (getD-at d 10 [] 0 (length d) refl) in
     let s : set (paste m at (hex b) (length d)) (at + length d) (getD (hex b) (length d) 0) ≡ paste m at (hex b) (suc (length d)) = paste-suc m at (hex b) (length d) 0 (omega arith) (omega arith) in
     let e : at + 2 * length b ≡ at + length d = omega arith in
     let w : take at m ++ d ++ drop (at + length d) m ≡ paste m at (hex b) (length d) = rw t in

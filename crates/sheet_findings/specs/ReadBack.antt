@@ -29,7 +29,13 @@ digit-low v h = rw (le-ltb (v + 48) 48 (omega arith), lt-ltb (v + 48) 58 (omega 
 
 digit-high : (v : ℕ) → 10 ≤ v → v < 16 → digit (v + 55) ≡ v
 unfolding digit
-digit-high v h l = rw (le-ltb (v + 55) 48 (omega arith), le-ltb (v + 55) 58 (omega arith), le-ltb (v + 55) 65 (omega arith), lt-ltb (v + 55) 71 (omega arith)) (omega arith)
+digit-high v h l =
+    rw (
+      le-ltb (v + 55) 48 (omega arith),
+      le-ltb (v + 55) 58 (omega arith),
+      le-ltb (v + 55) 65 (omega arith),
+      lt-ltb (v + 55) 71 (omega arith),
+    ) (omega arith)
 
 -- a digit is the value that it was written for, and no LF
 digit-back : (v : ℕ) → v < 16 → (digit (digit-of v) ≡ v) × (eqb (digit-of v) 10 ≡ false)

@@ -2,12 +2,13 @@
 use mathlib.Core.Path.{_≡_, refl}
 use mathlib.Core.Bool.{Bool, true, false}
 use mathlib.Core.List.{List, [], _∷_, _++_}
-use Prim.Native.Nat.{ℕ, _+_, _/_, _%_}
+use Prim.Native.Nat.{ℕ, _+_}
 use lib.ListN.{length, take, drop}
 use lib.Dec.{leb}
 use Rattle.paper.specs.Words.{if_then_else_, two, four}
-use Rattle.paper.specs.Layout.{digit-of}
 use Rattle.paper.specs.Sheets.{Ended, end-found}
+-- a line without its LF
+unfoldable pub use Rattle.sheet_digits.specs.Digits.{digits-of}
 use Rattle.sheet_findings.specs.declared.Room.{Room}
 use Rattle.sheet_findings.specs.declared.Room.the-variants.{To, Short}
 
@@ -21,11 +22,6 @@ room-said m at s = if leb (at + length s) (length m) then To (at + length s) els
 
 unfoldable pub room-after : List ℕ → ℕ → List ℕ → List ℕ
 room-after m at s = if leb (at + length s) (length m) then written-at m at s else m
-
--- a line without its LF
-unfoldable pub digits-of : List ℕ → List ℕ
-digits-of [] = []
-digits-of (b ∷ s) = digit-of (b / 16) ∷ digit-of (b % 16) ∷ digits-of s
 
 -- 11 and 1F alike: the kind, four bytes, a number
 unfoldable pub five-found : ℕ → ℕ → ℕ → List ℕ

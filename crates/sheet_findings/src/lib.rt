@@ -3,22 +3,16 @@ ghost use mathlib.Core.Path.{_≡_};
 ghost use Prim.Native.Nat.{_+_, _*_, _≤_, _<_};
 ghost use lib.ListN.{length};
 ghost use Rattle.paper.specs.Numbers.{number};
-ghost use Rattle.paper.specs.Layout.{digit-of, hex};
+ghost use Rattle.paper.specs.Layout.{hex};
 ghost use Rattle.paper.specs.Sheets.{refusal-found, term-found, stop-found};
 ghost use Rattle.sheet_findings.specs.Written.{written-at, room-said, room-after, digits-of, five-found, ended-found};
 use paper::Refusal;
+use sheet_digits::write_byte;
 
 // Written up to here; or the room was too short, and nothing was written.
 pub enum Room {
     To(usize),
     Short,
-}
-
-fn digit_of(v: u8) -> u8
-    requires { ⌜ v < 16 ⌝ }
-    ensures { λ r. ⌜ r ≡ digit-of v ⌝ }
-{
-    if v < 10 { v + 48 } else { v + 55 }
 }
 
 // The digits of b into `out` from `at` on.
@@ -28,16 +22,15 @@ fn write_digits(b: &[u8], out: &mut [u8], at: usize)
 {
     let mut j = 0;
     while j < b.len() {
-        let x = b[j];
-        out[at + 2 * j] = digit_of(x / 16);
-        out[at + 2 * j + 1] = digit_of(x % 16);
+        write_byte(out, at + 2 * j, b[j]);
         j += 1;
     }
 }
 
 // The bytes of a finding as a line, from `at` on.
 pub fn write_line(b: &[u8], out: &mut [u8], at: usize) -> Room
-    ensures { λ r. ⌜ (r ≡ room-said (now (out .entry)) at (hex (now (b .entry)))) × (now (out .exit) ≡ room-after (now (out .entry)) at (hex (now (b .entry)))) ⌝ }
+    ensures { λ r. let line = hex (now (b .entry)) in
+        ⌜ (r ≡ room-said (now (out .entry)) at line) × (now (out .exit) ≡ room-after (now (out .entry)) at line) ⌝ }
 {
     if out.len() < at {
         return Room::Short;
@@ -83,7 +76,8 @@ pub fn number_of(r: Refusal) -> u8
 
 // A kind of finding, four bytes and a number.
 fn write_five(kind: u8, n: u32, number: u8, out: &mut [u8], at: usize) -> Room
-    ensures { λ r. ⌜ (r ≡ room-said (now (out .entry)) at (hex (five-found kind n number))) × (now (out .exit) ≡ room-after (now (out .entry)) at (hex (five-found kind n number))) ⌝ }
+    ensures { λ r. let line = hex (five-found kind n number) in
+        ⌜ (r ≡ room-said (now (out .entry)) at line) × (now (out .exit) ≡ room-after (now (out .entry)) at line) ⌝ }
 {
     let b = [
         kind,
@@ -98,14 +92,16 @@ fn write_five(kind: u8, n: u32, number: u8, out: &mut [u8], at: usize) -> Room
 
 // "11 place, number (1)"
 pub fn write_refusal(place: u32, r: Refusal, out: &mut [u8], at: usize) -> Room
-    ensures { λ w. ⌜ (w ≡ room-said (now (out .entry)) at (hex (refusal-found place r))) × (now (out .exit) ≡ room-after (now (out .entry)) at (hex (refusal-found place r))) ⌝ }
+    ensures { λ w. let line = hex (refusal-found place r) in
+        ⌜ (w ≡ room-said (now (out .entry)) at line) × (now (out .exit) ≡ room-after (now (out .entry)) at line) ⌝ }
 {
     write_five(17, place, number_of(r), out, at)
 }
 
 // "14 term"
 pub fn write_term(t: u16, out: &mut [u8], at: usize) -> Room
-    ensures { λ w. ⌜ (w ≡ room-said (now (out .entry)) at (hex (term-found t))) × (now (out .exit) ≡ room-after (now (out .entry)) at (hex (term-found t))) ⌝ }
+    ensures { λ w. let line = hex (term-found t) in
+        ⌜ (w ≡ room-said (now (out .entry)) at line) × (now (out .exit) ≡ room-after (now (out .entry)) at line) ⌝ }
 {
     let b = [20, (t / 256) as u8, (t % 256) as u8];
     write_line(&b, out, at)
@@ -113,7 +109,8 @@ pub fn write_term(t: u16, out: &mut [u8], at: usize) -> Room
 
 // "15 sets (2), kept rules (2)"
 pub fn write_end(sets: u16, kept: u16, out: &mut [u8], at: usize) -> Room
-    ensures { λ w. ⌜ (w ≡ room-said (now (out .entry)) at (hex (ended-found sets kept))) × (now (out .exit) ≡ room-after (now (out .entry)) at (hex (ended-found sets kept))) ⌝ }
+    ensures { λ w. let line = hex (ended-found sets kept) in
+        ⌜ (w ≡ room-said (now (out .entry)) at line) × (now (out .exit) ≡ room-after (now (out .entry)) at line) ⌝ }
 {
     let b = [
         21,
@@ -127,7 +124,8 @@ pub fn write_end(sets: u16, kept: u16, out: &mut [u8], at: usize) -> Room
 
 // "a last frame 1F line (4, from 1), number"
 pub fn write_stop(line: u32, r: Refusal, out: &mut [u8], at: usize) -> Room
-    ensures { λ w. ⌜ (w ≡ room-said (now (out .entry)) at (hex (stop-found line r))) × (now (out .exit) ≡ room-after (now (out .entry)) at (hex (stop-found line r))) ⌝ }
+    ensures { λ w. let line = hex (stop-found line r) in
+        ⌜ (w ≡ room-said (now (out .entry)) at line) × (now (out .exit) ≡ room-after (now (out .entry)) at line) ⌝ }
 {
     write_five(31, line, number_of(r), out, at)
 }

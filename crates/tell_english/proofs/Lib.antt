@@ -1,3 +1,2 @@
-pub mod PartLaws
 pub mod ShapeLaws
 pub mod LineLaws

@@ -13,7 +13,7 @@ use Rattle.sheet_findings.specs.declared.Room.the-variants.{To, Short}
 use Rattle.sheet_findings.specs.declared.Room as F
 use Rattle.sheet_findings.specs.Written.{room-said}
 use Rattle.tell_english.specs.declared.Shape.{Shape}
-use Rattle.tell_english.specs.Parts.{filled}
+use Rattle.tell_parts.specs.Parts.{filled}
 use Rattle.tell_english.specs.Shapes.{shape-of}
 use Rattle.tell_english.specs.Words.{unknown-site, unreachable, hanging-site, self-containing, limit-of-a-rule, place-used, other-refusal, bad-line, source-unknown, limit-of-a-sheet, repeated, other-stop}
 use Rattle.tell_english.specs.Said.{refused-words, stopped-words, ended-words, words-for, explained, said, line-end, line-room}

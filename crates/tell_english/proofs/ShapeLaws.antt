@@ -8,7 +8,7 @@ use lib.Dec.{eqb, ltb}
 use borrow.Author.Tests.{eq-eqb, ne-eqb}
 use Rattle.tell_english.specs.declared.Shape.{Shape}
 use Rattle.tell_english.specs.declared.Shape.the-variants.{Refused, OverlapTwo, OverlapMore, MaskOne, MaskMore, Term, End, Stop, Empty, Unknown}
-use Rattle.tell_english.specs.Parts.{two-at}
+use Rattle.tell_parts.specs.Parts.{two-at}
 use Rattle.tell_english.specs.Shapes.{when, listed, shape-of}
 
 module _ (n head count few : ℕ) (one more : Shape) where

@@ -1,4 +1,3 @@
-pub mod Parts
 pub mod Shapes
 pub mod Words
 pub mod Said

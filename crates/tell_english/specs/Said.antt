@@ -10,7 +10,7 @@ use Rattle.sheet_findings.specs.declared.Room.the-variants.{To, Short}
 use Rattle.sheet_findings.specs.declared.Room as F
 use Rattle.tell_english.specs.declared.Shape.{Shape}
 use Rattle.tell_english.specs.declared.Shape.the-variants.{Refused, OverlapTwo, OverlapMore, MaskOne, MaskMore, Term, End, Stop, Empty, Unknown}
-use Rattle.tell_english.specs.Parts.{filled}
+use Rattle.tell_parts.specs.Parts.{filled}
 use Rattle.tell_english.specs.Shapes.{shape-of}
 use Rattle.tell_english.specs.Words.{unknown-site, unreachable, hanging-site, self-containing, limit-of-a-rule, place-used, other-refusal, overlap-two, overlap-more, mask-one, mask-more, calls-itself, read-to-end, clean-sheet, bad-line, source-unknown, limit-of-a-sheet, repeated, other-stop, not-known, empty-line}
 

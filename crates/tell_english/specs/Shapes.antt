@@ -7,7 +7,7 @@ use lib.Dec.{eqb, ltb}
 use Rattle.paper.specs.Words.{if_then_else_}
 use Rattle.tell_english.specs.declared.Shape.{Shape}
 use Rattle.tell_english.specs.declared.Shape.the-variants.{Refused, OverlapTwo, OverlapMore, MaskOne, MaskMore, Term, End, Stop, Empty, Unknown}
-use Rattle.tell_english.specs.Parts.{two-at}
+use Rattle.tell_parts.specs.Parts.{two-at}
 
 abbrev pub when : Bool → Shape → Shape
 when true s = s

@@ -15,7 +15,7 @@ use Rattle.paper.specs.Sheets.{refusal-found, listed-found, term-found, stop-fo
 use Rattle.tell_text.specs.Decimal.{decimal}
 use Rattle.sheet_findings.specs.Written.{ended-found}
 use Rattle.tell_english.specs.declared.Shape.the-variants.{Refused, Term, End, Stop}
-use Rattle.tell_english.specs.Parts.{two-at, four-at, separator, rest, places, filled}
+use Rattle.tell_parts.specs.Parts.{two-at, four-at, separator, rest, places, filled}
 use Rattle.tell_english.specs.Shapes.{shape-of}
 use Rattle.tell_english.specs.Words.{calls-itself}
 use Rattle.tell_english.specs.Said.{refused-words, stopped-words, ended-words, explained}
@@ -27,7 +27,8 @@ two-bytes : (n : ℕ) → n / 256 * 256 + n % 256 ≡ n
 two-bytes n = omega arith
 
 -- an 11: the words of its number, its place
-pub refusal-told : (clean : Bool) (place : ℕ) (r : Refusal) → explained clean (refusal-found place r) ≡ filled (refusal-found place r) (refused-words (number r))
+pub refusal-told : (clean : Bool) (place : ℕ) (r : Refusal)
+    → explained clean (refusal-found place r) ≡ filled (refusal-found place r) (refused-words (number r))
 unfolding explained refusal-found four shape-of
 refusal-told clean place r = refl
 
@@ -49,7 +50,10 @@ pub term-told : (clean : Bool) (t : ℕ) → (explained clean (term-found t) ≡
 unfolding explained term-found two shape-of two-at
 term-told clean t = (refl, two-bytes t)
 
-pub end-told : (clean : Bool) (sets kept : ℕ) → (explained clean (ended-found sets kept) ≡ filled (ended-found sets kept) (ended-words clean)) × (two-at (ended-found sets kept) 1 ≡ sets) × (two-at (ended-found sets kept) 3 ≡ kept)
+pub end-told : (clean : Bool) (sets kept : ℕ)
+    → (explained clean (ended-found sets kept) ≡ filled (ended-found sets kept) (ended-words clean))
+    × (two-at (ended-found sets kept) 1 ≡ sets)
+    × (two-at (ended-found sets kept) 3 ≡ kept)
 unfolding explained ended-found two shape-of two-at
 end-told clean sets kept = (refl, two-bytes sets, two-bytes kept)
 
@@ -108,7 +112,8 @@ fours [] = refl
 fours (n ∷ ns) = let i = fours ns in omega arith
 
 -- behind a head of seven bytes
-places-behind : (h : List ℕ) (n : ℕ) (ns : List ℕ) → length h ≡ 7 → Places (n ∷ ns) → places (h ++ (four n ++ joined (map four ns))) ≡ and-list (n ∷ ns)
+places-behind : (h : List ℕ) (n : ℕ) (ns : List ℕ) → length h ≡ 7 → Places (n ∷ ns)
+    → places (h ++ (four n ++ joined (map four ns))) ≡ and-list (n ∷ ns)
 unfolding places
 places-behind h n ns e p =
     let s = joined (map four ns) in
@@ -116,7 +121,8 @@ places-behind h n ns e p =
     let i : rest ((h ++ four n) ++ s) (length (h ++ four n)) (length ns) ≡ and-rest ns = rest-behind (h ++ four n) ns (p .1) in
     let k : length (h ++ four n) ≡ 11 = four-long h n ∙ ap (λ (m : ℕ). m + 4) e in
     let j : rest (h ++ (four n ++ s)) 11 (length ns) ≡ and-rest ns = rw (k, append-assoc) at i in
-    let l : length (h ++ (four n ++ s)) ≡ 11 + length ns * 4 = sym (ap length (append-assoc h (four n) s)) ∙ (length-append (h ++ four n) s ∙ rw (k, fours ns)) in
+    let l : length (h ++ (four n ++ s)) ≡ 11 + length ns * 4 =
+    sym (ap length (append-assoc h (four n) s)) ∙ (length-append (h ++ four n) s ∙ rw (k, fours ns)) in
     let c : (length (h ++ (four n ++ s)) - 11) / 4 ≡ length ns = omega arith in
     rw (c, a, j)
 

@@ -1,72 +1,115 @@
--- The words for each finding. In them stand for a part of the frame:
---     # the number of four bytes after the kind: a place, or a line
---     % the first place of a list of overlaps      * the places from byte 7 on, with commas and `and`
---     @ the number of two bytes after the kind     $ the number of two bytes after that
---     { an s, but where @ is 1                     } an s, but where $ is 1
---     ^ the number of a refusal                    ~ the first byte
-use mathlib.Core.List.{List, [], _∷_}
+-- The words for each finding. The signs in them that stand for a part of the frame are those of tell_parts (its specs/Parts.antt).
+use mathlib.Core.List.{List, [], _∷_, _++_}
 use Prim.Native.Nat.{ℕ}
+use Prim.Native.String.{String}
 use Rattle.paper.specs.Text.{unended}
 
+-- a text in pieces, a line each
+abbrev pub pieces : List String → List ℕ
+pieces [] = []
+pieces (s ∷ ss) = unended s ++ pieces ss
+
 unfoldable pub unknown-site : List ℕ
-unknown-site = unended "Rule # is refused with number 2 (unknown site): one of its items names a site that its set does not have, so the box leaves the rule out and what it should print stays missing. Name a site of the set, or add its 02 line before the set's first rule; if the site is a field that an earlier rule brings in, see that this earlier rule is not refused."
+unknown-site =
+    pieces ("Rule # is refused with number 2 (unknown site): one of its items names a site that its set does not have, so the box leaves the rule out " ∷
+    "and what it should print stays missing. Name a site of the set, or add its 02 line before the set's first rule; if the site is a field that " ∷
+    "an earlier rule brings in, see that this earlier rule is not refused." ∷ [])
 
 unfoldable pub unreachable : List ℕ
-unreachable = unended "Rule # is refused with number 4 (unreachable): it asks two different things of one site, or of sites that it makes equal, so no page can ever match it and it never prints anything. Take one of the two demands out, or make two rules of it."
+unreachable =
+    pieces ("Rule # is refused with number 4 (unreachable): it asks two different things of one site, or of sites that it makes equal, so no page can " ∷
+    "ever match it and it never prints anything. Take one of the two demands out, or make two rules of it." ∷ [])
 
 unfoldable pub hanging-site : List ℕ
-hanging-site = unended "Rule # is refused with number 5 (hanging site): it names a field without saying, in this rule, what must stand around that field, so the box cannot reach the field. Add to the rule the variant or structure that has the field (or that the value is present), or take the field out."
+hanging-site =
+    pieces ("Rule # is refused with number 5 (hanging site): it names a field without saying, in this rule, what must stand around that field, so the " ∷
+    "box cannot reach the field. Add to the rule the variant or structure that has the field (or that the value is present), or take the field " ∷
+    "out." ∷ [])
 
 unfoldable pub self-containing : List ℕ
-self-containing = unended "Rule # is refused with number 6 (self-containing): its equalities make a value a part of itself, which no page can have, so it never prints anything. Take out the equality between a site and what lies inside it."
+self-containing =
+    pieces ("Rule # is refused with number 6 (self-containing): its equalities make a value a part of itself, which no page can have, so it never prints " ∷
+    "anything. Take out the equality between a site and what lies inside it." ∷ [])
 
 unfoldable pub limit-of-a-rule : List ℕ
-limit-of-a-rule = unended "Rule # is refused with number 7 (a limit is passed): its set has 64 kept rules already, or it has more than 32 items, a constraint of more than 8 fields, more than 32 constrained or 32 equal sites once it is worked out, or it brings its set above 1,024 sites. The box leaves it out, so what it should print stays missing. Make two shorter rules of it, or make room in its set."
+limit-of-a-rule =
+    pieces ("Rule # is refused with number 7 (a limit is passed): its set has 64 kept rules already, or it has more than 32 items, a constraint of more " ∷
+    "than 8 fields, more than 32 constrained or 32 equal sites once it is worked out, or it brings its set above 1,024 sites. The box leaves it " ∷
+    "out, so what it should print stays missing. Make two shorter rules of it, or make room in its set." ∷ [])
 
 unfoldable pub place-used : List ℕ
-place-used = unended "Rule # is refused with number 8 (place already used): an earlier rule of the same set has place #, and only that one is used. Give this rule a place of its own."
+place-used =
+    pieces ("Rule # is refused with number 8 (place already used): an earlier rule of the same set has place #, and only that one is used. Give this " ∷
+    "rule a place of its own." ∷ [])
 
 unfoldable pub other-refusal : List ℕ
 other-refusal = unended "Rule # is refused with number ^, a reason that this program has no words for. Read it with the program that wrote it."
 
 unfoldable pub overlap-two : List ℕ
-overlap-two = unended "Rule % and rule * may both fit one page and have the same priority, so nothing says which of them the printer follows. Give one of them the higher priority, or make them ask for different things."
+overlap-two =
+    pieces ("Rule % and rule * may both fit one page and have the same priority, so nothing says which of them the printer follows. Give one of them the " ∷
+    "higher priority, or make them ask for different things." ∷ [])
 
 unfoldable pub overlap-more : List ℕ
-overlap-more = unended "Rule % may fit the same page as any of the rules *, and all have the same priority, so nothing says which of them the printer follows there. Give rule % another priority than theirs, or make it ask for something different."
+overlap-more =
+    pieces ("Rule % may fit the same page as any of the rules *, and all have the same priority, so nothing says which of them the printer follows " ∷
+    "there. Give rule % another priority than theirs, or make it ask for something different." ∷ [])
 
 unfoldable pub mask-one : List ℕ
-mask-one = unended "Rule # hides rule *: every page that rule * takes is taken by rule # first, because rule # has the higher priority and asks for no more. What rule * adds (a hazard line, say) is never printed. Give rule * the higher priority, or narrow rule #."
+mask-one =
+    pieces ("Rule # hides rule *: every page that rule * takes is taken by rule # first, because rule # has the higher priority and asks for no more. " ∷
+    "What rule * adds (a hazard line, say) is never printed. Give rule * the higher priority, or narrow rule #." ∷ [])
 
 unfoldable pub mask-more : List ℕ
-mask-more = unended "Rule # hides the rules *: every page that one of them takes is taken by rule # first, because rule # has the higher priority and asks for no more. What they add (a hazard line, say) is never printed. Give them a higher priority than rule #, or narrow rule #."
+mask-more =
+    pieces ("Rule # hides the rules *: every page that one of them takes is taken by rule # first, because rule # has the higher priority and asks for " ∷
+    "no more. What they add (a hazard line, say) is never printed. Give them a higher priority than rule #, or narrow rule #." ∷ [])
 
 unfoldable pub calls-itself : List ℕ
-calls-itself = unended "Term @ calls itself, directly or through other terms, and its set is not marked rec, so one page could keep the box going round without end. Break the circle, or mark the set rec (2 in the flags of its 01 line) if this is meant."
+calls-itself =
+    pieces ("Term @ calls itself, directly or through other terms, and its set is not marked rec, so one page could keep the box going round without " ∷
+    "end. Break the circle, or mark the set rec (2 in the flags of its 01 line) if this is meant." ∷ [])
 
 unfoldable pub read-to-end : List ℕ
 read-to-end = unended "The sheet was read to its end: @ set{ with $ kept rule} in all. What was found stands above."
 
 unfoldable pub clean-sheet : List ℕ
-clean-sheet = unended "The sheet was read to its end: @ set{ with $ kept rule} in all. Nothing was found: no rule is refused, none hides another or may fit the same page at the same priority (sets marked multi are not compared), and no term calls itself without rec."
+clean-sheet =
+    pieces ("The sheet was read to its end: @ set{ with $ kept rule} in all. Nothing was found: no rule is refused, none hides another or may fit the " ∷
+    "same page at the same priority (sets marked multi are not compared), and no term calls itself without rec." ∷ [])
 
 unfoldable pub bad-line : List ℕ
-bad-line = unended "The sheet stops at line # with number 1 (not as laid out): the line is longer than 64 digits, has a character that is not 0 to 9 or A to F, has no line feed, does not have the layout of its frame or stands out of place; where the sheet has no line #, its last set has no 06. Nothing from there on was checked, so do not load the sheet: correct the line and check again."
+bad-line =
+    pieces ("The sheet stops at line # with number 1 (not as laid out): the line is longer than 64 digits, has a character that is not 0 to 9 or A to F, " ∷
+    "has no line feed, does not have the layout of its frame or stands out of place; where the sheet has no line #, its last set has no 06. " ∷
+    "Nothing from there on was checked, so do not load the sheet: correct the line and check again." ∷ [])
 
 unfoldable pub source-unknown : List ℕ
-source-unknown = unended "The sheet stops at line # with number 2 (unknown site): the site on it is made from a site that does not stand before it in its set. Nothing from there on was checked, so do not load the sheet: put the missing 02 line before it, or correct the number, and check again."
+source-unknown =
+    pieces ("The sheet stops at line # with number 2 (unknown site): the site on it is made from a site that does not stand before it in its set. " ∷
+    "Nothing from there on was checked, so do not load the sheet: put the missing 02 line before it, or correct the number, and check again." ∷ [])
 
 unfoldable pub limit-of-a-sheet : List ℕ
-limit-of-a-sheet = unended "The sheet stops at line # with number 7 (a limit is passed): the line makes more than 64 sets, a term above 255, more than 1,024 sites in a set or more than 8 sources of a site. Nothing from there on was checked, so do not load the sheet: make the sheet, the set or the site smaller, or the term's number lower, and check again."
+limit-of-a-sheet =
+    pieces ("The sheet stops at line # with number 7 (a limit is passed): the line makes more than 64 sets, a term above 255, more than 1,024 sites in a " ∷
+    "set or more than 8 sources of a site. Nothing from there on was checked, so do not load the sheet: make the sheet, the set or the site " ∷
+    "smaller, or the term's number lower, and check again." ∷ [])
 
 unfoldable pub repeated : List ℕ
-repeated = unended "The sheet stops at line # with number 9 (repeated): the site on it stands in its set already, or its term has a set already. Nothing from there on was checked, so do not load the sheet: take the second site out (those after it then count one lower), or make one set of the two, and check again."
+repeated =
+    pieces ("The sheet stops at line # with number 9 (repeated): the site on it stands in its set already, or its term has a set already. Nothing from " ∷
+    "there on was checked, so do not load the sheet: take the second site out (those after it then count one lower), or make one set of the two, " ∷
+    "and check again." ∷ [])
 
 unfoldable pub other-stop : List ℕ
-other-stop = unended "The sheet stops at line # with number ^, a reason that this program has no words for. Read it with the program that wrote it, and do not load the sheet."
+other-stop =
+    pieces ("The sheet stops at line # with number ^, a reason that this program has no words for. Read it with the program that wrote it, and do not " ∷
+    "load the sheet." ∷ [])
 
 unfoldable pub not-known : List ℕ
-not-known = unended "This line is not a finding that this program knows (its first byte is ~ in decimal). See that the line is whole and was written by a program of the same release."
+not-known =
+    pieces ("This line is not a finding that this program knows (its first byte is ~ in decimal). See that the line is whole and was written by a " ∷
+    "program of the same release." ∷ [])
 
 unfoldable pub empty-line : List ℕ
 empty-line = unended "This line is empty, so it is no finding."

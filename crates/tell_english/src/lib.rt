@@ -3,18 +3,16 @@ ghost use mathlib.Core.Path.{_≡_};
 ghost use mathlib.Core.Bool.{Bool};
 ghost use Prim.Native.Nat.{ℕ, _+_, _*_, _≤_, _<_};
 ghost use lib.ListN.{length, getD};
-ghost use mathlib.Core.List.{_++_};
 ghost use Rattle.tell_text.specs.Written.{wrote};
-ghost use Rattle.tell_text.specs.Decimal.{decimal};
 ghost use Rattle.sheet_findings.specs.Written.{room-said};
-ghost use Rattle.tell_english.specs.Parts.{two-at, four-at, separator, rest, places, plural, part, filled};
+ghost use Rattle.tell_parts.specs.Parts.{filled};
 ghost use Rattle.tell_english.specs.Shapes.{when, listed, shape-of};
 ghost use Rattle.tell_english.specs.Words.{calls-itself, not-known};
 ghost use Rattle.tell_english.specs.Said.{refused-words, stopped-words, ended-words, explained, said, line-end, line-room};
 use sheet_findings::Room;
-use tell_text::put;
-use tell_text::put_decimal;
-use tell_text::put_text;
+use tell_parts::byte_at;
+use tell_parts::fill;
+use tell_parts::two_at;
 
 // What a frame is, by its kind and its length.
 pub enum Shape {
@@ -28,138 +26,6 @@ pub enum Shape {
     Stop,
     Empty,
     Unknown,
-}
-
-fn wide(b: u8) -> u64
-    ensures { λ r. ⌜ r ≡ b ⌝ }
-{
-    b as u64
-}
-
-// Past the end of the frame bytes are 0.
-fn byte_at(f: &[u8], i: usize) -> u64
-    ensures { λ r. ⌜ (r ≡ getD (now (f .entry)) i 0) × (r < 256) ⌝ }
-{
-    if i < f.len() {
-        return wide(f[i]);
-    }
-    0
-}
-
-fn two_at(f: &[u8], i: usize) -> u64
-    requires { ⌜ i + 1 < 18446744073709551616 ⌝ }
-    ensures { λ r. ⌜ (r ≡ two-at (now (f .entry)) i) × (r < 65536) ⌝ }
-{
-    byte_at(f, i) * 256 + byte_at(f, i + 1)
-}
-
-fn four_at(f: &[u8], i: usize) -> u64
-    requires { ⌜ i + 3 < 18446744073709551616 ⌝ }
-    ensures { λ r. ⌜ (r ≡ four-at (now (f .entry)) i) × (r < 4294967296) ⌝ }
-{
-    two_at(f, i) * 65536 + two_at(f, i + 2)
-}
-
-// What stands before a place with so many places to come.
-fn put_separator(left: usize, out: &mut [u8], at: usize) -> usize
-    ensures { λ r. ⌜ (now (out .exit), r) ≡ wrote (now (out .entry), at) (separator left) ⌝ }
-{
-    if left == 0 {
-        return put_text(out, at, b" and ");
-    }
-    put_text(out, at, b", ")
-}
-
-fn put_place(f: &[u8], i: usize, left: usize, out: &mut [u8], at: usize) -> usize
-    requires { ⌜ i + 3 < 18446744073709551616 ⌝ }
-    ensures { λ r. ⌜ (now (out .exit), r) ≡ wrote (now (out .entry), at) (separator left ++ decimal (four-at (now (f .entry)) i)) ⌝ }
-{
-    let k = put_separator(left, out, at);
-    put_decimal(out, k, four_at(f, i))
-}
-
-// The places after the first.
-fn put_rest(f: &[u8], from: usize, count: usize, out: &mut [u8], at: usize) -> usize
-    requires { ⌜ from + 4 * count ≤ length (now f) ⌝ }
-    ensures { λ r. ⌜ (now (out .exit), r) ≡ wrote (now (out .entry), at) (rest (now (f .entry)) from count) ⌝ }
-{
-    let mut k = at;
-    let mut i = from;
-    let mut left = count;
-    while left > 0 {
-        left -= 1;
-        let next = put_place(f, i, left, out, k);
-        k = next;
-        i += 4;
-    }
-    k
-}
-
-// The places from byte 7 to the end of the frame.
-fn put_places(f: &[u8], out: &mut [u8], at: usize) -> usize
-    ensures { λ r. ⌜ (now (out .exit), r) ≡ wrote (now (out .entry), at) (places (now (f .entry))) ⌝ }
-{
-    let k = put_decimal(out, at, four_at(f, 7));
-    if f.len() < 11 {
-        return k;
-    }
-    put_rest(f, 11, (f.len() - 11) / 4, out, k)
-}
-
-fn put_plural(n: u64, out: &mut [u8], at: usize) -> usize
-    ensures { λ r. ⌜ (now (out .exit), r) ≡ wrote (now (out .entry), at) (plural n) ⌝ }
-{
-    if n == 1 {
-        return at;
-    }
-    put(out, at, b's')
-}
-
-// A byte of the words: itself, or the part of the frame that it stands for.
-fn put_part(b: u8, f: &[u8], out: &mut [u8], at: usize) -> usize
-    ensures { λ r. ⌜ (now (out .exit), r) ≡ wrote (now (out .entry), at) (part (now (f .entry)) b) ⌝ }
-{
-    if b == b'#' {
-        return put_decimal(out, at, four_at(f, 1));
-    }
-    if b == b'%' {
-        return put_decimal(out, at, four_at(f, 3));
-    }
-    if b == b'*' {
-        return put_places(f, out, at);
-    }
-    if b == b'@' {
-        return put_decimal(out, at, two_at(f, 1));
-    }
-    if b == b'$' {
-        return put_decimal(out, at, two_at(f, 3));
-    }
-    if b == b'{' {
-        return put_plural(two_at(f, 1), out, at);
-    }
-    if b == b'}' {
-        return put_plural(two_at(f, 3), out, at);
-    }
-    if b == b'^' {
-        return put_decimal(out, at, byte_at(f, 5));
-    }
-    if b == b'~' {
-        return put_decimal(out, at, byte_at(f, 0));
-    }
-    put(out, at, b)
-}
-
-fn fill(words: &[u8], f: &[u8], out: &mut [u8], at: usize) -> usize
-    ensures { λ r. ⌜ (now (out .exit), r) ≡ wrote (now (out .entry), at) (filled (now (f .entry)) (now (words .entry))) ⌝ }
-{
-    let mut k = at;
-    let mut i: usize = 0;
-    while i < words.len() {
-        let next = put_part(words[i], f, out, k);
-        k = next;
-        i += 1;
-    }
-    k
 }
 
 fn when(right: bool, s: Shape) -> Shape
@@ -218,7 +84,9 @@ fn put_refused_last(f: &[u8], n: u64, out: &mut [u8], at: usize) -> usize
 {
     if n == 7 {
         return fill(
-            b"Rule # is refused with number 7 (a limit is passed): its set has 64 kept rules already, or it has more than 32 items, a constraint of more than 8 fields, more than 32 constrained or 32 equal sites once it is worked out, or it brings its set above 1,024 sites. The box leaves it out, so what it should print stays missing. Make two shorter rules of it, or make room in its set.",
+            b"Rule # is refused with number 7 (a limit is passed): its set has 64 kept rules already, or it has more than 32 items, a constraint of \
+              more than 8 fields, more than 32 constrained or 32 equal sites once it is worked out, or it brings its set above 1,024 sites. The box \
+              leaves it out, so what it should print stays missing. Make two shorter rules of it, or make room in its set.",
             f,
             out,
             at,
@@ -226,7 +94,8 @@ fn put_refused_last(f: &[u8], n: u64, out: &mut [u8], at: usize) -> usize
     }
     if n == 8 {
         return fill(
-            b"Rule # is refused with number 8 (place already used): an earlier rule of the same set has place #, and only that one is used. Give this rule a place of its own.",
+            b"Rule # is refused with number 8 (place already used): an earlier rule of the same set has place #, and only that one is used. Give this \
+              rule a place of its own.",
             f,
             out,
             at,
@@ -247,7 +116,9 @@ fn put_refused(f: &[u8], out: &mut [u8], at: usize) -> usize
     let n = byte_at(f, 5);
     if n == 2 {
         return fill(
-            b"Rule # is refused with number 2 (unknown site): one of its items names a site that its set does not have, so the box leaves the rule out and what it should print stays missing. Name a site of the set, or add its 02 line before the set's first rule; if the site is a field that an earlier rule brings in, see that this earlier rule is not refused.",
+            b"Rule # is refused with number 2 (unknown site): one of its items names a site that its set does not have, so the box leaves the rule out \
+              and what it should print stays missing. Name a site of the set, or add its 02 line before the set's first rule; if the site is a field \
+              that an earlier rule brings in, see that this earlier rule is not refused.",
             f,
             out,
             at,
@@ -255,7 +126,8 @@ fn put_refused(f: &[u8], out: &mut [u8], at: usize) -> usize
     }
     if n == 4 {
         return fill(
-            b"Rule # is refused with number 4 (unreachable): it asks two different things of one site, or of sites that it makes equal, so no page can ever match it and it never prints anything. Take one of the two demands out, or make two rules of it.",
+            b"Rule # is refused with number 4 (unreachable): it asks two different things of one site, or of sites that it makes equal, so no page can \
+              ever match it and it never prints anything. Take one of the two demands out, or make two rules of it.",
             f,
             out,
             at,
@@ -263,7 +135,9 @@ fn put_refused(f: &[u8], out: &mut [u8], at: usize) -> usize
     }
     if n == 5 {
         return fill(
-            b"Rule # is refused with number 5 (hanging site): it names a field without saying, in this rule, what must stand around that field, so the box cannot reach the field. Add to the rule the variant or structure that has the field (or that the value is present), or take the field out.",
+            b"Rule # is refused with number 5 (hanging site): it names a field without saying, in this rule, what must stand around that field, so the \
+              box cannot reach the field. Add to the rule the variant or structure that has the field (or that the value is present), or take the field \
+              out.",
             f,
             out,
             at,
@@ -271,7 +145,8 @@ fn put_refused(f: &[u8], out: &mut [u8], at: usize) -> usize
     }
     if n == 6 {
         return fill(
-            b"Rule # is refused with number 6 (self-containing): its equalities make a value a part of itself, which no page can have, so it never prints anything. Take out the equality between a site and what lies inside it.",
+            b"Rule # is refused with number 6 (self-containing): its equalities make a value a part of itself, which no page can have, so it never \
+              prints anything. Take out the equality between a site and what lies inside it.",
             f,
             out,
             at,
@@ -287,7 +162,9 @@ fn put_stopped(f: &[u8], out: &mut [u8], at: usize) -> usize
     let n = byte_at(f, 5);
     if n == 1 {
         return fill(
-            b"The sheet stops at line # with number 1 (not as laid out): the line is longer than 64 digits, has a character that is not 0 to 9 or A to F, has no line feed, does not have the layout of its frame or stands out of place; where the sheet has no line #, its last set has no 06. Nothing from there on was checked, so do not load the sheet: correct the line and check again.",
+            b"The sheet stops at line # with number 1 (not as laid out): the line is longer than 64 digits, has a character that is not 0 to 9 or A to \
+              F, has no line feed, does not have the layout of its frame or stands out of place; where the sheet has no line #, its last set has no 06. \
+              Nothing from there on was checked, so do not load the sheet: correct the line and check again.",
             f,
             out,
             at,
@@ -295,7 +172,8 @@ fn put_stopped(f: &[u8], out: &mut [u8], at: usize) -> usize
     }
     if n == 2 {
         return fill(
-            b"The sheet stops at line # with number 2 (unknown site): the site on it is made from a site that does not stand before it in its set. Nothing from there on was checked, so do not load the sheet: put the missing 02 line before it, or correct the number, and check again.",
+            b"The sheet stops at line # with number 2 (unknown site): the site on it is made from a site that does not stand before it in its set. \
+              Nothing from there on was checked, so do not load the sheet: put the missing 02 line before it, or correct the number, and check again.",
             f,
             out,
             at,
@@ -303,7 +181,9 @@ fn put_stopped(f: &[u8], out: &mut [u8], at: usize) -> usize
     }
     if n == 7 {
         return fill(
-            b"The sheet stops at line # with number 7 (a limit is passed): the line makes more than 64 sets, a term above 255, more than 1,024 sites in a set or more than 8 sources of a site. Nothing from there on was checked, so do not load the sheet: make the sheet, the set or the site smaller, or the term's number lower, and check again.",
+            b"The sheet stops at line # with number 7 (a limit is passed): the line makes more than 64 sets, a term above 255, more than 1,024 sites in \
+              a set or more than 8 sources of a site. Nothing from there on was checked, so do not load the sheet: make the sheet, the set or the site \
+              smaller, or the term's number lower, and check again.",
             f,
             out,
             at,
@@ -311,14 +191,17 @@ fn put_stopped(f: &[u8], out: &mut [u8], at: usize) -> usize
     }
     if n == 9 {
         return fill(
-            b"The sheet stops at line # with number 9 (repeated): the site on it stands in its set already, or its term has a set already. Nothing from there on was checked, so do not load the sheet: take the second site out (those after it then count one lower), or make one set of the two, and check again.",
+            b"The sheet stops at line # with number 9 (repeated): the site on it stands in its set already, or its term has a set already. Nothing from \
+              there on was checked, so do not load the sheet: take the second site out (those after it then count one lower), or make one set of the \
+              two, and check again.",
             f,
             out,
             at,
         );
     }
     fill(
-        b"The sheet stops at line # with number ^, a reason that this program has no words for. Read it with the program that wrote it, and do not load the sheet.",
+        b"The sheet stops at line # with number ^, a reason that this program has no words for. Read it with the program that wrote it, and do not load \
+          the sheet.",
         f,
         out,
         at,
@@ -331,7 +214,8 @@ fn put_ended(f: &[u8], clean: bool, out: &mut [u8], at: usize) -> usize
 {
     if clean {
         return fill(
-            b"The sheet was read to its end: @ set{ with $ kept rule} in all. Nothing was found: no rule is refused, none hides another or may fit the same page at the same priority (sets marked multi are not compared), and no term calls itself without rec.",
+            b"The sheet was read to its end: @ set{ with $ kept rule} in all. Nothing was found: no rule is refused, none hides another or may fit the \
+              same page at the same priority (sets marked multi are not compared), and no term calls itself without rec.",
             f,
             out,
             at,
@@ -350,7 +234,8 @@ fn put_term(f: &[u8], out: &mut [u8], at: usize) -> usize
     ensures { λ r. ⌜ (now (out .exit), r) ≡ wrote (now (out .entry), at) (filled (now (f .entry)) calls-itself) ⌝ }
 {
     fill(
-        b"Term @ calls itself, directly or through other terms, and its set is not marked rec, so one page could keep the box going round without end. Break the circle, or mark the set rec (2 in the flags of its 01 line) if this is meant.",
+        b"Term @ calls itself, directly or through other terms, and its set is not marked rec, so one page could keep the box going round without end. \
+          Break the circle, or mark the set rec (2 in the flags of its 01 line) if this is meant.",
         f,
         out,
         at,
@@ -362,7 +247,8 @@ fn put_unknown(f: &[u8], out: &mut [u8], at: usize) -> usize
     ensures { λ r. ⌜ (now (out .exit), r) ≡ wrote (now (out .entry), at) (filled (now (f .entry)) not-known) ⌝ }
 {
     fill(
-        b"This line is not a finding that this program knows (its first byte is ~ in decimal). See that the line is whole and was written by a program of the same release.",
+        b"This line is not a finding that this program knows (its first byte is ~ in decimal). See that the line is whole and was written by a program \
+          of the same release.",
         f,
         out,
         at,
@@ -376,25 +262,29 @@ fn put_explained(f: &[u8], clean: bool, out: &mut [u8], at: usize) -> usize
     match s {
         Shape::Refused => put_refused(f, out, at),
         Shape::OverlapTwo => fill(
-            b"Rule % and rule * may both fit one page and have the same priority, so nothing says which of them the printer follows. Give one of them the higher priority, or make them ask for different things.",
+            b"Rule % and rule * may both fit one page and have the same priority, so nothing says which of them the printer follows. Give one of them \
+              the higher priority, or make them ask for different things.",
             f,
             out,
             at,
         ),
         Shape::OverlapMore => fill(
-            b"Rule % may fit the same page as any of the rules *, and all have the same priority, so nothing says which of them the printer follows there. Give rule % another priority than theirs, or make it ask for something different.",
+            b"Rule % may fit the same page as any of the rules *, and all have the same priority, so nothing says which of them the printer follows \
+              there. Give rule % another priority than theirs, or make it ask for something different.",
             f,
             out,
             at,
         ),
         Shape::MaskOne => fill(
-            b"Rule # hides rule *: every page that rule * takes is taken by rule # first, because rule # has the higher priority and asks for no more. What rule * adds (a hazard line, say) is never printed. Give rule * the higher priority, or narrow rule #.",
+            b"Rule # hides rule *: every page that rule * takes is taken by rule # first, because rule # has the higher priority and asks for no more. \
+              What rule * adds (a hazard line, say) is never printed. Give rule * the higher priority, or narrow rule #.",
             f,
             out,
             at,
         ),
         Shape::MaskMore => fill(
-            b"Rule # hides the rules *: every page that one of them takes is taken by rule # first, because rule # has the higher priority and asks for no more. What they add (a hazard line, say) is never printed. Give them a higher priority than rule #, or narrow rule #.",
+            b"Rule # hides the rules *: every page that one of them takes is taken by rule # first, because rule # has the higher priority and asks for \
+              no more. What they add (a hazard line, say) is never printed. Give them a higher priority than rule #, or narrow rule #.",
             f,
             out,
             at,
@@ -420,7 +310,8 @@ fn end_line(out: &mut [u8], at: usize) -> Room
 
 // The finding as a line of English, from `at` on. `clean`: nothing was found before it. A room that is too short keeps as much as it holds.
 pub fn explain(f: &[u8], clean: bool, out: &mut [u8], at: usize) -> Room
-    ensures { λ r. ⌜ (r ≡ room-said (now (out .entry)) at (said clean (now (f .entry)))) × (now (out .exit) ≡ wrote (now (out .entry), at) (said clean (now (f .entry))) .0) ⌝ }
+    ensures { λ r. let line = said clean (now (f .entry)) in
+        ⌜ (r ≡ room-said (now (out .entry)) at line) × (now (out .exit) ≡ wrote (now (out .entry), at) line .0) ⌝ }
 {
     let k = put_explained(f, clean, out, at);
     end_line(out, k)

@@ -24,13 +24,12 @@ use Rattle.sites.specs.declared.Unfolded.the-variants.{Bytes, Refused}
 use Rattle.sites.specs.Slots.{sites-in, unfolded-as, after-unfold, put}
 use Rattle.sites.proofs.Places.{sites-length}
 use Rattle.sites.proofs.Unfolds.{put-front}
-use Rattle.sheet_findings.specs.Written.{digits-of}
+use Rattle.sheet_digits.specs.Digits.{digits-of}
 use Rattle.rule_words.specs.Packing.{narrow}
-use Rattle.rule_words.specs.Packing as K
-use Rattle.rule_words.specs.Stored.{kept-in, kept-at, base, run, constrained-at, equal-at, constraint-at, place-at, count-at}
+use Rattle.rule_words.specs.Stored.{kept-in, kept-at, base, run, constrained-at, equal-at, place-at, rank-at, constrained-count, equal-count}
 use Rattle.tell_text.specs.Written.{Room, wrote, after, follows, nothing}
 use Rattle.tell_text.specs.Decimal.{decimal}
-use Rattle.tell_text.proofs.Laws.{digits-after}
+use Rattle.sheet_digits.proofs.DigitLaws.{digits-append}
 use Rattle.tell_kept.specs.Listed.{or-over, site-text, c-line, c-lines, member-text, members, class-line, classes, head-text, total-line, kept-lines, told-text, refused-line, overlap-word, pair-line, set-line, terms-text, cyclic-line}
 
 -- ---- one text after the other
@@ -65,7 +64,7 @@ bytes-told (refused x) u k room out e g h = absurd (let z : _≡_ {A = ℕ} 0 1 
 pub int-put : (p q r s : Room) (ty high low : ℕ) → q ≡ wrote p (digits-of (3 ∷ two ty)) → r ≡ wrote q (digits-of (eight high)) → s ≡ wrote r (digits-of (eight low)) → s ≡ wrote p (digits-of (constraint-body (ConstInt ty high low)))
 unfolding constraint-body
 int-put p q r s ty high low e f g =
-    let d : digits-of ((3 ∷ two ty) ++ (eight high ++ eight low)) ≡ digits-of (3 ∷ two ty) ++ (digits-of (eight high) ++ digits-of (eight low)) = digits-after (3 ∷ two ty) (eight high ++ eight low) ∙ ap (λ z. digits-of (3 ∷ two ty) ++ z) (digits-after (eight high) (eight low)) in
+    let d : digits-of ((3 ∷ two ty) ++ (eight high ++ eight low)) ≡ digits-of (3 ∷ two ty) ++ (digits-of (eight high) ++ digits-of (eight low)) = digits-append (3 ∷ two ty) (eight high ++ eight low) ∙ ap (λ z. digits-of (3 ∷ two ty) ++ z) (digits-append (eight high) (eight low)) in
     chain3 p q r s (digits-of (3 ∷ two ty)) (digits-of (eight high)) (digits-of (eight low)) e f g ∙ ap (λ z. wrote p z) (sym d)
 
 pub constraint-put : (p q : Room) (c d : Constraint) → d ≡ c → q ≡ wrote p (digits-of (constraint-body c)) → q ≡ wrote p (digits-of (constraint-body d))
@@ -93,24 +92,20 @@ module _ {A : Type 0} (w : List A → List ℕ) (one : A → List ℕ) (f : ℕ 
   lines-done c p q i h e = nothing q ∙ (ap (λ z. wrote q z) (sym (ap w (run-none f i k h) ∙ c)) ∙ e)
 
 -- ---- constrained sites
-pub c-put : (p q r s t u : Room) (m : Sites) (ws : List ℕ) (at x a b d : ℕ) (c : Constraint) → x ≡ getD ws at 0 → a ≡ getD ws (at + 1) 0 → b ≡ getD ws (at + 2) 0 → d ≡ getD ws (at + 3) 0 → c ≡ narrow (K.unpack a b d) → q ≡ wrote p (unended " c ") → r ≡ wrote q (site-text m x) → s ≡ wrote r (unended " ") → t ≡ wrote s (digits-of (constraint-body c)) → u ≡ wrote t (10 ∷ []) → u ≡ wrote p (c-line m (getD ws at 0) (constraint-at ws (at + 1)))
-unfolding c-line constraint-at
-c-put p q r s t u m ws at x a b d c ex ea eb ed ec e f g h i =
-    let two-on : at + 1 + 1 ≡ at + 2 = omega arith in
-    let three-on : at + 1 + 2 ≡ at + 3 = omega arith in
-    let n : c ≡ narrow (K.unpack (getD ws (at + 1) 0) (getD ws (at + 1 + 1) 0) (getD ws (at + 1 + 2) 0)) = rw (two-on, three-on, sym ea, sym eb, sym ed) ec in
-    chain5 p q r s t u (unended " c ") (site-text m (getD ws at 0)) (unended " ") (digits-of (constraint-body (narrow (K.unpack (getD ws (at + 1) 0) (getD ws (at + 1 + 1) 0) (getD ws (at + 1 + 2) 0))))) (10 ∷ [])
-    e (f ∙ ap (λ z. wrote q (site-text m z)) ex) g (h ∙ ap (λ z. wrote s (digits-of (constraint-body z))) n) i
+pub c-put : (p q r s t u : Room) (m : Sites) (ws : List ℕ) (b k x : ℕ) (c : Constraint) → x ≡ constrained-at ws b k .0 → c ≡ narrow (constrained-at ws b k .1)
+    → q ≡ wrote p (unended " c ") → r ≡ wrote q (site-text m x) → s ≡ wrote r (unended " ") → t ≡ wrote s (digits-of (constraint-body c)) → u ≡ wrote t (10 ∷ [])
+    → u ≡ wrote p (c-line m (constrained-at ws b k .0) (constrained-at ws b k .1))
+unfolding c-line
+c-put p q r s t u m ws b k x c ex ec e f g h i =
+    chain5 p q r s t u (unended " c ") (site-text m (constrained-at ws b k .0)) (unended " ") (digits-of (constraint-body (narrow (constrained-at ws b k .1)))) (10 ∷ [])
+    e (f ∙ ap (λ z. wrote q (site-text m z)) ex) g (h ∙ ap (λ z. wrote s (digits-of (constraint-body z))) ec) i
 
 c-cons : (m : Sites) (a : ℕ × Constraint) (s : List (ℕ × Constraint)) → c-lines m (a ∷ s) ≡ c-line m (a .0) (a .1) ++ c-lines m s
 unfolding c-lines
 c-cons m a s = refl
 
-pub c-turn : (p q r : Room) (m : Sites) (ws : List ℕ) (b k i : ℕ) → i < k → wrote q (c-lines m (run (constrained-at ws b) i (k - i))) ≡ wrote p (c-lines m (run (constrained-at ws b) 0 k)) → r ≡ wrote q (c-line m (getD ws (b + 4 + 4 * i) 0) (constraint-at ws (b + 4 + 4 * i + 1))) → wrote r (c-lines m (run (constrained-at ws b) (i + 1) (k - (i + 1)))) ≡ wrote p (c-lines m (run (constrained-at ws b) 0 k))
-unfolding constrained-at
-c-turn p q r m ws b k i h e g =
-    let n : b + 4 + 4 * i + 1 ≡ b + 5 + 4 * i = omega arith in
-    lines-turn (c-lines m) (λ x. c-line m (x .0) (x .1)) (constrained-at ws b) k (c-cons m) p q r i h e (g ∙ ap (λ z. wrote q (c-line m (getD ws (b + 4 + 4 * i) 0) (constraint-at ws z))) n)
+pub c-turn : (p q r : Room) (m : Sites) (ws : List ℕ) (b k i : ℕ) → i < k → wrote q (c-lines m (run (constrained-at ws b) i (k - i))) ≡ wrote p (c-lines m (run (constrained-at ws b) 0 k)) → r ≡ wrote q (c-line m (constrained-at ws b i .0) (constrained-at ws b i .1)) → wrote r (c-lines m (run (constrained-at ws b) (i + 1) (k - (i + 1)))) ≡ wrote p (c-lines m (run (constrained-at ws b) 0 k))
+c-turn p q r m ws b k i = lines-turn (c-lines m) (λ x. c-line m (x .0) (x .1)) (constrained-at ws b) k (c-cons m) p q r i
 
 pub c-done : (p q : Room) (m : Sites) (ws : List ℕ) (b k i : ℕ) → k ≤ i → wrote q (c-lines m (run (constrained-at ws b) i (k - i))) ≡ wrote p (c-lines m (run (constrained-at ws b) 0 k)) → q ≡ wrote p (c-lines m (run (constrained-at ws b) 0 k))
 unfolding c-lines
@@ -129,13 +124,8 @@ member-cons : (m : Sites) (low : ℕ) (a : ℕ × ℕ) (s : List (ℕ × ℕ)) �
 unfolding members
 member-cons m low a s = refl
 
-equal-next : (b i : ℕ) → b + 132 + 2 * i + 1 ≡ b + 132 + 1 + 2 * i
-equal-next b i = omega arith
-
-pub member-turn : (p q r : Room) (m : Sites) (low : ℕ) (ws : List ℕ) (b k i : ℕ) → i < k → wrote q (members m low (run (equal-at ws b) i (k - i))) ≡ wrote p (members m low (run (equal-at ws b) 0 k)) → r ≡ wrote q (member-text m low (getD ws (b + 132 + 2 * i) 0) (getD ws (b + 132 + 2 * i + 1) 0)) → wrote r (members m low (run (equal-at ws b) (i + 1) (k - (i + 1)))) ≡ wrote p (members m low (run (equal-at ws b) 0 k))
-unfolding equal-at
-member-turn p q r m low ws b k i h e g =
-    lines-turn (members m low) (λ x. member-text m low (x .0) (x .1)) (equal-at ws b) k (member-cons m low) p q r i h e (g ∙ ap (λ z. wrote q (member-text m low (getD ws (b + 132 + 2 * i) 0) (getD ws z 0))) (equal-next b i))
+pub member-turn : (p q r : Room) (m : Sites) (low : ℕ) (ws : List ℕ) (b k i : ℕ) → i < k → wrote q (members m low (run (equal-at ws b) i (k - i))) ≡ wrote p (members m low (run (equal-at ws b) 0 k)) → r ≡ wrote q (member-text m low (equal-at ws b i .0) (equal-at ws b i .1)) → wrote r (members m low (run (equal-at ws b) (i + 1) (k - (i + 1)))) ≡ wrote p (members m low (run (equal-at ws b) 0 k))
+member-turn p q r m low ws b k i = lines-turn (members m low) (λ x. member-text m low (x .0) (x .1)) (equal-at ws b) k (member-cons m low) p q r i
 
 pub member-done : (p q : Room) (m : Sites) (low : ℕ) (ws : List ℕ) (b k i : ℕ) → k ≤ i → wrote q (members m low (run (equal-at ws b) i (k - i))) ≡ wrote p (members m low (run (equal-at ws b) 0 k)) → q ≡ wrote p (members m low (run (equal-at ws b) 0 k))
 unfolding members
@@ -153,10 +143,8 @@ class-cons : (m : Sites) (all : List (ℕ × ℕ)) (a : ℕ × ℕ) (s : List (�
 unfolding classes
 class-cons m all a s = refl
 
-pub class-turn : (p q r : Room) (m : Sites) (all : List (ℕ × ℕ)) (ws : List ℕ) (b k i : ℕ) → i < k → wrote q (classes m all (run (equal-at ws b) i (k - i))) ≡ wrote p (classes m all (run (equal-at ws b) 0 k)) → r ≡ wrote q (class-line m all (getD ws (b + 132 + 2 * i) 0) (getD ws (b + 132 + 2 * i + 1) 0)) → wrote r (classes m all (run (equal-at ws b) (i + 1) (k - (i + 1)))) ≡ wrote p (classes m all (run (equal-at ws b) 0 k))
-unfolding equal-at
-class-turn p q r m all ws b k i h e g =
-    lines-turn (classes m all) (λ x. class-line m all (x .0) (x .1)) (equal-at ws b) k (class-cons m all) p q r i h e (g ∙ ap (λ z. wrote q (class-line m all (getD ws (b + 132 + 2 * i) 0) (getD ws z 0))) (equal-next b i))
+pub class-turn : (p q r : Room) (m : Sites) (all : List (ℕ × ℕ)) (ws : List ℕ) (b k i : ℕ) → i < k → wrote q (classes m all (run (equal-at ws b) i (k - i))) ≡ wrote p (classes m all (run (equal-at ws b) 0 k)) → r ≡ wrote q (class-line m all (equal-at ws b i .0) (equal-at ws b i .1)) → wrote r (classes m all (run (equal-at ws b) (i + 1) (k - (i + 1)))) ≡ wrote p (classes m all (run (equal-at ws b) 0 k))
+class-turn p q r m all ws b k i = lines-turn (classes m all) (λ x. class-line m all (x .0) (x .1)) (equal-at ws b) k (class-cons m all) p q r i
 
 pub class-done : (p q : Room) (m : Sites) (all : List (ℕ × ℕ)) (ws : List ℕ) (b k i : ℕ) → k ≤ i → wrote q (classes m all (run (equal-at ws b) i (k - i))) ≡ wrote p (classes m all (run (equal-at ws b) 0 k)) → q ≡ wrote p (classes m all (run (equal-at ws b) 0 k))
 unfolding classes
@@ -205,18 +193,18 @@ pair-put p q r s t u ws i j a b x y o ea ex eb ey eo e f g h k =
     e (f ∙ ap (λ z. wrote q (digits-of (four z))) fx) g (h ∙ ap (λ z. wrote s (digits-of (four z))) fy) (k ∙ ap (λ z. wrote t (overlap-word z)) eo)
 
 -- ---- a kept rule
-pub kept-put : (p q r s t u : Room) (m : Sites) (ws : List ℕ) (i b x v pr n k tot : ℕ) → b ≡ base i → x ≡ place-at ws b → v ≡ getD ws (b + 1) 0 → pr ≡ rank v → n ≡ count-at ws (b + 2) → k ≡ count-at ws (b + 3) → tot ≡ total (kept-in ws i) → q ≡ wrote p (head-text x pr) → r ≡ wrote q (text " kept") → s ≡ wrote r (c-lines m (run (constrained-at ws b) 0 n)) → t ≡ wrote s (classes m (run (equal-at ws b) 0 k) (run (equal-at ws b) 0 k)) → u ≡ wrote t (total-line tot) → u ≡ wrote p (kept-lines m (kept-in ws i))
+pub kept-put : (p q r s t u : Room) (m : Sites) (ws : List ℕ) (i b x v pr n k tot : ℕ) → b ≡ base i → x ≡ place-at ws b → v ≡ rank-at ws b → pr ≡ rank v → n ≡ constrained-count ws b → k ≡ equal-count ws b → tot ≡ total (kept-in ws i) → q ≡ wrote p (head-text x pr) → r ≡ wrote q (text " kept") → s ≡ wrote r (c-lines m (run (constrained-at ws b) 0 n)) → t ≡ wrote s (classes m (run (equal-at ws b) 0 k) (run (equal-at ws b) 0 k)) → u ≡ wrote t (total-line tot) → u ≡ wrote p (kept-lines m (kept-in ws i))
 unfolding kept-lines kept-in kept-at
 kept-put p q r s t u m ws i b x v pr n k tot eb ex ev ep en ek et e f g h l =
     let a = base i in
     let fx : x ≡ place-at ws a = ex ∙ ap (place-at ws) eb in
     let fp : pr ≡ rank (getD ws (a + 1) 0) = ep ∙ (ap rank ev ∙ ap (λ z. rank (getD ws (z + 1) 0)) eb) in
-    let fn : n ≡ count-at ws (a + 2) = en ∙ ap (λ z. count-at ws (z + 2)) eb in
-    let fk : k ≡ count-at ws (a + 3) = ek ∙ ap (λ z. count-at ws (z + 3)) eb in
-    let es = run (equal-at ws a) 0 (count-at ws (a + 3)) in
+    let fn : n ≡ constrained-count ws a = en ∙ ap (λ z. constrained-count ws z) eb in
+    let fk : k ≡ equal-count ws a = ek ∙ ap (λ z. equal-count ws z) eb in
+    let es = run (equal-at ws a) 0 (equal-count ws a) in
     let fe : run (equal-at ws b) 0 k ≡ es = rw (eb, fk) in
-    let fc : run (constrained-at ws b) 0 n ≡ run (constrained-at ws a) 0 (count-at ws (a + 2)) = rw (eb, fn) in
-    chain5 p q r s t u (head-text (place-at ws a) (rank (getD ws (a + 1) 0))) (text " kept") (c-lines m (run (constrained-at ws a) 0 (count-at ws (a + 2)))) (classes m es es) (total-line (total (kept-in ws i)))
+    let fc : run (constrained-at ws b) 0 n ≡ run (constrained-at ws a) 0 (constrained-count ws a) = rw (eb, fn) in
+    chain5 p q r s t u (head-text (place-at ws a) (rank (getD ws (a + 1) 0))) (text " kept") (c-lines m (run (constrained-at ws a) 0 (constrained-count ws a))) (classes m es es) (total-line (total (kept-in ws i)))
     (rw (fx, fp) at e) f (g ∙ ap (λ z. wrote r (c-lines m z)) fc) (h ∙ ap (λ z. wrote s (classes m z z)) fe) (l ∙ ap (λ z. wrote t (total-line z)) et)
 
 -- ---- the bytes of an unfolding

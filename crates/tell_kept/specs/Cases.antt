@@ -10,7 +10,7 @@ use Rattle.paper.specs.Sites.{argument, all-sites}
 use Rattle.paper.specs.Rules.{total}
 use Rattle.paper.specs.Layout.{digit-of}
 use Rattle.paper.specs.Text.{text, sheet}
-use Rattle.sheet_findings.specs.Written.{digits-of}
+use Rattle.sheet_digits.specs.Digits.{digits-of}
 use Rattle.tell_text.specs.Decimal.{decimal, digits}
 use Rattle.tell_kept.specs.Listed.{site-text, c-line, c-lines, member-text, members, class-line, classes, head-text, total-line, kept-lines, told-text, refused-line, set-line, terms-text, cyclic-line}
 
@@ -34,6 +34,9 @@ two-circles : cyclic-line (7 ∷ 8 ∷ []) ≡ text "cyclic 0007 0008"
 unfolding all-listed
 two-circles = refl
 
-a-kept-rule : kept-lines (argument 0 ∷ argument 1 ∷ argument 2 ∷ []) (record { place = 10; priority = 1; constraints = (0, ConstInt 3 0 5) ∷ []; equals = (1, 1) ∷ (2, 1) ∷ [] }) ≡ sheet ("rule 0000000A 0000000000000001 kept" ∷ " c 0300 03000300000000000000000000000000000005" ∷ " e 0301 0302" ∷ " total 3" ∷ [])
+a-kept-rule :
+    kept-lines (argument 0 ∷ argument 1 ∷ argument 2 ∷ [])
+    (record { place = 10; priority = 1; constraints = (0, ConstInt 3 0 5) ∷ []; equals = (1, 1) ∷ (2, 1) ∷ [] })
+    ≡ sheet ("rule 0000000A 0000000000000001 kept" ∷ " c 0300 03000300000000000000000000000000000005" ∷ " e 0301 0302" ∷ " total 3" ∷ [])
 unfolding all-listed
 a-kept-rule = refl

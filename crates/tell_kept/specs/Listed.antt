@@ -13,7 +13,7 @@ use Rattle.paper.specs.Sites.{Sites, constraint-body, unfold-answer}
 use Rattle.paper.specs.Loading.{Kept}
 use Rattle.paper.specs.Rules.{may-overlap, total}
 use Rattle.paper.specs.Text.{unended, text}
-use Rattle.sheet_findings.specs.Written.{digits-of}
+use Rattle.sheet_digits.specs.Digits.{digits-of}
 use Rattle.rule_words.specs.Packing.{narrow}
 use Rattle.tell_text.specs.Decimal.{decimal}
 
@@ -57,7 +57,9 @@ unfoldable pub total-line : ℕ → List ℕ
 total-line n = unended " total " ++ (decimal n ++ (10 ∷ []))
 
 unfoldable pub kept-lines : Sites → Kept → List ℕ
-kept-lines t k = head-text (k .place) (k .priority) ++ (text " kept" ++ (c-lines t (k .constraints) ++ (classes t (k .equals) (k .equals) ++ total-line (total k))))
+kept-lines t k =
+    head-text (k .place) (k .priority)
+    ++ (text " kept" ++ (c-lines t (k .constraints) ++ (classes t (k .equals) (k .equals) ++ total-line (total k))))
 
 -- the number and what is told with it
 unfoldable pub told-text : List ℕ → List ℕ

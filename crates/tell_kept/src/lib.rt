@@ -2,24 +2,29 @@
 ghost use mathlib.Core.Path.{_≡_};
 ghost use Prim.Native.Nat.{ℕ, _+_, _*_, _≤_, _<_};
 ghost use mathlib.Core.List.{[], _∷_};
-ghost use lib.ListN.{getD, take};
+ghost use lib.ListN.{take};
 ghost use Rattle.paper.specs.Words.{flag};
-ghost use Rattle.paper.specs.Numbers.{told};
+ghost use Rattle.paper.specs.Numbers.{told, max-constrained, max-equal};
 ghost use Rattle.paper.specs.Sites.{constraint-body};
 ghost use Rattle.sites.specs.Slots.{sites-in};
-ghost use Rattle.sheet_findings.specs.Written.{digits-of};
-ghost use Rattle.rule_words.specs.Stored.{kept-in, run, constrained-at, equal-at, constraint-at};
+ghost use Rattle.sheet_digits.specs.Digits.{digits-of};
+ghost use Rattle.rule_words.specs.Stored.{kept-in, run, constrained-at, equal-at};
 ghost use Rattle.tell_text.specs.Written.{wrote};
 ghost use Rattle.tell_kept.specs.Listed.{site-text, c-line, c-lines, member-text, members, class-line, classes, head-text, total-line, kept-lines, told-text, refused-line, overlap-word, pair-line, set-line, terms-text, cyclic-line};
 use paper::Constraint;
 use paper::Overlap;
 use paper::Refusal;
 use paper::UNFOLDING;
-use rule_words::count;
+use rule_words::constrained;
+use rule_words::constraint_at;
+use rule_words::equal_at;
+use rule_words::equals;
+use rule_words::lowest_at;
 use rule_words::place;
+use rule_words::rank;
 use rule_words::ranked;
+use rule_words::site_at;
 use rule_words::start;
-use rule_words::word;
 use sites::Unfolded;
 use tell_text::put;
 use tell_text::put_decimal;
@@ -109,17 +114,25 @@ fn put_constraint(out: &mut [u8], at: usize, c: Constraint) -> usize
     }
 }
 
-// The constrained site whose words start at p.
-fn put_constrained(out: &mut [u8], at: usize, m: &[u8], n: u16, words: &[u64], p: usize) -> usize
-    requires { ⌜ p + 4 < 18446744073709551616 ⌝ }
-    ensures { λ r. ⌜ (now (out .exit), r) ≡ wrote (now (out .entry), at) (c-line (sites-in (now (m .entry)) n) (getD (now (words .entry)) p 0) (constraint-at (now (words .entry)) (p + 1))) ⌝ }
+// The constrained site k of the rule at b.
+fn put_constrained(
+    out: &mut [u8],
+    at: usize,
+    m: &[u8],
+    n: u16,
+    words: &[u64],
+    b: usize,
+    k: usize,
+) -> usize
+    requires { ⌜ (b + 1000000 < 18446744073709551616) × (k ≤ max-constrained) ⌝ }
+    ensures { λ r. let t = sites-in (now (m .entry)) n in let e = constrained-at (now (words .entry)) b k in
+        ⌜ (now (out .exit), r) ≡ wrote (now (out .entry), at) (c-line t (e .0) (e .1)) ⌝ }
 {
     let a = put_text(out, at, b" c ");
-    let b = put_site(out, a, m, n, word(words, p));
-    let d = put_text(out, b, b" ");
-    let c = rule_words::unpack(word(words, p + 1), word(words, p + 2), word(words, p + 3));
-    let e = put_constraint(out, d, c);
-    put_text(out, e, b"\n")
+    let d = put_site(out, a, m, n, site_at(words, b, k));
+    let e = put_text(out, d, b" ");
+    let f = put_constraint(out, e, constraint_at(words, b, k));
+    put_text(out, f, b"\n")
 }
 
 fn put_all_constrained(
@@ -131,37 +144,40 @@ fn put_all_constrained(
     b: usize,
     k: usize,
 ) -> usize
-    requires { ⌜ (b + 1000000 < 18446744073709551616) × (k ≤ 32) ⌝ }
-    ensures { λ r. ⌜ (now (out .exit), r) ≡ wrote (now (out .entry), at) (c-lines (sites-in (now (m .entry)) n) (run (constrained-at (now (words .entry)) b) 0 k)) ⌝ }
+    requires { ⌜ (b + 1000000 < 18446744073709551616) × (k ≤ max-constrained) ⌝ }
+    ensures { λ r. let t = sites-in (now (m .entry)) n in
+        ⌜ (now (out .exit), r) ≡ wrote (now (out .entry), at) (c-lines t (run (constrained-at (now (words .entry)) b) 0 k)) ⌝ }
 {
     let mut e = at;
     let mut i: usize = 0;
     while i < k {
-        let next = put_constrained(out, e, m, n, words, b + 4 + 4 * i);
+        let next = put_constrained(out, e, m, n, words, b, i);
         e = next;
         i += 1;
     }
     e
 }
 
-// The site whose words start at p, if `low` is the lowest of its class.
+// The equal site k of the rule at b, if `low` is the lowest of its class.
 fn put_member(
     out: &mut [u8],
     at: usize,
     m: &[u8],
     n: u16,
     words: &[u64],
-    p: usize,
+    b: usize,
+    k: usize,
     low: u64,
 ) -> usize
-    requires { ⌜ p + 1 < 18446744073709551616 ⌝ }
-    ensures { λ r. ⌜ (now (out .exit), r) ≡ wrote (now (out .entry), at) (member-text (sites-in (now (m .entry)) n) low (getD (now (words .entry)) p 0) (getD (now (words .entry)) (p + 1) 0)) ⌝ }
+    requires { ⌜ (b + 1000000 < 18446744073709551616) × (k ≤ max-equal) ⌝ }
+    ensures { λ r. let t = sites-in (now (m .entry)) n in let e = equal-at (now (words .entry)) b k in
+        ⌜ (now (out .exit), r) ≡ wrote (now (out .entry), at) (member-text t low (e .0) (e .1)) ⌝ }
 {
-    if word(words, p + 1) != low {
+    if lowest_at(words, b, k) != low {
         return at;
     }
     let a = put_text(out, at, b" ");
-    put_site(out, a, m, n, word(words, p))
+    put_site(out, a, m, n, equal_at(words, b, k))
 }
 
 fn put_members(
@@ -174,20 +190,21 @@ fn put_members(
     k: usize,
     low: u64,
 ) -> usize
-    requires { ⌜ (b + 1000000 < 18446744073709551616) × (k ≤ 32) ⌝ }
-    ensures { λ r. ⌜ (now (out .exit), r) ≡ wrote (now (out .entry), at) (members (sites-in (now (m .entry)) n) low (run (equal-at (now (words .entry)) b) 0 k)) ⌝ }
+    requires { ⌜ (b + 1000000 < 18446744073709551616) × (k ≤ max-equal) ⌝ }
+    ensures { λ r. let t = sites-in (now (m .entry)) n in
+        ⌜ (now (out .exit), r) ≡ wrote (now (out .entry), at) (members t low (run (equal-at (now (words .entry)) b) 0 k)) ⌝ }
 {
     let mut e = at;
     let mut i: usize = 0;
     while i < k {
-        let next = put_member(out, e, m, n, words, b + 132 + 2 * i, low);
+        let next = put_member(out, e, m, n, words, b, i, low);
         e = next;
         i += 1;
     }
     e
 }
 
-// The class whose lowest member's words start at p; nothing for another member.
+// The class whose lowest member is equal site i of the k of the rule at b; nothing for another member.
 fn put_class(
     out: &mut [u8],
     at: usize,
@@ -196,13 +213,14 @@ fn put_class(
     words: &[u64],
     b: usize,
     k: usize,
-    p: usize,
+    i: usize,
 ) -> usize
-    requires { ⌜ (b + 1000000 < 18446744073709551616) × (k ≤ 32) × (p + 1 < 18446744073709551616) ⌝ }
-    ensures { λ r. ⌜ (now (out .exit), r) ≡ wrote (now (out .entry), at) (class-line (sites-in (now (m .entry)) n) (run (equal-at (now (words .entry)) b) 0 k) (getD (now (words .entry)) p 0) (getD (now (words .entry)) (p + 1) 0)) ⌝ }
+    requires { ⌜ (b + 1000000 < 18446744073709551616) × (k ≤ max-equal) × (i ≤ max-equal) ⌝ }
+    ensures { λ r. let t = sites-in (now (m .entry)) n in let f = equal-at (now (words .entry)) b in
+        ⌜ (now (out .exit), r) ≡ wrote (now (out .entry), at) (class-line t (run f 0 k) (f i .0) (f i .1)) ⌝ }
 {
-    let low = word(words, p + 1);
-    if word(words, p) != low {
+    let low = lowest_at(words, b, i);
+    if equal_at(words, b, i) != low {
         return at;
     }
     let a = put_text(out, at, b" e");
@@ -219,13 +237,14 @@ fn put_classes(
     b: usize,
     k: usize,
 ) -> usize
-    requires { ⌜ (b + 1000000 < 18446744073709551616) × (k ≤ 32) ⌝ }
-    ensures { λ r. ⌜ (now (out .exit), r) ≡ wrote (now (out .entry), at) (classes (sites-in (now (m .entry)) n) (run (equal-at (now (words .entry)) b) 0 k) (run (equal-at (now (words .entry)) b) 0 k)) ⌝ }
+    requires { ⌜ (b + 1000000 < 18446744073709551616) × (k ≤ max-equal) ⌝ }
+    ensures { λ r. let t = sites-in (now (m .entry)) n in let all = run (equal-at (now (words .entry)) b) 0 k in
+        ⌜ (now (out .exit), r) ≡ wrote (now (out .entry), at) (classes t all all) ⌝ }
 {
     let mut e = at;
     let mut i: usize = 0;
     while i < k {
-        let next = put_class(out, e, m, n, words, b, k, b + 132 + 2 * i);
+        let next = put_class(out, e, m, n, words, b, k, i);
         e = next;
         i += 1;
     }
@@ -251,13 +270,14 @@ fn put_total(out: &mut [u8], at: usize, total: u64) -> usize
 
 // Rule i of the set's kept rules, over its n sites.
 pub fn put_kept(out: &mut [u8], at: usize, m: &[u8], n: u16, words: &[u64], i: u32) -> usize
-    ensures { λ r. ⌜ (now (out .exit), r) ≡ wrote (now (out .entry), at) (kept-lines (sites-in (now (m .entry)) n) (kept-in (now (words .entry)) i)) ⌝ }
+    ensures { λ r. let t = sites-in (now (m .entry)) n in
+        ⌜ (now (out .exit), r) ≡ wrote (now (out .entry), at) (kept-lines t (kept-in (now (words .entry)) i)) ⌝ }
 {
     let b = start(i);
-    let a = put_head(out, at, place(words, b), ranked(word(words, b + 1)));
+    let a = put_head(out, at, place(words, b), ranked(rank(words, b)));
     let c = put_text(out, a, b" kept\n");
-    let d = put_all_constrained(out, c, m, n, words, b, count(words, b + 2));
-    let e = put_classes(out, d, m, n, words, b, count(words, b + 3));
+    let d = put_all_constrained(out, c, m, n, words, b, constrained(words, b));
+    let e = put_classes(out, d, m, n, words, b, equals(words, b));
     put_total(out, e, overlap::total_constraints(words, i) as u64)
 }
 
@@ -273,7 +293,8 @@ fn overlap_word(out: &mut [u8], at: usize, o: Overlap) -> usize
 
 // The kept rules i and j.
 pub fn put_pair(out: &mut [u8], at: usize, words: &[u64], i: u32, j: u32) -> usize
-    ensures { λ r. ⌜ (now (out .exit), r) ≡ wrote (now (out .entry), at) (pair-line (kept-in (now (words .entry)) i) (kept-in (now (words .entry)) j)) ⌝ }
+    ensures { λ r. let ws = now (words .entry) in
+        ⌜ (now (out .exit), r) ≡ wrote (now (out .entry), at) (pair-line (kept-in ws i) (kept-in ws j)) ⌝ }
 {
     let a = put_text(out, at, b"pair ");
     let b = put_four(out, a, place(words, start(i)));

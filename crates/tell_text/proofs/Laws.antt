@@ -6,10 +6,10 @@ use native.Mathlib.Omega.{arith}
 use native.Mathlib.Numerals.{add-one}
 use lib.ListN.{length, getD, drop}
 use lib.Seq.{drop-cons}
-use borrow.Author.Tests.{lt-ltb, le-ltb}
 use Rattle.paper.specs.Words.{two, four, eight}
 use Rattle.paper.specs.Layout.{digit-of}
-use Rattle.sheet_findings.specs.Written.{digits-of}
+use Rattle.sheet_digits.specs.Digits.{digits-of}
+use Rattle.sheet_digits.proofs.DigitLaws.{digits-append}
 use Rattle.tell_text.specs.Written.{Room, wrote, after, follows, nothing}
 use Rattle.tell_text.specs.Decimal.{decimal, one-digit, more-digits}
 
@@ -39,19 +39,6 @@ pub all-put : (p q : Room) (s : List ℕ) (i : ℕ) → length s ≤ i → wrote
 all-put p q s i h e = nothing q ∙ (ap (λ t. wrote q t) (sym (drop-all s i h)) ∙ e)
 
 -- ---- hexadecimal digits
-pub digits-after : (a b : List ℕ) → digits-of (a ++ b) ≡ digits-of a ++ digits-of b
-unfolding digits-of
-digits-after [] b = refl
-digits-after (x ∷ a) b = ap (λ s. digit-of (x / 16) ∷ digit-of (x % 16) ∷ s) (digits-after a b)
-
-pub low : (v : ℕ) → v < 10 → v + 48 ≡ digit-of v
-unfolding digit-of
-low v h = rw (lt-ltb v 10 h)
-
-pub high : (v : ℕ) → 10 ≤ v → v + 55 ≡ digit-of v
-unfolding digit-of
-high v h = rw (le-ltb v 10 h)
-
 pub byte-put : (p q r : Room) (b h l : ℕ) → h ≡ digit-of (b / 16) → l ≡ digit-of (b % 16) → q ≡ wrote p (h ∷ []) → r ≡ wrote q (l ∷ []) → r ≡ wrote p (digits-of (b ∷ []))
 unfolding digits-of
 byte-put p q r b h l e f g k = rw (e, f) at (follows p q r (h ∷ []) (l ∷ []) g k)
@@ -59,7 +46,7 @@ byte-put p q r b h l e f g k = rw (e, f) at (follows p q r (h ∷ []) (l ∷ [])
 pub byte-more : (p q r : Room) (s : List ℕ) (i : ℕ) → i < length s → wrote q (digits-of (drop i s)) ≡ wrote p (digits-of s) → r ≡ wrote q (digits-of (getD s i 0 ∷ [])) → wrote r (digits-of (drop (i + 1) s)) ≡ wrote p (digits-of s)
 byte-more p q r s i h e f =
     let d : (getD s i 0 ∷ []) ++ drop (i + 1) s ≡ drop i s = sym (rw add-one (drop-cons s i 0 h)) in
-    let t : digits-of (getD s i 0 ∷ []) ++ digits-of (drop (i + 1) s) ≡ digits-of (drop i s) = sym (digits-after (getD s i 0 ∷ []) (drop (i + 1) s)) ∙ ap digits-of d in
+    let t : digits-of (getD s i 0 ∷ []) ++ digits-of (drop (i + 1) s) ≡ digits-of (drop i s) = sym (digits-append (getD s i 0 ∷ []) (drop (i + 1) s)) ∙ ap digits-of d in
     ap (λ z. wrote z (digits-of (drop (i + 1) s))) f ∙ (after q (digits-of (getD s i 0 ∷ [])) (digits-of (drop (i + 1) s)) ∙ (ap (λ t. wrote q t) t ∙ e))
 
 pub all-bytes : (p q : Room) (s : List ℕ) (i : ℕ) → length s ≤ i → wrote q (digits-of (drop i s)) ≡ wrote p (digits-of s) → q ≡ wrote p (digits-of s)
@@ -73,4 +60,4 @@ unfolding eight
 eight-put p q r v e f =
     let a = four (v / 4294967296) in
     let b = four (v % 4294967296) in
-    follows p q r (digits-of a) (digits-of b) e f ∙ ap (λ s. wrote p s) (sym (digits-after a b))
+    follows p q r (digits-of a) (digits-of b) e f ∙ ap (λ s. wrote p s) (sym (digits-append a b))

@@ -70,7 +70,9 @@ unfolding wrote
 reaches [] m at h = omega arith
 reaches (b ∷ s) m at h = go (ltb at (length m)) refl (reaches s (set m at b) (suc at))
   where
-    go : (t : Bool) → ltb at (length m) ≡ t → (length (set m at b) ≤ suc at + length s → length (foldl with-byte (set m at b, suc at) s .0) ≤ foldl with-byte (set m at b, suc at) s .1) → length (foldl with-byte (with-byte (m, at) b) s .0) ≤ foldl with-byte (with-byte (m, at) b) s .1
+    go : (t : Bool) → ltb at (length m) ≡ t
+        → (length (set m at b) ≤ suc at + length s → length (foldl with-byte (set m at b, suc at) s .0) ≤ foldl with-byte (set m at b, suc at) s .1)
+        → length (foldl with-byte (with-byte (m, at) b) s .0) ≤ foldl with-byte (with-byte (m, at) b) s .1
     go true e f =
         let l : length (set m at b) ≤ suc at + length s = rw length-set (omega arith) in
         let k : at + 1 ≡ suc at = omega arith in

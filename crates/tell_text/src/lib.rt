@@ -1,12 +1,11 @@
 // Words, decimal and hexadecimal numbers into lent room. What passes the end of the room is left out; each call answers where the next one goes on.
 ghost use mathlib.Core.Path.{_≡_};
 ghost use mathlib.Core.List.{List, [], _∷_};
-ghost use Prim.Native.Nat.{_<_};
 ghost use Rattle.paper.specs.Words.{two, four, eight};
-ghost use Rattle.paper.specs.Layout.{digit-of};
-ghost use Rattle.sheet_findings.specs.Written.{digits-of};
+ghost use Rattle.sheet_digits.specs.Digits.{digits-of};
 ghost use Rattle.tell_text.specs.Written.{wrote};
 ghost use Rattle.tell_text.specs.Decimal.{decimal};
+use sheet_digits::digit;
 
 pub fn put(out: &mut [u8], at: usize, b: u8) -> usize
     ensures { λ r. ⌜ (now (out .exit), r) ≡ wrote (now (out .entry), at) (b ∷ []) ⌝ }
@@ -43,16 +42,7 @@ pub fn put_decimal(out: &mut [u8], at: usize, n: u64) -> usize
     put(out, k, digit)
 }
 
-fn digit(v: u8) -> u8
-    requires { ⌜ v < 16 ⌝ }
-    ensures { λ r. ⌜ r ≡ digit-of v ⌝ }
-{
-    if v < 10 {
-        return v + 48;
-    }
-    v + 55
-}
-
+// A byte, two digits.
 fn put_byte(out: &mut [u8], at: usize, b: u8) -> usize
     ensures { λ r. ⌜ (now (out .exit), r) ≡ wrote (now (out .entry), at) (digits-of (b ∷ [])) ⌝ }
 {

@@ -21,79 +21,54 @@ Inv-loop words₀ b sites shapes n k₀ words k = (k ≤ n) × (words ≡ put-co
 abbrev μ-loop : tie.MeasureT-loop
 μ-loop words₀ b sites shapes n k₀ words k = n - k
 
--- src/lib.rt:234:5
 loop-holds : tie.Need-loop-holds Inv-loop μ-loop
 loop-holds c = (omega arith, constrained-none _ _ _ _)
 
--- src/lib.rt:235:13
 site-requires : tie.Need-site-requires Inv-loop μ-loop
 site-requires c κs = search needs
 
--- src/lib.rt:236:32
 mul-word : tie.Need-mul-word Inv-loop μ-loop
 mul-word c = search needs
 
--- src/lib.rt:236:13
 word-requires : tie.Need-word-requires Inv-loop μ-loop
 word-requires c κs = search needs
 
--- src/lib.rt:237:32
 mul-word-2 : tie.Need-mul-word-2 Inv-loop μ-loop
 mul-word-2 c = search needs
 
--- src/lib.rt:237:32
 add-word : tie.Need-add-word Inv-loop μ-loop
 add-word c = search needs
 
--- src/lib.rt:237:13
 word-requires-2 : tie.Need-word-requires-2 Inv-loop μ-loop
 word-requires-2 c κs = search needs
 
--- src/lib.rt:238:34
 mul-word-3 : tie.Need-mul-word-3 Inv-loop μ-loop
 mul-word-3 c = search needs
 
--- src/lib.rt:238:34
 add-word-2 : tie.Need-add-word-2 Inv-loop μ-loop
 add-word-2 c = search needs
 
--- src/lib.rt:238:13
 word-requires-3 : tie.Need-word-requires-3 Inv-loop μ-loop
 word-requires-3 c κs = search needs
 
--- src/lib.rt:239:25
-add-put-four : tie.Need-add-put-four Inv-loop μ-loop
-add-put-four c = search needs
+constrained-start-requires : tie.Need-constrained-start-requires Inv-loop μ-loop
+constrained-start-requires c κs = search needs
 
--- src/lib.rt:239:33
-mul-put-four : tie.Need-mul-put-four Inv-loop μ-loop
-mul-put-four c = search needs
-
--- src/lib.rt:239:25
-add-put-four-2 : tie.Need-add-put-four-2 Inv-loop μ-loop
-add-put-four-2 c = search needs
-
--- src/lib.rt:239:9
 put-four-requires : tie.Need-put-four-requires Inv-loop μ-loop
 put-four-requires c κs = search needs
 
--- src/lib.rt:240:9
 add-k : tie.Need-add-k Inv-loop μ-loop
 add-k c = search needs
 
--- src/lib.rt:234:5
 loop-less : tie.Need-loop-less Inv-loop μ-loop
 loop-less c = search needs
 
--- src/lib.rt:234:5
 loop-again : tie.Need-loop-again Inv-loop μ-loop
-loop-again c = (omega arith, constrained-turn _ _ _ _ _ _ _ _ _ _ _ (c .before .before .before .before .before .before .before .before .before .loop .inv .1) (c .before .before .before .before .before .before .before .site .ensures) (c .before .before .before .before .before .before .word .ensures) (c .before .before .before .before .before .word2 .ensures) (c .before .before .before .before .word3 .ensures) (c .before .before .put-four .ensures))
+loop-again c = (omega arith, constrained-turn _ _ _ _ _ _ _ _ _ _ _ _ (c .before .before .before .before .before .before .before .before .before .before .loop .inv .1) (c .before .before .before .before .before .before .before .before .site .ensures) (c .before .before .before .before .before .before .before .word .ensures) (c .before .before .before .before .before .before .word2 .ensures) (c .before .before .before .before .before .word3 .ensures) (c .before .before .before .constrained-start .ensures .0) (c .before .before .put-four .ensures))
 
--- src/lib.rt:229:1
 same-length : tie.Need-same-length Inv-loop μ-loop
 same-length c = ap length (c .before .loop .inv .1) ∙ constrained-length _ _ _ _ _
 
--- src/lib.rt:229:1
 returns : tie.Need-returns Inv-loop μ-loop
 returns c = upto (put-constrained _ _ _ _) _ _ _ (c .before .loop .inv .0) (c .loop-test .left) (c .before .loop .inv .1)
 
@@ -113,9 +88,7 @@ put-constrained-spec =
     mul-word-3
     add-word-2
     word-requires-3
-    add-put-four
-    mul-put-four
-    add-put-four-2
+    constrained-start-requires
     put-four-requires
     add-k
     loop-less

@@ -20,51 +20,33 @@ Inv-loop words₀ b equal low n k₀ words k = (k ≤ n) × (words ≡ put-equal
 abbrev μ-loop : tie.MeasureT-loop
 μ-loop words₀ b equal low n k₀ words k = n - k
 
--- src/lib.rt:250:5
 loop-holds : tie.Need-loop-holds Inv-loop μ-loop
 loop-holds c = (omega arith, equal-none _ _ _ _)
 
--- src/lib.rt:251:13
 site-requires : tie.Need-site-requires Inv-loop μ-loop
 site-requires c κs = search needs
 
--- src/lib.rt:252:13
 site-requires-2 : tie.Need-site-requires-2 Inv-loop μ-loop
 site-requires-2 c κs = search needs
 
--- src/lib.rt:253:24
-add-put-two : tie.Need-add-put-two Inv-loop μ-loop
-add-put-two c = search needs
+equal-start-requires : tie.Need-equal-start-requires Inv-loop μ-loop
+equal-start-requires c κs = search needs
 
--- src/lib.rt:253:42
-mul-put-two : tie.Need-mul-put-two Inv-loop μ-loop
-mul-put-two c = search needs
-
--- src/lib.rt:253:24
-add-put-two-2 : tie.Need-add-put-two-2 Inv-loop μ-loop
-add-put-two-2 c = search needs
-
--- src/lib.rt:253:9
 put-two-requires : tie.Need-put-two-requires Inv-loop μ-loop
 put-two-requires c κs = search needs
 
--- src/lib.rt:254:9
 add-k : tie.Need-add-k Inv-loop μ-loop
 add-k c = search needs
 
--- src/lib.rt:250:5
 loop-less : tie.Need-loop-less Inv-loop μ-loop
 loop-less c = search needs
 
--- src/lib.rt:250:5
 loop-again : tie.Need-loop-again Inv-loop μ-loop
-loop-again c = (omega arith, equal-turn _ _ _ _ _ _ _ _ _ (c .before .before .before .before .before .before .before .loop .inv .1) (c .before .before .before .before .before .site .ensures) (c .before .before .before .before .site2 .ensures) (c .before .before .put-two .ensures))
+loop-again c = (omega arith, equal-turn _ _ _ _ _ _ _ _ _ _ (c .before .before .before .before .before .before .before .before .loop .inv .1) (c .before .before .before .before .before .before .site .ensures) (c .before .before .before .before .before .site2 .ensures) (c .before .before .before .equal-start .ensures .0) (c .before .before .put-two .ensures))
 
--- src/lib.rt:245:1
 same-length : tie.Need-same-length Inv-loop μ-loop
 same-length c = ap length (c .before .loop .inv .1) ∙ equal-length _ _ _ _ _
 
--- src/lib.rt:245:1
 returns : tie.Need-returns Inv-loop μ-loop
 returns c = upto (put-equal _ _ _ _) _ _ _ (c .before .loop .inv .0) (c .loop-test .left) (c .before .loop .inv .1)
 
@@ -77,9 +59,7 @@ put-equal-spec =
     loop-holds
     site-requires
     site-requires-2
-    add-put-two
-    mul-put-two
-    add-put-two-2
+    equal-start-requires
     put-two-requires
     add-k
     loop-less

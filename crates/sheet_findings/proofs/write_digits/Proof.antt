@@ -1,13 +1,16 @@
 use mathlib.Core.Path.{_≡_, refl}
 use Prim.Native.Nat.{_≤_, _-_, _*_}
 use native.Mathlib.Omega.{arith}
-use lib.ListN.{length, length-set}
+use lib.ListN.{length}
 use lib.Seq.{paste}
 use denote.Ref.{now}
-use Rattle.sheet_findings.specs.Written.{digits-of}
+use Rattle.sheet_digits.specs.Digits.{digits-of}
 use Rattle.sheet_findings.proofs.Rooms.{none-written, byte-written, all-written}
 use Rattle.sheet_findings.proofs.write_digits.Statement.{statement}
 use Rattle.sheet_findings.proofs.write_digits.Tie as tie
+use Rattle.sheet_findings.proofs.write_digits.Reads as reads
+use Rattle.sheet_findings.proofs.write_digits.Lts as lts
+use Rattle.sheet_digits.proofs.write_byte.Reads as write-byte-reads
 
 abbrev Inv-loop : tie.InvT-loop
 Inv-loop b out₀ at j₀ out j = (j ≤ length b) × (out ≡ paste out₀ at (digits-of b) (2 * j)) × (length out ≡ length out₀)
@@ -15,53 +18,45 @@ Inv-loop b out₀ at j₀ out j = (j ≤ length b) × (out ≡ paste out₀ at (
 abbrev μ-loop : tie.MeasureT-loop
 μ-loop b out₀ at j₀ out j = length b - j
 
+-- src/lib.rt:24:5
 loop-holds : tie.Need-loop-holds Inv-loop μ-loop
 loop-holds c = (omega arith, none-written (now (c .before .before .args .out)) (c .before .before .args .at) (now (c .before .before .args .b)), refl)
 
-shared-slice-read-x : tie.Need-shared-slice-read-x Inv-loop μ-loop
-shared-slice-read-x c = omega arith
+-- src/lib.rt:25:30
+mul-write-byte : tie.Need-mul-write-byte Inv-loop μ-loop
+mul-write-byte c = omega arith
 
-digit-of-requires : tie.Need-digit-of-requires Inv-loop μ-loop
-digit-of-requires c κs = omega (arith, c .shared-slice-known2 .given (c .before .before .loop .j))
+-- src/lib.rt:25:25
+add-write-byte : tie.Need-add-write-byte Inv-loop μ-loop
+add-write-byte c = omega arith
 
-mul-out : tie.Need-mul-out Inv-loop μ-loop
-mul-out c = omega arith
+-- src/lib.rt:25:37
+shared-slice-read-write-byte : tie.Need-shared-slice-read-write-byte Inv-loop μ-loop
+shared-slice-read-write-byte c = omega arith
 
-add-out : tie.Need-add-out Inv-loop μ-loop
-add-out c = omega arith
+-- src/lib.rt:25:9
+write-byte-requires : tie.Need-write-byte-requires Inv-loop μ-loop
+write-byte-requires c κs = omega arith
 
-slice-write-out : tie.Need-slice-write-out Inv-loop μ-loop
-slice-write-out c = omega arith
-
-digit-of-requires-2 : tie.Need-digit-of-requires-2 Inv-loop μ-loop
-digit-of-requires-2 c κs = omega arith
-
-mul-out-2 : tie.Need-mul-out-2 Inv-loop μ-loop
-mul-out-2 c = omega arith
-
-add-out-2 : tie.Need-add-out-2 Inv-loop μ-loop
-add-out-2 c = omega arith
-
-add-out-3 : tie.Need-add-out-3 Inv-loop μ-loop
-add-out-3 c = omega arith
-
-slice-write-out-2 : tie.Need-slice-write-out-2 Inv-loop μ-loop
-slice-write-out-2 c = simp length-set (omega arith)
-
+-- src/lib.rt:26:9
 add-j : tie.Need-add-j Inv-loop μ-loop
 add-j c = omega arith
 
+-- src/lib.rt:24:5
 loop-less : tie.Need-loop-less Inv-loop μ-loop
 loop-less c = omega arith
 
+-- src/lib.rt:24:5
 loop-again : tie.Need-loop-again Inv-loop μ-loop
-loop-again c = (omega arith, byte-written (now (c .before .before .before .before .before .before .before .args .out)) (c .before .before .before .before .before .before .before .args .at) (now (c .before .before .before .before .before .before .before .args .b)) (c .before .before .before .before .loop .j) (c .before .digit-of .result) (c .digit-of2 .result) (omega arith) (omega arith) (c .before .digit-of .ensures) (c .digit-of2 .ensures) (c .before .before .before .before .loop .out) (c .before .before .before .before .loop .inv .1), simp length-set (c .before .before .before .before .loop .inv .2))
+loop-again c = (omega arith, byte-written (now (c .before .before .before .before .before .before .before .before .before .args .out)) (c .before .before .before .before .before .before .before .before .before .args .at) (now (c .before .before .before .before .before .before .before .before .before .args .b)) (c .before .before .before .before .before .before .loop .j) (omega arith) (omega arith) _ _ (c .before .before .before .before .before .before .loop .inv .1) (c .before .before .write-byte .ensures), omega (arith, c .before .out .given, c .before .before .before .before .before .before .loop .inv .2))
 
+-- src/lib.rt:19:1
 same-length : tie.Need-same-length Inv-loop μ-loop
 same-length c = c .before .loop .inv .2
 
+-- src/lib.rt:19:1
 returns : tie.Need-returns Inv-loop μ-loop
-returns c = all-written (now (c .before .before .before .before .args .out)) (c .before .before .before .before .args .at) (now (c .before .before .before .before .args .b)) (c .before .loop .j) (omega arith) (c .before .loop .out) (c .before .loop .inv .1)
+returns c = all-written (now (c .before .before .before .before .args .out)) (c .before .before .before .before .args .at) (now (c .before .before .before .before .args .b)) (c .before .loop .j) (omega arith) _ (c .before .loop .inv .1)
 
 pub write-digits-spec : {M : Type 1} → statement M
 write-digits-spec =
@@ -70,16 +65,10 @@ write-digits-spec =
     Inv-loop
     μ-loop
     loop-holds
-    shared-slice-read-x
-    digit-of-requires
-    mul-out
-    add-out
-    slice-write-out
-    digit-of-requires-2
-    mul-out-2
-    add-out-2
-    add-out-3
-    slice-write-out-2
+    mul-write-byte
+    add-write-byte
+    shared-slice-read-write-byte
+    write-byte-requires
     add-j
     loop-less
     loop-again

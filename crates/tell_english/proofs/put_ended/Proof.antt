@@ -7,7 +7,7 @@ use Rattle.tell_english.proofs.put_ended.Statement.{statement}
 use Rattle.tell_english.proofs.put_ended.Tie as tie
 use Rattle.tell_english.proofs.put_ended.Reads as reads
 use Rattle.tell_english.proofs.put_ended.Lts as lts
-use Rattle.tell_english.proofs.fill.Reads as fill-reads
+use Rattle.tell_parts.proofs.fill.Reads as fill-reads
 
 -- src/lib.rt:325:13
 slice-aggregate-fill : tie.Need-slice-aggregate-fill

@@ -7,7 +7,7 @@ use Rattle.tell_english.proofs.put_explained.Statement.{statement}
 use Rattle.tell_english.proofs.put_explained.Tie as tie
 use Rattle.tell_english.proofs.put_explained.Reads as reads
 use Rattle.tell_english.proofs.put_explained.Lts as lts
-use Rattle.tell_english.proofs.fill.Reads as fill-reads
+use Rattle.tell_parts.proofs.fill.Reads as fill-reads
 use Rattle.tell_english.proofs.put_ended.Reads as put-ended-reads
 use Rattle.tell_english.proofs.put_refused.Reads as put-refused-reads
 use Rattle.tell_english.proofs.put_stopped.Reads as put-stopped-reads

@@ -7,8 +7,8 @@ use Rattle.tell_english.proofs.put_refused.Statement.{statement}
 use Rattle.tell_english.proofs.put_refused.Tie as tie
 use Rattle.tell_english.proofs.put_refused.Reads as reads
 use Rattle.tell_english.proofs.put_refused.Lts as lts
-use Rattle.tell_english.proofs.byte_at.Reads as byte-at-reads
-use Rattle.tell_english.proofs.fill.Reads as fill-reads
+use Rattle.tell_parts.proofs.byte_at.Reads as byte-at-reads
+use Rattle.tell_parts.proofs.fill.Reads as fill-reads
 use Rattle.tell_english.proofs.put_refused_last.Reads as put-refused-last-reads
 
 -- src/lib.rt:247:9

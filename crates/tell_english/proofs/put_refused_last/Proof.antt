@@ -7,7 +7,7 @@ use Rattle.tell_english.proofs.put_refused_last.Statement.{statement}
 use Rattle.tell_english.proofs.put_refused_last.Tie as tie
 use Rattle.tell_english.proofs.put_refused_last.Reads as reads
 use Rattle.tell_english.proofs.put_refused_last.Lts as lts
-use Rattle.tell_english.proofs.fill.Reads as fill-reads
+use Rattle.tell_parts.proofs.fill.Reads as fill-reads
 
 -- src/lib.rt:221:13
 slice-aggregate-fill : tie.Need-slice-aggregate-fill

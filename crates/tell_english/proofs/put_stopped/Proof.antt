@@ -7,8 +7,8 @@ use Rattle.tell_english.proofs.put_stopped.Statement.{statement}
 use Rattle.tell_english.proofs.put_stopped.Tie as tie
 use Rattle.tell_english.proofs.put_stopped.Reads as reads
 use Rattle.tell_english.proofs.put_stopped.Lts as lts
-use Rattle.tell_english.proofs.byte_at.Reads as byte-at-reads
-use Rattle.tell_english.proofs.fill.Reads as fill-reads
+use Rattle.tell_parts.proofs.byte_at.Reads as byte-at-reads
+use Rattle.tell_parts.proofs.fill.Reads as fill-reads
 
 -- src/lib.rt:278:9
 byte-at-requires : tie.Need-byte-at-requires

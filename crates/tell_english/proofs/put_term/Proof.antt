@@ -5,7 +5,7 @@ use Rattle.tell_english.proofs.put_term.Statement.{statement}
 use Rattle.tell_english.proofs.put_term.Tie as tie
 use Rattle.tell_english.proofs.put_term.Reads as reads
 use Rattle.tell_english.proofs.put_term.Lts as lts
-use Rattle.tell_english.proofs.fill.Reads as fill-reads
+use Rattle.tell_parts.proofs.fill.Reads as fill-reads
 
 -- src/lib.rt:353:9
 slice-aggregate-fill : tie.Need-slice-aggregate-fill

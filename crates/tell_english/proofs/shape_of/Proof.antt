@@ -5,9 +5,9 @@ use Rattle.tell_english.proofs.shape_of.Statement.{statement}
 use Rattle.tell_english.proofs.shape_of.Tie as tie
 use Rattle.tell_english.proofs.shape_of.Reads as reads
 use Rattle.tell_english.proofs.shape_of.Lts as lts
-use Rattle.tell_english.proofs.byte_at.Reads as byte-at-reads
+use Rattle.tell_parts.proofs.byte_at.Reads as byte-at-reads
 use Rattle.tell_english.proofs.listed.Reads as listed-reads
-use Rattle.tell_english.proofs.two_at.Reads as two-at-reads
+use Rattle.tell_parts.proofs.two_at.Reads as two-at-reads
 use Rattle.tell_english.proofs.when.Reads as when-reads
 
 -- src/lib.rt:191:9

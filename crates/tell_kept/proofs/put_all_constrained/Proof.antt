@@ -20,43 +20,24 @@ Inv-loop out₀ at m n words b k e₀ i₀ out e i = (length out ≡ length out�
 abbrev μ-loop : tie.MeasureT-loop
 μ-loop out₀ at m n words b k e₀ i₀ out e i = k - i
 
--- src/lib.rt:129:5
 loop-holds : tie.Need-loop-holds Inv-loop μ-loop
 loop-holds c = (search needs, search needs, c-start _ _ _ _ _)
 
--- src/lib.rt:130:57
-add-put-constrained : tie.Need-add-put-constrained Inv-loop μ-loop
-add-put-constrained c = search needs
-
--- src/lib.rt:130:65
-mul-put-constrained : tie.Need-mul-put-constrained Inv-loop μ-loop
-mul-put-constrained c = search needs
-
--- src/lib.rt:130:57
-add-put-constrained-2 : tie.Need-add-put-constrained-2 Inv-loop μ-loop
-add-put-constrained-2 c = search needs
-
--- src/lib.rt:130:13
 put-constrained-requires : tie.Need-put-constrained-requires Inv-loop μ-loop
 put-constrained-requires c κs = search needs
 
--- src/lib.rt:132:9
 add-i : tie.Need-add-i Inv-loop μ-loop
 add-i c = search needs
 
--- src/lib.rt:129:5
 loop-less : tie.Need-loop-less Inv-loop μ-loop
 loop-less c = search needs
 
--- src/lib.rt:129:5
 loop-again : tie.Need-loop-again Inv-loop μ-loop
 loop-again c = (search needs, search needs, c-turn _ _ _ _ _ _ _ _ (c .before .before .before .before .loop-test .taken) (c .before .before .before .before .before .loop .inv .2) (c .before .before .put-constrained .ensures))
 
--- src/lib.rt:115:1
 same-length : tie.Need-same-length Inv-loop μ-loop
 same-length c = search needs
 
--- src/lib.rt:115:1
 returns : tie.Need-returns Inv-loop μ-loop
 returns c = c-done _ _ _ _ _ _ _ (c .loop-test .left) (c .before .loop .inv .2)
 
@@ -67,9 +48,6 @@ put-all-constrained-spec =
     Inv-loop
     μ-loop
     loop-holds
-    add-put-constrained
-    mul-put-constrained
-    add-put-constrained-2
     put-constrained-requires
     add-i
     loop-less

@@ -20,43 +20,24 @@ Inv-loop out₀ at m n words b k e₀ i₀ out e i = (length out ≡ length out�
 abbrev μ-loop : tie.MeasureT-loop
 μ-loop out₀ at m n words b k e₀ i₀ out e i = k - i
 
--- src/lib.rt:227:5
 loop-holds : tie.Need-loop-holds Inv-loop μ-loop
 loop-holds c = (search needs, search needs, class-start _ _ _ _ _ _)
 
--- src/lib.rt:228:57
-add-put-class : tie.Need-add-put-class Inv-loop μ-loop
-add-put-class c = search needs
-
--- src/lib.rt:228:67
-mul-put-class : tie.Need-mul-put-class Inv-loop μ-loop
-mul-put-class c = search needs
-
--- src/lib.rt:228:57
-add-put-class-2 : tie.Need-add-put-class-2 Inv-loop μ-loop
-add-put-class-2 c = search needs
-
--- src/lib.rt:228:13
 put-class-requires : tie.Need-put-class-requires Inv-loop μ-loop
 put-class-requires c κs = search needs
 
--- src/lib.rt:230:9
 add-i : tie.Need-add-i Inv-loop μ-loop
 add-i c = search needs
 
--- src/lib.rt:227:5
 loop-less : tie.Need-loop-less Inv-loop μ-loop
 loop-less c = search needs
 
--- src/lib.rt:227:5
 loop-again : tie.Need-loop-again Inv-loop μ-loop
 loop-again c = (search needs, search needs, class-turn _ _ _ _ _ _ _ _ _ (c .before .before .before .before .loop-test .taken) (c .before .before .before .before .before .loop .inv .2) (c .before .before .put-class .ensures))
 
--- src/lib.rt:213:1
 same-length : tie.Need-same-length Inv-loop μ-loop
 same-length c = search needs
 
--- src/lib.rt:213:1
 returns : tie.Need-returns Inv-loop μ-loop
 returns c = class-done _ _ _ _ _ _ _ _ (c .loop-test .left) (c .before .loop .inv .2)
 
@@ -67,9 +48,6 @@ put-classes-spec =
     Inv-loop
     μ-loop
     loop-holds
-    add-put-class
-    mul-put-class
-    add-put-class-2
     put-class-requires
     add-i
     loop-less

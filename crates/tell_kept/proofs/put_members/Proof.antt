@@ -20,43 +20,24 @@ Inv-loop out₀ at m n words b k low e₀ i₀ out e i = (length out ≡ length 
 abbrev μ-loop : tie.MeasureT-loop
 μ-loop out₀ at m n words b k low e₀ i₀ out e i = k - i
 
--- src/lib.rt:172:5
 loop-holds : tie.Need-loop-holds Inv-loop μ-loop
 loop-holds c = (search needs, search needs, member-start _ _ _ _ _ _)
 
--- src/lib.rt:173:52
-add-put-member : tie.Need-add-put-member Inv-loop μ-loop
-add-put-member c = search needs
-
--- src/lib.rt:173:62
-mul-put-member : tie.Need-mul-put-member Inv-loop μ-loop
-mul-put-member c = search needs
-
--- src/lib.rt:173:52
-add-put-member-2 : tie.Need-add-put-member-2 Inv-loop μ-loop
-add-put-member-2 c = search needs
-
--- src/lib.rt:173:13
 put-member-requires : tie.Need-put-member-requires Inv-loop μ-loop
 put-member-requires c κs = search needs
 
--- src/lib.rt:175:9
 add-i : tie.Need-add-i Inv-loop μ-loop
 add-i c = search needs
 
--- src/lib.rt:172:5
 loop-less : tie.Need-loop-less Inv-loop μ-loop
 loop-less c = search needs
 
--- src/lib.rt:172:5
 loop-again : tie.Need-loop-again Inv-loop μ-loop
 loop-again c = (search needs, search needs, member-turn _ _ _ _ _ _ _ _ _ (c .before .before .before .before .loop-test .taken) (c .before .before .before .before .before .loop .inv .2) (c .before .before .put-member .ensures))
 
--- src/lib.rt:157:1
 same-length : tie.Need-same-length Inv-loop μ-loop
 same-length c = search needs
 
--- src/lib.rt:157:1
 returns : tie.Need-returns Inv-loop μ-loop
 returns c = member-done _ _ _ _ _ _ _ _ (c .loop-test .left) (c .before .loop .inv .2)
 
@@ -67,9 +48,6 @@ put-members-spec =
     Inv-loop
     μ-loop
     loop-holds
-    add-put-member
-    mul-put-member
-    add-put-member-2
     put-member-requires
     add-i
     loop-less

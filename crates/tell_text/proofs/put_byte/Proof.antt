@@ -4,7 +4,7 @@ use Rattle.tell_text.proofs.put_byte.Statement.{statement}
 use Rattle.tell_text.proofs.put_byte.Tie as tie
 use Rattle.tell_text.proofs.put_byte.Reads as reads
 use Rattle.tell_text.proofs.put_byte.Lts as lts
-use Rattle.tell_text.proofs.digit.Reads as digit-reads
+use Rattle.sheet_digits.proofs.digit.Reads as digit-reads
 use Rattle.tell_text.proofs.put.Reads as put-reads
 
 -- src/lib.rt:59:26

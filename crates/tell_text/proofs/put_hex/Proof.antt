@@ -3,7 +3,7 @@ use mathlib.Core.Path.{_≡_, refl}
 use lib.ListN.{length, drop}
 use native.Mathlib.Omega.{arith}
 use borrow.Author.Needs.{needs}
-use Rattle.sheet_findings.specs.Written.{digits-of}
+use Rattle.sheet_digits.specs.Digits.{digits-of}
 use Rattle.tell_text.specs.Written.{wrote}
 use Rattle.tell_text.proofs.Laws.{byte-more, all-bytes}
 use Rattle.tell_text.proofs.put_hex.Statement.{statement}
