@@ -15,7 +15,8 @@ use Rattle.paper.specs.Loading.{Set, Written, Kept, load}
 use Rattle.meaning.specs.RuleSites.{rule-sites, Four-or-six}
 use Rattle.meaning.specs.Answers as A
 
--- No finite input, of the set's sites and the children that the rule's items add, matches the rule as written. (Change request [5] puts its inputs in the place of `Input` here, and only here.)
+-- No finite input, of the set's sites and the children that the rule's items add, matches the rule as written.
+-- (Change request [5] puts its inputs in the place of `Input` here, and only here.)
 abbrev pub Unmatched : Set → Written → Type 0
 Unmatched g r = (at : Given) → Input (rule-sites g r) at → Matches at (r .items) → ⊥
 
@@ -29,7 +30,8 @@ abbrev pub Holds-equal : Kept → ℕ → ℕ → Type 0
 Holds-equal k a b = (low : ℕ) × (look (k .equals) a ≡ some low) × (look (k .equals) b ≡ some low)
 
 -- 1. Of rules that earn no other refusal: refused 4 or 6 ⇔ no finite input matches the written rule.
-pub demand-1 : (g : Set) (r : Written) → Sound (g .sites) → ((x : Refusal) → load g r ≡ refused x → Four-or-six x) → ((x : Refusal) × (load g r ≡ refused x) × Four-or-six x) ↔ Unmatched g r
+pub demand-1 : (g : Set) (r : Written) → Sound (g .sites) → ((x : Refusal) → load g r ≡ refused x → Four-or-six x) →
+    ((x : Refusal) × (load g r ≡ refused x) × Four-or-six x) ↔ Unmatched g r
 demand-1 g r S others = (λ e. A.refused-unmatched g r S (e .0) (e .1) (e .2), λ u. A.unmatched-refused g r S others u)
 
 module _ (g : Set) (r : Written) (h : Set) (k : Kept) (S : Sound (g .sites)) (K : Keeps g r h k) where

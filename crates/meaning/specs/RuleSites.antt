@@ -1,3 +1,4 @@
+-- Words of demand 3's statements (Demand3.antt): `rule-sites` and `Four-or-six`. Who reads demand 3 must believe these two.
 -- The sites that a rule speaks of: the set's, and the children that its constrained sites have got when its items are loaded. (Where an item is
 -- refused, the set's: if that is with 4, no values at all meet the items up to there.)
 use mathlib.Core.Path.{_≡_}

@@ -40,7 +40,8 @@ loaded-so m n ws k r g e =
     z .1 ∙ ap done (done-once (w .1))
 
 -- the rule that was kept is the set's last
-pub kept-last : (m : List ℕ) (n : ℕ) (ws : List ℕ) (k : ℕ) (r : Rule) (g : Set) → load-in m n ws k r ≡ done g → Keeps (set-in m n ws k) (written r) g (getD (g .kept) k no-rule)
+pub kept-last : (m : List ℕ) (n : ℕ) (ws : List ℕ) (k : ℕ) (r : Rule) (g : Set) → load-in m n ws k r ≡ done g →
+    Keeps (set-in m n ws k) (written r) g (getD (g .kept) k no-rule)
 unfolding with-rule set-in
 kept-last m n ws k r g e =
     let C = kept-comes m n ws k r g e in
@@ -72,7 +73,8 @@ module _ (m : List ℕ) (n : ℕ) (ws : List ℕ) (k : ℕ) (r : Rule) (S : Soun
     demand-2-in = demand-2 (set-in m n ws k) (written r) g rule sound (kept-last m n ws k r g e)
 
     -- 3. constrained exactly where forced
-    pub demand-3-in : (i : ℕ) (c : Constraint) → (look (rule .constraints) i ≡ some c) ↔ ((at : Given) → Input (g .sites) at → Matches at (written r .items) → Meets at i c)
+    pub demand-3-in : (i : ℕ) (c : Constraint) →
+        (look (rule .constraints) i ≡ some c) ↔ ((at : Given) → Input (g .sites) at → Matches at (written r .items) → Meets at i c)
     demand-3-in = demand-3 (set-in m n ws k) (written r) g rule sound (kept-last m n ws k r g e)
 
     -- 4. equal exactly where forced
