@@ -28,7 +28,7 @@ use Rattle.meaning.specs.Whole as H
 use Rattle.meaning.specs.Grow.{Full, full-of, input-part, input-more}
 use Rattle.meaning.specs.Joining.{Well, label-of}
 use Rattle.meaning.specs.Items.{begin-part, Went, load-part, items-clear}
-use Rattle.meaning.specs.RuleSites.{sites-left, rule-sites, Four-or-six}
+use Rattle.meaning.specs.RuleSites.{sites-left, rule-sites, Four-or-six, Only-four-or-six, Refused-four-or-six, Same-on}
 use Rattle.meaning.specs.Clear.{Clear, clear-done, clear-demand, clear-then}
 use Rattle.meaning.specs.Loads.{normalise-clear, ran, kept}
 use Rattle.meaning.specs.Rounds.{Ran}
@@ -148,7 +148,7 @@ module _ (g : Set) (r : Written) (h : Set) (k : Kept) (S : Sound (g .sites)) (l 
   rounds-grow = rw (E .sites-are) (R .extends)
 
   -- what the items ask hangs on their own sites
-  named-inside : (i : Item) → List·Memᴰ i (r .items) → (at at′ : Given) → ((n : ℕ) → n < length (l .sites) → at n ≡ at′ n) → MeetsItem at i → MeetsItem at′ i
+  named-inside : (i : Item) → List·Memᴰ i (r .items) → (at at′ : Given) → Same-on (l .sites) at at′ → MeetsItem at i → MeetsItem at′ i
   named-inside (Is n c) m at at′ same M =
       let P = went .part in
       let e = P .con-of n c m in
@@ -161,10 +161,10 @@ module _ (g : Set) (r : Written) (h : Set) (k : Kept) (S : Sound (g .sites)) (l 
       let q = same b (P .known b (w .1)) in
       record { value = M .value; one = sym p ∙ M .one; other = sym q ∙ M .other }
 
-  pub items-inside : (at at′ : Given) → ((n : ℕ) → n < length (l .sites) → at n ≡ at′ n) → Matches at (r .items) → Matches at′ (r .items)
+  pub items-inside : (at at′ : Given) → Same-on (l .sites) at at′ → Matches at (r .items) → Matches at′ (r .items)
   items-inside at at′ same M i m = named-inside i m at at′ same (M i m)
 
-  pub grow-input : (at : Given) → Input (l .sites) at → (at′ : Given) × Input (h .sites) at′ × ((n : ℕ) → n < length (l .sites) → at n ≡ at′ n)
+  pub grow-input : (at : Given) → Input (l .sites) at → (at′ : Given) × Input (h .sites) at′ × Same-on (l .sites) at at′
   grow-input at I = input-more (l .sites) (h .sites) at (went .part .sound) sound-after rounds-grow I
 
   pub same-inputs : (at : Given) → Input (h .sites) at → Matches at (r .items) ↔ MatchesKept at k
@@ -254,17 +254,16 @@ module _ (g : Set) (r : Written) (S : Sound (g .sites)) where
     matched = has-input g r h k S (L .0) (L .1) (L .2)
 
     pub grown : Extends (g .sites) (rule-sites g r) × Extends (rule-sites g r) (h .sites) ×
-        ((at : Given) → Input (rule-sites g r) at → (at′ : Given) × Input (h .sites) at′ × ((n : ℕ) → n < length (rule-sites g r) → at n ≡ at′ n))
+        ((at : Given) → Input (rule-sites g r) at → (at′ : Given) × Input (h .sites) at′ × Same-on (rule-sites g r) at at′)
     grown = rw its-are (items-grow g r h k S (L .0) (L .1) (L .2), rounds-grow g r h k S (L .0) (L .1) (L .2), grow-input g r h k S (L .0) (L .1) (L .2))
 
-    pub same-on-old : (at at′ : Given) → ((n : ℕ) → n < length (rule-sites g r) → at n ≡ at′ n) → Matches at (r .items) → Matches at′ (r .items)
+    pub same-on-old : (at at′ : Given) → Same-on (rule-sites g r) at at′ → Matches at (r .items) → Matches at′ (r .items)
     same-on-old = rw its-are (items-inside g r h k S (L .0) (L .1) (L .2))
 
-  pub unmatched-refused : ((x : Refusal) → load g r ≡ refused x → Four-or-six x) → ((at : Given) → Input (rule-sites g r) at → Matches at (r .items) → ⊥) →
-      (x : Refusal) × (load g r ≡ refused x) × Four-or-six x
+  pub unmatched-refused : Only-four-or-six (load g r) → ((at : Given) → Input (rule-sites g r) at → Matches at (r .items) → ⊥) → Refused-four-or-six (load g r)
   unmatched-refused others u = go (load g r) refl
     where
-      go : (o : Outcome Set) → load g r ≡ o → (x : Refusal) × (load g r ≡ refused x) × Four-or-six x
+      go : (o : Outcome Set) → load g r ≡ o → Refused-four-or-six (load g r)
       go (refused x) e = (x, e, others x e)
       go (done h) e =
           let w = last-kept g r h e in

@@ -10,6 +10,7 @@ use Rattle.paper.specs.Inputs.{Given, Input}
 use Rattle.meaning.specs.Values.{Proj, proj-at}
 use Rattle.meaning.specs.Kinds.{outside, free, child-of, kind-of, or-outside, kind-in, input-is}
 use Rattle.meaning.specs.Model.{Rooted, top, under}
+use Rattle.meaning.specs.RuleSites.{Same-on}
 use Rattle.meaning.specs.Round.{State}
 use Rattle.meaning.specs.Eval.{input-grow}
 use Rattle.paper.proofs.Adding.{Has, get-inside, inside-has}
@@ -93,7 +94,7 @@ input-part t u at x I n s e = I n s (x n s e)
 
 -- and an input of a table is the old part of one of a table that extends it
 pub input-more : (t u : Sites) (at : Given) → Sound t → Sound u → Extends t u → Input t at →
-    (at′ : Given) × Input u at′ × ((n : ℕ) → n < length t → at n ≡ at′ n)
+    (at′ : Given) × Input u at′ × Same-on t at at′
 input-more t u at S S′ x I =
     let r = input-grow (kind-in t) (kind-in u) (places-of t S .lower) (places-of u S′ .lower) (length t) (kind-stays t u x) inside at (input-is t at .0 I) in
     (r .0, input-is u (r .0) .1 (r .1), r .2)

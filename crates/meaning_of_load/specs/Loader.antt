@@ -1,4 +1,4 @@
--- Demand 3 of 01, four parts, of what `load` answers over lent memory. (meaning's Demand3 has them of paper's `load`; loading's contract says that
+-- Demand 3 of 01, four parts, of what `load` answers over lent memory. (meaning's Demand3 has them of paper's `load`; rule_load's contract says that
 -- the answer is `load-in`.)
 use mathlib.Core.Path.{_≡_, refl, sym, ap, _∙_}
 use mathlib.Core.Bool.{_&&_}
@@ -11,7 +11,6 @@ use lib.ListN.{length, getD}
 use lib.Seq.{getD-at}
 use lib.Dec.{ltb, leb}
 use Rattle.paper.specs.declared.Constraint.{Constraint}
-use Rattle.paper.specs.declared.Refusal.{Refusal}
 use Rattle.paper.specs.declared.Refusal.the-variants.{TooManySites, TooManyRules}
 use Rattle.paper.specs.declared.Rule.{Rule}
 use Rattle.paper.specs.Words.{look}
@@ -27,7 +26,7 @@ use Rattle.sites.proofs.Places.{sites-length}
 use Rattle.rule_load.specs.Whole.{set-in, load-in}
 use Rattle.rule_load.proofs.Parting.{first-length}
 use Rattle.rule_load.proofs.Afterwards.{load-is, kept-comes}
-use Rattle.meaning.specs.RuleSites.{Four-or-six}
+use Rattle.meaning.specs.RuleSites.{Only-four-or-six, Refused-four-or-six}
 use Rattle.meaning.specs.Demand3.{Unmatched, Keeps, Holds-equal, demand-1, demand-2, demand-3, demand-4}
 
 loaded-so : (m : List ℕ) (n : ℕ) (ws : List ℕ) (k : ℕ) (r : Rule) (g : Set) → load-in m n ws k r ≡ done g → load (set-in m n ws k) (written r) ≡ done g
@@ -55,8 +54,8 @@ module _ (m : List ℕ) (n : ℕ) (ws : List ℕ) (k : ℕ) (r : Rule) (S : Soun
   sound = S
 
   -- 1. where the memory has room for the limits
-  pub demand-1-in : max-sites * slot ≤ length m → base max-rules ≤ length ws → k ≤ max-rules → ((x : Refusal) → load-in m n ws k r ≡ refused x → Four-or-six x)
-      → ((x : Refusal) × (load-in m n ws k r ≡ refused x) × Four-or-six x) ↔ Unmatched (set-in m n ws k) (written r)
+  pub demand-1-in : max-sites * slot ≤ length m → base max-rules ≤ length ws → k ≤ max-rules → Only-four-or-six (load-in m n ws k r) →
+      Refused-four-or-six (load-in m n ws k r) ↔ Unmatched (set-in m n ws k) (written r)
   demand-1-in a b c others =
       let h = sites-length m n in
       let f = S .fits in
