@@ -30,8 +30,8 @@ pub refused-unmatched : (g : Set) (r : Written) (x : Refusal) → Sound (g .site
 refused-unmatched g r x S e u t more at I M = A.refused-unmatched g r S x e u at (input-part (rule-sites g r) t at more I) M
 
 -- An input of the rule's sites matches the written rule exactly if an input of the set, with its values there, matches the kept rule.
-pub same-on-old : (g : Set) (r : Written) (h : Set) (k : Kept) → Sound (g .sites) → Keeps g r h k → (at at′ : Given) → Input (h .sites) at′ → Same-on (rule-sites g r) at at′ →
-    Matches at (r .items) ↔ MatchesKept at′ k
+pub same-on-old : (g : Set) (r : Written) (h : Set) (k : Kept) → Sound (g .sites) → Keeps g r h k →
+    (at at′ : Given) → Input (h .sites) at′ → Same-on (rule-sites g r) at at′ → Matches at (r .items) ↔ MatchesKept at′ k
 same-on-old g r h k S K at at′ I same =
     let w = demand-2 g r h k S K at′ I in (
       λ M. w .0 (A.same-on-old g r S h k (K .loaded) (K .last) at at′ same M),
