@@ -5,76 +5,16 @@ ghost use Prim.Native.Nat.{ℕ};
 ghost use Rattle.paper.specs.Numbers.{max-sites};
 ghost use Rattle.paper.specs.Classes as C;
 ghost use Rattle.classes.specs.Answers.{two-classes};
-ghost use Rattle.lintelbox.specs.Border.{answer-words, said-by, left-by, has-room, both, answered, after, bit, trail-words, halved-words, removed-words, looked-said, sought-said, joined-said, same-said, taken-said, listed-in};
-use crate::ANSWER;
-use crate::SHORT;
-use crate::Said;
-use crate::bit;
-use crate::done;
-use crate::found_word;
-use crate::refused;
-use crate::say;
-use crate::wide;
-use classes::Joined;
-use classes::Looked;
-use classes::Same;
-use classes::Sought;
-use classes::Taken;
-use classes::Trail;
-use paper::Found;
+ghost use Rattle.box_answers.specs.Border.{answer-words, said-by, left-by, has-room, both, answered, after, bit, trail-words, halved-words, removed-words, listed-in};
+use box_answers::ANSWER;
+use box_answers::SHORT;
+use box_answers::calls::joined_said;
+use box_answers::calls::looked_said;
+use box_answers::calls::same_said;
+use box_answers::calls::sought_said;
+use box_answers::calls::taken_said;
+use box_answers::say;
 use paper::SITES;
-
-fn trail_said(t: Trail) -> Said
-    ensures { λ s. ⌜ s ≡ looked-said (Looked.Got t) ⌝ }
-{
-    let f = t.found;
-    done(found_word(f), wide(t.links))
-}
-
-fn looked_said(l: Looked) -> Said
-    ensures { λ s. ⌜ s ≡ looked-said l ⌝ }
-{
-    match l {
-        Looked::Got(t) => trail_said(t),
-        Looked::Refused(r) => refused(r),
-    }
-}
-
-fn sought_said(l: Sought) -> Said
-    ensures { λ s. ⌜ s ≡ sought-said l ⌝ }
-{
-    match l {
-        Sought::Got(f) => done(found_word(f), 0),
-        Sought::Refused(r) => refused(r),
-    }
-}
-
-fn joined_said(j: Joined) -> Said
-    ensures { λ s. ⌜ s ≡ joined-said j ⌝ }
-{
-    match j {
-        Joined::Done(b) => done(bit(b), 0),
-        Joined::Refused(r) => refused(r),
-    }
-}
-
-fn same_said(e: Same) -> Said
-    ensures { λ s. ⌜ s ≡ same-said e ⌝ }
-{
-    match e {
-        Same::Is(b) => done(bit(b), 0),
-        Same::Refused(r) => refused(r),
-    }
-}
-
-fn taken_said(t: Taken) -> Said
-    ensures { λ s. ⌜ s ≡ taken-said t ⌝ }
-{
-    match t {
-        Taken::Members(n) => done(n as u64, 0),
-        Taken::Refused(r) => refused(r),
-    }
-}
 
 // "Classes start empty".
 #[no_mangle]
@@ -91,7 +31,9 @@ pub extern "C" fn lintel_classes_clear(
 // The representative, or NONE, and the links followed.
 #[no_mangle]
 pub extern "C" fn lintel_find(parents: &[u16; SITES], site: u16, answer: &mut [u64]) -> u32
-    ensures { λ r. ⌜ ((R : List ℕ) (n : ℕ) → (now (answer .exit), r) ≡ answered (has-room (now (answer .entry)) answer-words) (now (answer .entry)) (said-by trail-words (C.find (C.classes (now (parents .entry)) R n) site))) ⌝ }
+    ensures { λ r. ⌜ ((R : List ℕ) (n : ℕ) →
+        let c = C.classes (now (parents .entry)) R n in
+        (now (answer .exit), r) ≡ answered (has-room (now (answer .entry)) answer-words) (now (answer .entry)) (said-by trail-words (C.find c site))) ⌝ }
 {
     let l = classes::find_in(parents, site);
     say(answer, looked_said(l))
@@ -100,8 +42,12 @@ pub extern "C" fn lintel_find(parents: &[u16; SITES], site: u16, answer: &mut [u
 // The representative, or NONE; the sites passed on the way go under their parents' parents.
 #[no_mangle]
 pub extern "C" fn lintel_find_mut(parents: &mut [u16; SITES], site: u16, answer: &mut [u64]) -> u32
-    ensures { λ r. ⌜ ((R : List ℕ) (n : ℕ) → (now (answer .exit), r) ≡ answered (has-room (now (answer .entry)) answer-words) (now (answer .entry)) (said-by halved-words (C.find-mut (C.classes (now (parents .entry)) R n) site))) ⌝ }
-    ensures { λ _. ⌜ ((R : List ℕ) (n : ℕ) → C.classes (now (parents .exit)) R n ≡ after (has-room (now (answer .entry)) answer-words) (C.classes (now (parents .entry)) R n) (left-by (C.classes (now (parents .entry)) R n) (λ h. h .after) (C.find-mut (C.classes (now (parents .entry)) R n) site))) ⌝ }
+    ensures { λ r. ⌜ ((R : List ℕ) (n : ℕ) →
+        let c = C.classes (now (parents .entry)) R n in
+        (now (answer .exit), r) ≡ answered (has-room (now (answer .entry)) answer-words) (now (answer .entry)) (said-by halved-words (C.find-mut c site))) ⌝ }
+    ensures { λ _. ⌜ ((R : List ℕ) (n : ℕ) →
+        let c = C.classes (now (parents .entry)) R n in
+        C.classes (now (parents .exit)) R n ≡ after (has-room (now (answer .entry)) answer-words) c (left-by c (λ h. h .after) (C.find-mut c site))) ⌝ }
 {
     if answer.len() < ANSWER {
         return SHORT;
@@ -120,8 +66,14 @@ pub extern "C" fn lintel_merge(
     other: u16,
     answer: &mut [u64],
 ) -> u32
-    ensures { λ r. ⌜ (now (answer .exit), r) ≡ answered (has-room (now (answer .entry)) answer-words) (now (answer .entry)) (said-by (λ _. bit (two-classes (C.classes (now (parents .entry)) (now (ranks .entry)) (now (count .entry))) site other) ∷ []) (C.merge (C.classes (now (parents .entry)) (now (ranks .entry)) (now (count .entry))) site other)) ⌝ }
-    ensures { λ _. ⌜ C.classes (now (parents .exit)) (now (ranks .exit)) (now (count .exit)) ≡ after (has-room (now (answer .entry)) answer-words) (C.classes (now (parents .entry)) (now (ranks .entry)) (now (count .entry))) (left-by (C.classes (now (parents .entry)) (now (ranks .entry)) (now (count .entry))) (λ c. c) (C.merge (C.classes (now (parents .entry)) (now (ranks .entry)) (now (count .entry))) site other)) ⌝ }
+    ensures { λ r. ⌜ (
+        let c = C.classes (now (parents .entry)) (now (ranks .entry)) (now (count .entry)) in
+        let says = said-by (λ _. bit (two-classes c site other) ∷ []) (C.merge c site other) in
+        (now (answer .exit), r) ≡ answered (has-room (now (answer .entry)) answer-words) (now (answer .entry)) says) ⌝ }
+    ensures { λ _. ⌜ (
+        let c = C.classes (now (parents .entry)) (now (ranks .entry)) (now (count .entry)) in
+        C.classes (now (parents .exit)) (now (ranks .exit)) (now (count .exit)) ≡
+        after (has-room (now (answer .entry)) answer-words) c (left-by c (λ x. x) (C.merge c site other))) ⌝ }
 {
     if answer.len() < ANSWER {
         return SHORT;
@@ -138,7 +90,10 @@ pub extern "C" fn lintel_in_same_set(
     other: u16,
     answer: &mut [u64],
 ) -> u32
-    ensures { λ r. ⌜ ((R : List ℕ) (n : ℕ) → (now (answer .exit), r) ≡ answered (has-room (now (answer .entry)) answer-words) (now (answer .entry)) (said-by (λ b. bit b ∷ []) (C.in-same-set (C.classes (now (parents .entry)) R n) site other))) ⌝ }
+    ensures { λ r. ⌜ ((R : List ℕ) (n : ℕ) →
+        let c = C.classes (now (parents .entry)) R n in
+        (now (answer .exit), r) ≡
+        answered (has-room (now (answer .entry)) answer-words) (now (answer .entry)) (said-by (λ b. bit b ∷ []) (C.in-same-set c site other))) ⌝ }
 {
     let e = classes::in_same_set_in(parents, site, other);
     say(answer, same_said(e))
@@ -153,9 +108,19 @@ pub extern "C" fn lintel_remove_set_of(
     members: &mut [u16],
     answer: &mut [u64],
 ) -> u32
-    ensures { λ r. ⌜ ((R : List ℕ) → (now (answer .exit), r) ≡ answered (both (has-room (now (members .entry)) max-sites) (has-room (now (answer .entry)) answer-words)) (now (answer .entry)) (said-by removed-words (C.remove-set-of (C.classes (now (parents .entry)) R (now (count .entry))) site))) ⌝ }
-    ensures { λ _. ⌜ ((R : List ℕ) → C.classes (now (parents .exit)) R (now (count .exit)) ≡ after (both (has-room (now (members .entry)) max-sites) (has-room (now (answer .entry)) answer-words)) (C.classes (now (parents .entry)) R (now (count .entry))) (left-by (C.classes (now (parents .entry)) R (now (count .entry))) (λ q. q .after) (C.remove-set-of (C.classes (now (parents .entry)) R (now (count .entry))) site))) ⌝ }
-    ensures { λ _. ⌜ ((R : List ℕ) → now (members .exit) ≡ after (both (has-room (now (members .entry)) max-sites) (has-room (now (answer .entry)) answer-words)) (now (members .entry)) (left-by (now (members .entry)) (λ q. listed-in (now (members .entry)) (q .members)) (C.remove-set-of (C.classes (now (parents .entry)) R (now (count .entry))) site))) ⌝ }
+    ensures { λ r. ⌜ ((R : List ℕ) →
+        let c = C.classes (now (parents .entry)) R (now (count .entry)) in
+        let fits = both (has-room (now (members .entry)) max-sites) (has-room (now (answer .entry)) answer-words) in
+        (now (answer .exit), r) ≡ answered fits (now (answer .entry)) (said-by removed-words (C.remove-set-of c site))) ⌝ }
+    ensures { λ _. ⌜ ((R : List ℕ) →
+        let c = C.classes (now (parents .entry)) R (now (count .entry)) in
+        let fits = both (has-room (now (members .entry)) max-sites) (has-room (now (answer .entry)) answer-words) in
+        C.classes (now (parents .exit)) R (now (count .exit)) ≡ after fits c (left-by c (λ q. q .after) (C.remove-set-of c site))) ⌝ }
+    ensures { λ _. ⌜ ((R : List ℕ) →
+        let c = C.classes (now (parents .entry)) R (now (count .entry)) in
+        let fits = both (has-room (now (members .entry)) max-sites) (has-room (now (answer .entry)) answer-words) in
+        let m = now (members .entry) in
+        now (members .exit) ≡ after fits m (left-by m (λ q. listed-in m (q .members)) (C.remove-set-of c site))) ⌝ }
 {
     if members.len() < SITES {
         return SHORT;

@@ -4,26 +4,15 @@ ghost use mathlib.Core.List.{[], _∷_, _++_};
 ghost use Prim.Native.Nat.{_≤_};
 ghost use lib.ListN.{length, drop};
 ghost use Rattle.term_table.specs.Table.{terms, no-edges, no-marks, with-edge, with-term, unflagged, listed};
-ghost use Rattle.lintelbox.specs.Border.{answer-words, said, said-by, left-by, has-room, both, answered, after, added-said};
-use crate::ANSWER;
-use crate::SHORT;
-use crate::Said;
-use crate::done;
-use crate::refused;
-use crate::say;
-use crate::wide;
+ghost use Rattle.box_answers.specs.Border.{answer-words, said, said-by, left-by, has-room, both, answered, after};
+use box_answers::ANSWER;
+use box_answers::SHORT;
+use box_answers::calls::added_said;
+use box_answers::done;
+use box_answers::say;
 use paper::TERMS;
-use term_table::Added;
 use term_table::WORDS;
-
-fn added_said(a: Added) -> Said
-    ensures { λ s. ⌜ s ≡ added-said a ⌝ }
-{
-    match a {
-        Added::Done => done(0, 0),
-        Added::Refused(r) => refused(r),
-    }
-}
+use widths::word16;
 
 // No edges, and no term with rec.
 #[no_mangle]
@@ -42,8 +31,12 @@ pub extern "C" fn lintel_add_edge(
     to: u16,
     answer: &mut [u64],
 ) -> u32
-    ensures { λ r. ⌜ (now (answer .exit), r) ≡ answered (has-room (now (answer .entry)) answer-words) (now (answer .entry)) (said-by (λ _. []) (with-edge (now (table .entry)) from to)) ⌝ }
-    ensures { λ _. ⌜ now (table .exit) ≡ after (has-room (now (answer .entry)) answer-words) (now (table .entry)) (left-by (now (table .entry)) (λ t. t) (with-edge (now (table .entry)) from to)) ⌝ }
+    ensures { λ r. ⌜ (
+        let marked = with-edge (now (table .entry)) from to in
+        (now (answer .exit), r) ≡ answered (has-room (now (answer .entry)) answer-words) (now (answer .entry)) (said-by (λ _. []) marked)) ⌝ }
+    ensures { λ _. ⌜ (
+        let marked = with-edge (now (table .entry)) from to in
+        now (table .exit) ≡ after (has-room (now (answer .entry)) answer-words) (now (table .entry)) (left-by (now (table .entry)) (λ t. t) marked)) ⌝ }
 {
     if answer.len() < ANSWER {
         return SHORT;
@@ -55,8 +48,12 @@ pub extern "C" fn lintel_add_edge(
 // Marks a term that has rec.
 #[no_mangle]
 pub extern "C" fn lintel_mark_rec(recs: &mut [u64; WORDS], term: u16, answer: &mut [u64]) -> u32
-    ensures { λ r. ⌜ (now (answer .exit), r) ≡ answered (has-room (now (answer .entry)) answer-words) (now (answer .entry)) (said-by (λ _. []) (with-term (now (recs .entry)) term)) ⌝ }
-    ensures { λ _. ⌜ now (recs .exit) ≡ after (has-room (now (answer .entry)) answer-words) (now (recs .entry)) (left-by (now (recs .entry)) (λ t. t) (with-term (now (recs .entry)) term)) ⌝ }
+    ensures { λ r. ⌜ (
+        let marked = with-term (now (recs .entry)) term in
+        (now (answer .exit), r) ≡ answered (has-room (now (answer .entry)) answer-words) (now (answer .entry)) (said-by (λ _. []) marked)) ⌝ }
+    ensures { λ _. ⌜ (
+        let marked = with-term (now (recs .entry)) term in
+        now (recs .exit) ≡ after (has-room (now (answer .entry)) answer-words) (now (recs .entry)) (left-by (now (recs .entry)) (λ t. t) marked)) ⌝ }
 {
     if answer.len() < ANSWER {
         return SHORT;
@@ -85,8 +82,14 @@ pub extern "C" fn lintel_cyclic_terms(
     found: &mut [u16],
     answer: &mut [u64],
 ) -> u32
-    ensures { λ r. ⌜ (now (answer .exit), r) ≡ answered (both (has-room (now (found .entry)) terms) (has-room (now (answer .entry)) answer-words)) (now (answer .entry)) (said 0 (length (unflagged (now (table .entry)) (now (recs .entry))) ∷ [])) ⌝ }
-    ensures { λ _. ⌜ now (found .exit) ≡ after (both (has-room (now (found .entry)) terms) (has-room (now (answer .entry)) answer-words)) (now (found .entry)) (listed (unflagged (now (table .entry)) (now (recs .entry))) .terms ++ drop terms (now (found .entry))) ⌝ }
+    ensures { λ r. ⌜ (
+        let fits = both (has-room (now (found .entry)) terms) (has-room (now (answer .entry)) answer-words) in
+        let cyclic = unflagged (now (table .entry)) (now (recs .entry)) in
+        (now (answer .exit), r) ≡ answered fits (now (answer .entry)) (said 0 (length cyclic ∷ []))) ⌝ }
+    ensures { λ _. ⌜ (
+        let fits = both (has-room (now (found .entry)) terms) (has-room (now (answer .entry)) answer-words) in
+        let cyclic = unflagged (now (table .entry)) (now (recs .entry)) in
+        now (found .exit) ≡ after fits (now (found .entry)) (listed cyclic .terms ++ drop terms (now (found .entry)))) ⌝ }
 {
     if found.len() < TERMS {
         return SHORT;
@@ -97,5 +100,5 @@ pub extern "C" fn lintel_cyclic_terms(
     let l = term_table::findings(table, recs);
     let all = l.terms;
     put_terms(found, &all);
-    say(answer, done(wide(l.count), 0))
+    say(answer, done(word16(l.count), 0))
 }

@@ -28,21 +28,23 @@ use Rattle.meaning.specs.Whole as H
 use Rattle.meaning.specs.Grow.{Full, full-of, input-part, input-more}
 use Rattle.meaning.specs.Joining.{Well, label-of}
 use Rattle.meaning.specs.Items.{begin-part, Went, load-part, items-clear}
-use Rattle.meaning.specs.RuleSites.{sites-left, rule-sites, Four-or-six}
+use Rattle.meaning.specs.RuleSites.{sites-left, rule-sites, Four-or-six, Only-four-or-six, Refused-four-or-six, Same-on}
 use Rattle.meaning.specs.Clear.{Clear, clear-done, clear-demand, clear-then}
 use Rattle.meaning.specs.Loads.{normalise-clear, ran, kept}
 use Rattle.meaning.specs.Rounds.{Ran}
 
 -- ---- a matched rule is not refused with 4 or 6
 
-load-clear : (g : Set) (r : Written) (at : Given) → Sound (g .sites) → ((l : Loading) → load-items (no-items (g .sites)) 0 (r .items) ≡ done l → Input (l .sites) at) → Matches at (r .items) → Clear (load g r)
+load-clear : (g : Set) (r : Written) (at : Given) → Sound (g .sites) →
+    ((l : Loading) → load-items (no-items (g .sites)) 0 (r .items) ≡ done l → Input (l .sites) at) → Matches at (r .items) → Clear (load g r)
 unfolding load number
 load-clear g r at S I M =
     clear-demand (ltb (length (g .kept)) max-rules) (TooManyRules (suc (length (g .kept)))) _ refl
     (clear-demand (leb (r .count) max-items) (TooManyItems (r .count)) _ refl
     (clear-demand (not (used g (r .place))) (PlaceUsed (r .place)) _ refl
     (clear-then (load-items (no-items (g .sites)) 0 (r .items)) _ (items-clear [] (r .items) (no-items (g .sites)) 0 at (begin-part (g .sites) S) M) (λ l e.
-    clear-then (normalise l (r .count)) _ (normalise-clear (r .items) l (r .count) at (load-part [] (r .items) (no-items (g .sites)) l 0 (begin-part (g .sites) S) e .part) (I l e) M) (λ s e.
+    clear-then (normalise l (r .count)) _ (normalise-clear (r .items) l (r .count) at
+    (load-part [] (r .items) (no-items (g .sites)) l 0 (begin-part (g .sites) S) e .part) (I l e) M) (λ s e.
     clear-done (with-rule g r s))))))
 
 -- ---- a rule that is kept
@@ -54,11 +56,16 @@ last-same (x ∷ xs) a b e = last-same xs a b (let q : x ∷ (xs ++ (a ∷ [])) 
 -- a kept rule, as labels and as classes
 pub fulfils-kept : (k : Kept) → Well (k .equals) → (at : Given) → MatchesKept at k ↔ Fulfils at (look (k .constraints)) (Held (lowest (k .equals)))
 fulfils-kept k W at = (
-  λ M. record { meets = M .meets; agrees = λ a b h. M .agrees a b (lowest (k .equals) a) (label-of (k .equals) W a b (h .same) (h .two)) (label-of (k .equals) W b a (sym (h .same)) (λ e. h .two (sym e)) ∙ ap some (sym (h .same))) },
+  λ M. record {
+    meets = M .meets;
+    agrees = λ a b h. M .agrees a b (lowest (k .equals) a) (label-of (k .equals) W a b (h .same) (h .two))
+        (label-of (k .equals) W b a (sym (h .same)) (λ e. h .two (sym e)) ∙ ap some (sym (h .same)));
+  },
   λ F. record { meets = F .meets; agrees = λ a b low p q. agrees F a b low p q (ℕ-discrete a b) },
 )
   where
-    agrees : Fulfils at (look (k .constraints)) (Held (lowest (k .equals))) → (a b low : ℕ) → look (k .equals) a ≡ some low → look (k .equals) b ≡ some low → Dec (a ≡ b) → Agree at a b
+    agrees : Fulfils at (look (k .constraints)) (Held (lowest (k .equals))) → (a b low : ℕ) → look (k .equals) a ≡ some low → look (k .equals) b ≡ some low →
+        Dec (a ≡ b) → Agree at a b
     agrees F a b low p q (no d) = F .agrees a b (record { same = lowest-is (k .equals) a low p ∙ sym (lowest-is (k .equals) b low q); two = d })
     agrees F a b low p q (yes e) =
         let m = W .mate a low p in
@@ -73,7 +80,12 @@ pub record Stands (t : Sites) (k : Kept) : Type 0 where
   pub free : (a b : ℕ) → lowest (k .equals) a ≡ lowest (k .equals) b → (a ≡ b → ⊥) → look (k .constraints) a ≡ none
 
 pub form : (t : Sites) (k : Kept) → Stands t k → Solved (kind-in t) (look (k .constraints)) (child-number t) (lowest (k .equals))
-form t k W = record { kids = λ n c i e l. child-kind t n c i (W .full .has n c i e l); rooted = W .full .rooted; joined-rooted = W .full .joined-rooted; joined-free = W .free }
+form t k W = record {
+  kids = λ n c i e l. child-kind t n c i (W .full .has n c i e l);
+  rooted = W .full .rooted;
+  joined-rooted = W .full .joined-rooted;
+  joined-free = W .free;
+}
 
 -- how a rule came to be kept: what its items left, and what the rounds made of it
 pub record Came (g : Set) (r : Written) (h : Set) (k : Kept) (l : Loading) (f : Solving) : Type 0 where
@@ -102,11 +114,16 @@ came g r h k e last =
       },
     )
 
-pub last-kept : (g : Set) (r : Written) (h : Set) → load g r ≡ done h → (k : Kept) × (h .kept ≡ g .kept ++ (k ∷ [])) × (k .place ≡ r .place) × (k .priority ≡ r .priority)
+pub last-kept : (g : Set) (r : Written) (h : Set) → load g r ≡ done h →
+    (k : Kept) × (h .kept ≡ g .kept ++ (k ∷ [])) × (k .place ≡ r .place) × (k .priority ≡ r .priority)
 unfolding with-rule
 last-kept g r h e =
-    let L = load-done g r h e in
-    (record { place = r .place; priority = r .priority; constraints = L .solved .constraints; equals = L .solved .classes }, ap (λ (x : Set). x .kept) (L .after), refl, refl)
+    let L = load-done g r h e in (
+      record { place = r .place; priority = r .priority; constraints = L .solved .constraints; equals = L .solved .classes },
+      ap (λ (x : Set). x .kept) (L .after),
+      refl,
+      refl,
+    )
 
 module _ (g : Set) (r : Written) (h : Set) (k : Kept) (S : Sound (g .sites)) (l : Loading) (f : Solving) (E : Came g r h k l f) where
   went : Went (r .items) (no-items (g .sites)) l
@@ -131,7 +148,7 @@ module _ (g : Set) (r : Written) (h : Set) (k : Kept) (S : Sound (g .sites)) (l 
   rounds-grow = rw (E .sites-are) (R .extends)
 
   -- what the items ask hangs on their own sites
-  named-inside : (i : Item) → List·Memᴰ i (r .items) → (at at′ : Given) → ((n : ℕ) → n < length (l .sites) → at n ≡ at′ n) → MeetsItem at i → MeetsItem at′ i
+  named-inside : (i : Item) → List·Memᴰ i (r .items) → (at at′ : Given) → Same-on (l .sites) at at′ → MeetsItem at i → MeetsItem at′ i
   named-inside (Is n c) m at at′ same M =
       let P = went .part in
       let e = P .con-of n c m in
@@ -144,10 +161,10 @@ module _ (g : Set) (r : Written) (h : Set) (k : Kept) (S : Sound (g .sites)) (l 
       let q = same b (P .known b (w .1)) in
       record { value = M .value; one = sym p ∙ M .one; other = sym q ∙ M .other }
 
-  pub items-inside : (at at′ : Given) → ((n : ℕ) → n < length (l .sites) → at n ≡ at′ n) → Matches at (r .items) → Matches at′ (r .items)
+  pub items-inside : (at at′ : Given) → Same-on (l .sites) at at′ → Matches at (r .items) → Matches at′ (r .items)
   items-inside at at′ same M i m = named-inside i m at at′ same (M i m)
 
-  pub grow-input : (at : Given) → Input (l .sites) at → (at′ : Given) × Input (h .sites) at′ × ((n : ℕ) → n < length (l .sites) → at n ≡ at′ n)
+  pub grow-input : (at : Given) → Input (l .sites) at → (at′ : Given) × Input (h .sites) at′ × Same-on (l .sites) at at′
   grow-input at I = input-more (l .sites) (h .sites) at (went .part .sound) sound-after rounds-grow I
 
   pub same-inputs : (at : Given) → Input (h .sites) at → Matches at (r .items) ↔ MatchesKept at k
@@ -164,7 +181,8 @@ module _ (g : Set) (r : Written) (h : Set) (k : Kept) (S : Sound (g .sites)) (l 
       )
 
   pub forced-equal : (a b : ℕ) → (a ≡ b → ⊥) → look (k .constraints) a ≡ none → look (k .constraints) b ≡ none →
-      ((low : ℕ) × (look (k .equals) a ≡ some low) × (look (k .equals) b ≡ some low)) ↔ ((at : Given) → Input (h .sites) at → Matches at (r .items) → Agree at a b)
+      ((low : ℕ) × (look (k .equals) a ≡ some low) × (look (k .equals) b ≡ some low)) ↔
+      ((at : Given) → Input (h .sites) at → Matches at (r .items) → Agree at a b)
   forced-equal a b d p q =
       let w = H.kept-equal K a b d (rw (E .constraints-are) at p) (rw (E .constraints-are) at q) in (
         λ e at I M. same-inputs at I .0 M .agrees a b (e .0) (e .1) (e .2),
@@ -191,7 +209,8 @@ module _ (g : Set) (r : Written) (h : Set) (k : Kept) (S : Sound (g .sites)) (l 
       record {
         rising = rw (E .constraints-are) (R .fair .ascending);
         well = well;
-        full = rw (E .sites-are, E .constraints-are, E .equals-are) (full-of (f .sites) (look (f .constraints)) (lowest (f .classes)) (solved .kids) (solved .rooted) (solved .joined-rooted));
+        full = rw (E .sites-are, E .constraints-are, E .equals-are)
+            (full-of (f .sites) (look (f .constraints)) (lowest (f .classes)) (solved .kids) (solved .rooted) (solved .joined-rooted));
         free = rw (E .constraints-are, E .equals-are) (solved .joined-free);
       }
 
@@ -205,7 +224,8 @@ module _ (g : Set) (r : Written) (S : Sound (g .sites)) where
   pub its-grow : Extends (g .sites) (rule-sites g r) × Sound (rule-sites g r)
   its-grow = go (load-items (no-items (g .sites)) 0 (r .items)) refl
     where
-      go : (o : Outcome Loading) → load-items (no-items (g .sites)) 0 (r .items) ≡ o → Extends (g .sites) (sites-left (g .sites) o) × Sound (sites-left (g .sites) o)
+      go : (o : Outcome Loading) → load-items (no-items (g .sites)) 0 (r .items) ≡ o →
+          Extends (g .sites) (sites-left (g .sites) o) × Sound (sites-left (g .sites) o)
       go (done l) e = let w = load-part [] (r .items) (no-items (g .sites)) l 0 (begin-part (g .sites) S) e in (w .extends, w .part .sound)
       go (refused x) e = (λ i s q. q, S)
 
@@ -223,7 +243,8 @@ module _ (g : Set) (r : Written) (S : Sound (g .sites)) where
     shapes = forced-shape g r h k S (L .0) (L .1) (L .2)
 
     pub equals : (a b : ℕ) → (a ≡ b → ⊥) → look (k .constraints) a ≡ none → look (k .constraints) b ≡ none →
-        ((low : ℕ) × (look (k .equals) a ≡ some low) × (look (k .equals) b ≡ some low)) ↔ ((at : Given) → Input (h .sites) at → Matches at (r .items) → Agree at a b)
+        ((low : ℕ) × (look (k .equals) a ≡ some low) × (look (k .equals) b ≡ some low)) ↔
+        ((at : Given) → Input (h .sites) at → Matches at (r .items) → Agree at a b)
     equals = forced-equal g r h k S (L .0) (L .1) (L .2)
 
     pub new-stands : Stands (h .sites) k
@@ -233,16 +254,16 @@ module _ (g : Set) (r : Written) (S : Sound (g .sites)) where
     matched = has-input g r h k S (L .0) (L .1) (L .2)
 
     pub grown : Extends (g .sites) (rule-sites g r) × Extends (rule-sites g r) (h .sites) ×
-        ((at : Given) → Input (rule-sites g r) at → (at′ : Given) × Input (h .sites) at′ × ((n : ℕ) → n < length (rule-sites g r) → at n ≡ at′ n))
+        ((at : Given) → Input (rule-sites g r) at → (at′ : Given) × Input (h .sites) at′ × Same-on (rule-sites g r) at at′)
     grown = rw its-are (items-grow g r h k S (L .0) (L .1) (L .2), rounds-grow g r h k S (L .0) (L .1) (L .2), grow-input g r h k S (L .0) (L .1) (L .2))
 
-    pub same-on-old : (at at′ : Given) → ((n : ℕ) → n < length (rule-sites g r) → at n ≡ at′ n) → Matches at (r .items) → Matches at′ (r .items)
+    pub same-on-old : (at at′ : Given) → Same-on (rule-sites g r) at at′ → Matches at (r .items) → Matches at′ (r .items)
     same-on-old = rw its-are (items-inside g r h k S (L .0) (L .1) (L .2))
 
-  pub unmatched-refused : ((x : Refusal) → load g r ≡ refused x → Four-or-six x) → ((at : Given) → Input (rule-sites g r) at → Matches at (r .items) → ⊥) → (x : Refusal) × (load g r ≡ refused x) × Four-or-six x
+  pub unmatched-refused : Only-four-or-six (load g r) → ((at : Given) → Input (rule-sites g r) at → Matches at (r .items) → ⊥) → Refused-four-or-six (load g r)
   unmatched-refused others u = go (load g r) refl
     where
-      go : (o : Outcome Set) → load g r ≡ o → (x : Refusal) × (load g r ≡ refused x) × Four-or-six x
+      go : (o : Outcome Set) → load g r ≡ o → Refused-four-or-six (load g r)
       go (refused x) e = (x, e, others x e)
       go (done h) e =
           let w = last-kept g r h e in

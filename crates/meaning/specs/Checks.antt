@@ -54,14 +54,16 @@ zip-snoc (a ∷ xs) (b ∷ ys) x y e = ap (λ r. (a, b) ∷ r) (zip-snoc xs ys x
 zip-below : (n : ℕ) (f g : ℕ → ℕ) → zip (below n f) (below n g) ≡ below n (λ i. (f i, g i))
 unfolding below
 zip-below zero f g = unfold zip in refl
-zip-below (suc n) f g = zip-snoc (below n f) (below n g) (f n) (g n) (below-length n f ∙ sym (below-length n g)) ∙ ap (λ r. r ++ ((f n, g n) ∷ [])) (zip-below n f g)
+zip-below (suc n) f g =
+    zip-snoc (below n f) (below n g) (f n) (g n) (below-length n f ∙ sym (below-length n g)) ∙ ap (λ r. r ++ ((f n, g n) ∷ [])) (zip-below n f g)
 
 pub of-joined : {A : Type 0} (xss : List (List A)) (x : A) → List·Memᴰ x (joined xss) → (xs : List A) × List·Memᴰ xs xss × List·Memᴰ x xs
 unfolding joined
 of-joined [] x m = elim m [ ]
 of-joined (ys ∷ xss) x m = go (List·Memᴰ·append-cases ys m) (λ q. of-joined xss x q)
   where
-    go : List·Memᴰ x ys ⊎ List·Memᴰ x (joined xss) → (List·Memᴰ x (joined xss) → (xs : List _) × List·Memᴰ xs xss × List·Memᴰ x xs) → (xs : List _) × List·Memᴰ xs (ys ∷ xss) × List·Memᴰ x xs
+    go : List·Memᴰ x ys ⊎ List·Memᴰ x (joined xss) → (List·Memᴰ x (joined xss) → (xs : List _) × List·Memᴰ xs xss × List·Memᴰ x xs) →
+        (xs : List _) × List·Memᴰ xs (ys ∷ xss) × List·Memᴰ x xs
     go (inl q) r = (ys, List·Memᴰ·head refl, q)
     go (inr q) r = let w = r q in (w .0, List·Memᴰ·tail (w .1), w .2)
 
@@ -163,10 +165,12 @@ module _ (items : List Item) (l : Loading) (P : Part items l) where
       let G = of-holders g n in
       let c = h .shape in
       let z : zip (h .kids) (g .kids) ≡ below (child-count c) (λ i. (kid (h .site) c i, kid (g .site) c i)) =
-      ap₂ zip (H .kids-are) (G .kids-are ∙ ap (λ (d : Constraint). below (child-count d) (kid (g .site) d)) (sym e)) ∙ zip-below (child-count c) (kid (h .site) c) (kid (g .site) c) in
+      ap₂ zip (H .kids-are) (G .kids-are ∙ ap (λ (d : Constraint). below (child-count d) (kid (g .site) d)) (sym e))
+      ∙ zip-below (child-count c) (kid (h .site) c) (kid (g .site) c) in
       of-below (child-count c) (λ i. (kid (h .site) c i, kid (g .site) c i)) p (rw z at q)
 
-  in-kids : (a b : ℕ) (c : Constraint) (i : ℕ) → i < child-count c → List·Memᴰ (kid a c i, kid b c i) (zip (holder (l .sites) (a, c) .kids) (holder (l .sites) (b, c) .kids))
+  in-kids : (a b : ℕ) (c : Constraint) (i : ℕ) → i < child-count c →
+      List·Memᴰ (kid a c i, kid b c i) (zip (holder (l .sites) (a, c) .kids) (holder (l .sites) (b, c) .kids))
   unfolding holder
   in-kids a b c i h = rw (zip-below (child-count c) (kid a c) (kid b c)) (in-below (child-count c) (λ j. (kid a c j, kid b c j)) i h)
 
@@ -195,11 +199,13 @@ module _ (items : List Item) (l : Loading) (P : Part items l) where
   closes x y = go (length (l .sites)) refl
     where
       none-together : length (l .sites) ≡ 0 → {x y : ℕ} → Together (l .equalities) (holders l) x y → x ≡ y
-      none-together z (written-so {a = a} {b = b} m) = let q = no-equalities z (l .equalities) refl in let w : List·Memᴰ {A = ℕ × ℕ} (a, b) [] = rw q at m in elim w [ ]
+      none-together z (written-so {a = a} {b = b} m) =
+          let q = no-equalities z (l .equalities) refl in let w : List·Memᴰ {A = ℕ × ℕ} (a, b) [] = rw q at m in elim w [ ]
       none-together z itself = refl
       none-together z (back g) = sym (none-together z g)
       none-together z (through g h) = none-together z g ∙ none-together z h
-      none-together z (like h g m n f t w) = let k = of-holders h m in let u = P .known (h .site) (P .named-con (h .site) (h .shape) (k .has)) in absurd (omega arith)
+      none-together z (like h g m n f t w) =
+          let k = of-holders h m in let u = P .known (h .site) (P .named-con (h .site) (h .shape) (k .has)) in absurd (omega arith)
 
       own : length (l .sites) ≡ 0 → (n : ℕ) → lowest (closure l) n ≡ n
       own z n = lowest-own (closure l) n (unfold look in (rw (empty-closure z)))
@@ -350,9 +356,12 @@ module _ (items : List Item) (l : Loading) (P : Part items l) where
 
     boss-of : (n : ℕ) (c : Constraint) → con n ≡ some c → con (boss (rep n)) ≡ some c
     unfolding boss conflict first-holder holder
-    boss-of n c e = go (first-holder (closure l) hs (rep n)) refl (first-none (λ h. differs h (first-holder (closure l) hs (rep (h .site)))) hs not-4 (holder (l .sites) (n, c)) (in-holders n c e))
+    boss-of n c e = go (first-holder (closure l) hs (rep n)) refl
+        (first-none (λ h. differs h (first-holder (closure l) hs (rep (h .site)))) hs not-4 (holder (l .sites) (n, c)) (in-holders n c e))
       where
-        go : (o : Option Holder) → first-holder (closure l) hs (rep n) ≡ o → differs (holder (l .sites) (n, c)) (first-holder (closure l) hs (rep (holder (l .sites) (n, c) .site))) ≡ false → con (elim o [ none ↦ rep n | some g ↦ g .site ]) ≡ some c
+        go : (o : Option Holder) → first-holder (closure l) hs (rep n) ≡ o →
+            differs (holder (l .sites) (n, c)) (first-holder (closure l) hs (rep (holder (l .sites) (n, c) .site))) ≡ false →
+            con (elim o [ none ↦ rep n | some g ↦ g .site ]) ≡ some c
         go none q d =
             let w = first-none (λ (g : Holder). eqb (rep (g .site)) (rep n)) hs q (holder (l .sites) (n, c)) (in-holders n c e) in
             absurd (eqb-false (rep n) (rep n) w refl)
@@ -376,7 +385,8 @@ module _ (items : List Item) (l : Loading) (P : Part items l) where
 
     no-return : (a : ℕ) → Walk es a a → ⊥
     unfolding endless
-    no-return a w = least-none (keep (returns es) (map (λ (x : ℕ × ℕ). x .0) es)) a not-6 (in-keep (returns es) (map (λ (x : ℕ × ℕ). x .0) es) a (start w) (returns-is es a .1 w))
+    no-return a w = least-none (keep (returns es) (map (λ (x : ℕ × ℕ). x .0) es)) a not-6
+        (in-keep (returns es) (map (λ (x : ℕ × ℕ). x .0) es) a (start w) (returns-is es a .1 w))
       where
         start : {b : ℕ} → Walk es a b → List·Memᴰ a (map (λ (x : ℕ × ℕ). x .0) es)
         start (one m) = Memᴰ·map (λ (x : ℕ × ℕ). x .0) m
@@ -430,7 +440,8 @@ module _ (items : List Item) (l : Loading) (P : Part items l) where
     step : (n : ℕ) (c : Constraint) (i : ℕ) → con n ≡ some c → i < child-count c → List·Memᴰ (rep n, rep (kid n c i)) es
     unfolding steps holder
     step n c i e h =
-        in-joined (map (λ (h : Holder). map (λ c. (rep (h .site), rep c)) (h .kids)) hs) (map (λ d. (rep n, rep d)) (holder (l .sites) (n, c) .kids)) (rep n, rep (kid n c i))
+        in-joined (map (λ (h : Holder). map (λ c. (rep (h .site), rep c)) (h .kids)) hs) (map (λ d. (rep n, rep d)) (holder (l .sites) (n, c) .kids))
+        (rep n, rep (kid n c i))
         (Memᴰ·map (λ (h : Holder). map (λ c. (rep (h .site), rep c)) (h .kids)) (in-holders n c e))
         (Memᴰ·map (λ d. (rep n, rep d)) (in-below (child-count c) (kid n c) i h))
 
@@ -466,7 +477,8 @@ module _ (items : List Item) (l : Loading) (P : Part items l) where
       rooted = λ n c e. rooted n (P .named-con n c e);
       uniform = boss-of;
       boss-in = λ n c e. boss-in n;
-      joins = λ n m c i q e f h. closes (kid n c i) (kid m c i) .1 (like (holder (l .sites) (n, c)) (holder (l .sites) (m, c)) (in-holders n c e) (in-holders m c f) (unfold holder in refl) (unfold holder in closes n m .0 q) (in-kids n m c i h));
+      joins = λ n m c i q e f h. closes (kid n c i) (kid m c i) .1 (like (holder (l .sites) (n, c)) (holder (l .sites) (m, c)) (in-holders n c e)
+          (in-holders m c f) (unfold holder in refl) (unfold holder in closes n m .0 q) (in-kids n m c i h));
       falls = falls;
     }
 

@@ -84,13 +84,15 @@ grow-clear t at (n ∷ ns) c = clear-then (add-all t at (children n c)) _ (add-a
 
 round-clear : (s : Solving) (at low : ℕ) (c : Constraint) → Clear (round s at low c)
 unfolding round
-round-clear s at low c = clear-then (grow-all (s .sites) at (members (s .classes) low) c) _ (grow-clear (s .sites) at (members (s .classes) low) c) (λ t e. clear-done _)
+round-clear s at low c =
+    clear-then (grow-all (s .sites) at (members (s .classes) low) c) _ (grow-clear (s .sites) at (members (s .classes) low) c) (λ t e. clear-done _)
 
 pub rounds-clear : (n at : ℕ) (s : Solving) → Clear (rounds n at s)
 unfolding rounds
 rounds-clear zero at s = clear-done s
 rounds-clear (suc n) at s = go (take-class (s .classes) (s .constraints) (s .classes)) (λ s′. rounds-clear n at s′)
   where
-    go : (o : Option (ℕ × Constraint)) → ((s′ : Solving) → Clear (rounds n at s′)) → Clear {A = Solving} (elim o as (λ _. Outcome Solving) [ none ↦ done s | some p ↦ round s at (p .0) (p .1) >>= rounds n at ])
+    go : (o : Option (ℕ × Constraint)) → ((s′ : Solving) → Clear (rounds n at s′)) →
+        Clear {A = Solving} (elim o as (λ _. Outcome Solving) [ none ↦ done s | some p ↦ round s at (p .0) (p .1) >>= rounds n at ])
     go none r = clear-done s
     go (some p) r = clear-then (round s at (p .0) (p .1)) (rounds n at) (round-clear s at (p .0) (p .1)) (λ s′ e. r s′)

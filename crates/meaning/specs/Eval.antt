@@ -27,7 +27,8 @@ unfolding eval
 eval-child kind u k n m p e = rw (e, eval)
 
 -- Two tables that agree up to n, and two amounts of fuel above n, give one value
-eval-agree : (kind kind′ : ℕ → Kind) (u : ℕ → Value) (low : Lower kind) (top : ℕ) (same : (n : ℕ) → n < top → kind′ n ≡ kind n) (k j n : ℕ) (o : Kind) → kind n ≡ o → n < top → n < k → n < j → eval kind u k n ≡ eval kind′ u j n
+eval-agree : (kind kind′ : ℕ → Kind) (u : ℕ → Value) (low : Lower kind) (top : ℕ) (same : (n : ℕ) → n < top → kind′ n ≡ kind n) (k j n : ℕ) (o : Kind) →
+    kind n ≡ o → n < top → n < k → n < j → eval kind u k n ≡ eval kind′ u j n
 unfolding eval
 eval-agree kind kind′ u low top same zero j n o e t h l = absurd (omega arith)
 eval-agree kind kind′ u low top same (suc k) zero n o e t h l = absurd (omega arith)
@@ -44,7 +45,8 @@ pub value-of-free : (kind : ℕ → Kind) (u : ℕ → Value) (n : ℕ) → kind
 unfolding value-of eval
 value-of-free kind u n e = rw (e, eval)
 
-pub value-of-child : (kind : ℕ → Kind) (u : ℕ → Value) → Lower kind → (n m : ℕ) (p : Proj) → kind n ≡ child-of m p → value-of kind u n ≡ and-then (value-of kind u m) (field p)
+pub value-of-child : (kind : ℕ → Kind) (u : ℕ → Value) → Lower kind → (n m : ℕ) (p : Proj) → kind n ≡ child-of m p →
+    value-of kind u n ≡ and-then (value-of kind u m) (field p)
 unfolding value-of
 value-of-child kind u low n m p e =
     let b = low n m p e in
@@ -54,7 +56,8 @@ pub value-of-input : (kind : ℕ → Kind) (u : ℕ → Value) → Lower kind �
 value-of-input kind u low = record { free-has = λ n e. (u n, value-of-free kind u n e); child-has = value-of-child kind u low }
 
 -- a table that grows keeps the values of the sites that it had
-pub value-of-grow : (kind kind′ : ℕ → Kind) (u : ℕ → Value) → Lower kind → (top : ℕ) → ((n : ℕ) → n < top → kind′ n ≡ kind n) → (n : ℕ) → n < top → value-of kind u n ≡ value-of kind′ u n
+pub value-of-grow : (kind kind′ : ℕ → Kind) (u : ℕ → Value) → Lower kind → (top : ℕ) → ((n : ℕ) → n < top → kind′ n ≡ kind n) → (n : ℕ) → n < top →
+    value-of kind u n ≡ value-of kind′ u n
 unfolding value-of
 value-of-grow kind kind′ u low top same n h = eval-agree kind kind′ u low top same (suc n) (suc n) n (kind n) refl h (omega arith) (omega arith)
 
@@ -63,7 +66,8 @@ abbrev orAbsent : Option Value → Value
 orAbsent none = absent
 orAbsent (some x) = x
 
-module _ (kind kind′ : ℕ → Kind) (low : Lower kind) (low′ : Lower kind′) (top : ℕ) (same : (n : ℕ) → n < top → kind′ n ≡ kind n) (inside : (n : ℕ) → n < top → kind n ≡ outside → ⊥) (at : Given) (I : Reads kind at) where
+module _ (kind kind′ : ℕ → Kind) (low : Lower kind) (low′ : Lower kind′) (top : ℕ) (same : (n : ℕ) → n < top → kind′ n ≡ kind n)
+    (inside : (n : ℕ) → n < top → kind n ≡ outside → ⊥) (at : Given) (I : Reads kind at) where
   freely : ℕ → Value
   freely n = orAbsent (at n)
 
@@ -76,7 +80,8 @@ module _ (kind kind′ : ℕ → Kind) (low : Lower kind) (low′ : Lower kind�
       x .1 ∙ (ap (λ o. some (orAbsent o)) (sym (x .1)) ∙ sym (value-of-free kind′ freely n (same n t ∙ e)))
   agrees (suc k) n (child-of m p) e h t =
       let l = low n m p e in
-      I .child-has n m p e ∙ (ap (λ x. and-then x (field p)) (agrees k m (kind m) refl (omega arith) (omega arith)) ∙ sym (value-of-child kind′ freely low′ n m p (same n t ∙ e)))
+      I .child-has n m p e ∙ (ap (λ x. and-then x (field p)) (agrees k m (kind m) refl (omega arith) (omega arith))
+      ∙ sym (value-of-child kind′ freely low′ n m p (same n t ∙ e)))
 
   pub input-grow : (at′ : Given) × Reads kind′ at′ × ((n : ℕ) → n < top → at n ≡ at′ n)
   input-grow = (value-of kind′ freely, value-of-input kind′ freely low′, λ n h. agrees (suc n) n (kind n) refl (omega arith) h)

@@ -15,11 +15,13 @@ pub record Pairs (kid : ℕ → Constraint → ℕ → ℕ) (rep : ℕ → ℕ) 
   pub each : (n i : ℕ) → rep n ≡ low → (n ≡ low → ⊥) → i < child-count c → List·Memᴰ (kid low c i, kid n c i) ps
   pub none-else : (p : ℕ × ℕ) → List·Memᴰ p ps → (n : ℕ) × (i : ℕ) × (rep n ≡ low) × (i < child-count c) × (p ≡ (kid low c i, kid n c i))
 
-module _ (kid : ℕ → Constraint → ℕ → ℕ) (con con′ : ℕ → Option Constraint) (rep : ℕ → ℕ) (low : ℕ) (c : Constraint) (ps : List (ℕ × ℕ)) (L : J.Lowest rep) (is-low : rep low ≡ low) (P : Pairs kid rep low c ps)
+module _ (kid : ℕ → Constraint → ℕ → ℕ) (con con′ : ℕ → Option Constraint) (rep : ℕ → ℕ) (low : ℕ) (c : Constraint) (ps : List (ℕ × ℕ)) (L : J.Lowest rep)
+    (is-low : rep low ≡ low) (P : Pairs kid rep low c ps)
     (seen : ℕ) (seen-in : rep seen ≡ low) (seen-con : con seen ≡ some c) (uniform : (n : ℕ) (d : Constraint) → rep n ≡ low → con n ≡ some d → d ≡ c)
     (con-in : (n : ℕ) → rep n ≡ low → con′ n ≡ some c) (con-out : (n : ℕ) → (rep n ≡ low → ⊥) → con′ n ≡ con n) where
   joins : {a b : ℕ} → Left kid rep low c a b → J.joinAll ps (apart rep low) a ≡ J.joinAll ps (apart rep low) b
-  joins (old {a = a} {b = b} e q) = J.joinAll-keeps ps (apart rep low) a b (apart-out rep low a (λ k. q (k ∙ sym is-low)) ∙ (e ∙ sym (apart-out rep low b (λ k. q (e ∙ (k ∙ sym is-low))))))
+  joins (old {a = a} {b = b} e q) =
+      J.joinAll-keeps ps (apart rep low) a b (apart-out rep low a (λ k. q (k ∙ sym is-low)) ∙ (e ∙ sym (apart-out rep low b (λ k. q (e ∙ (k ∙ sym is-low))))))
   joins (kids {n = n} i e h) = go (ℕ-discrete n low)
     where
       go : Dec (n ≡ low) → J.joinAll ps (apart rep low) (kid low c i) ≡ J.joinAll ps (apart rep low) (kid n c i)
@@ -31,8 +33,10 @@ module _ (kid : ℕ → Constraint → ℕ → ℕ) (con con′ : ℕ → Option
 
   before-left : (a b : ℕ) → apart rep low a ≡ apart rep low b → Dec (rep a ≡ low) → Dec (rep b ≡ low) → Left kid rep low c a b
   before-left a b e (yes p) (yes q) = let z : a ≡ b = sym (apart-in rep low a p) ∙ (e ∙ apart-in rep low b q) in rw z self
-  before-left a b e (yes p) (no q) = let z : a ≡ rep b = sym (apart-in rep low a p) ∙ (e ∙ apart-out rep low b q) in absurd (q (sym (L .idem b) ∙ (ap rep (sym z) ∙ p)))
-  before-left a b e (no p) (yes q) = let z : rep a ≡ b = sym (apart-out rep low a p) ∙ (e ∙ apart-in rep low b q) in absurd (p (sym (L .idem a) ∙ (ap rep z ∙ q)))
+  before-left a b e (yes p) (no q) =
+      let z : a ≡ rep b = sym (apart-in rep low a p) ∙ (e ∙ apart-out rep low b q) in absurd (q (sym (L .idem b) ∙ (ap rep (sym z) ∙ p)))
+  before-left a b e (no p) (yes q) =
+      let z : rep a ≡ b = sym (apart-out rep low a p) ∙ (e ∙ apart-in rep low b q) in absurd (p (sym (L .idem a) ∙ (ap rep z ∙ q)))
   before-left a b e (no p) (no q) = old (sym (apart-out rep low a p) ∙ (e ∙ apart-out rep low b q)) (λ k. p (k ∙ is-low))
 
   to-left : {a b : ℕ} → J.Gen (J.Base (apart rep low) ps) a b → Left kid rep low c a b

@@ -41,13 +41,16 @@ module _ (con : ℕ → Option Constraint) (kid : ℕ → Constraint → ℕ →
   gen-none zero r e = refl
   gen-none (suc k) r e = rw (e, gen)
 
-  gen-some : (k r : ℕ) (c : Constraint) → con (boss r) ≡ some c → gen con kid rep boss t (suc k) r ≡ make c (tab (child-count c) (λ i. gen con kid rep boss t k (rep (kid (boss r) c i))))
+  gen-some : (k r : ℕ) (c : Constraint) → con (boss r) ≡ some c →
+      gen con kid rep boss t (suc k) r ≡ make c (tab (child-count c) (λ i. gen con kid rep boss t k (rep (kid (boss r) c i))))
   unfolding gen
   gen-some k r c e = rw (e, gen)
 
-module _ (kind : ℕ → Kind) (room : ℕ) (con : ℕ → Option Constraint) (kid : ℕ → Constraint → ℕ → ℕ) (rep boss height : ℕ → ℕ) (T : Places kind room) (S : Ordered kind con kid rep boss height) (t : ℕ) where
+module _ (kind : ℕ → Kind) (room : ℕ) (con : ℕ → Option Constraint) (kid : ℕ → Constraint → ℕ → ℕ) (rep boss height : ℕ → ℕ) (T : Places kind room)
+    (S : Ordered kind con kid rep boss height) (t : ℕ) where
   -- two amounts of fuel above a class's height give one value
-  gen-agree : (k j n : ℕ) (o : Option Constraint) → con (boss (rep n)) ≡ o → height (rep n) < k → height (rep n) < j → gen con kid rep boss t k (rep n) ≡ gen con kid rep boss t j (rep n)
+  gen-agree : (k j n : ℕ) (o : Option Constraint) → con (boss (rep n)) ≡ o → height (rep n) < k → height (rep n) < j →
+      gen con kid rep boss t k (rep n) ≡ gen con kid rep boss t j (rep n)
   gen-agree zero j n o e h l = absurd (omega arith)
   gen-agree (suc k) zero n o e h l = absurd (omega arith)
   gen-agree (suc k) (suc j) n none e h l = gen-none con kid rep boss t (suc k) (rep n) e ∙ sym (gen-none con kid rep boss t (suc j) (rep n) e)

@@ -10,6 +10,7 @@ use Rattle.paper.specs.Inputs.{Given, Input}
 use Rattle.meaning.specs.Values.{Proj, proj-at}
 use Rattle.meaning.specs.Kinds.{outside, free, child-of, kind-of, or-outside, kind-in, input-is}
 use Rattle.meaning.specs.Model.{Rooted, top, under}
+use Rattle.meaning.specs.RuleSites.{Same-on}
 use Rattle.meaning.specs.Round.{State}
 use Rattle.meaning.specs.Eval.{input-grow}
 use Rattle.paper.proofs.Adding.{Has, get-inside, inside-has}
@@ -51,7 +52,9 @@ full-state t con rep F = record {
 }
 
 -- and back: a child whose number has its kind is there
-pub full-of : (t : Sites) (con : ℕ → Option Constraint) (rep : ℕ → ℕ) → ((n : ℕ) (c : Constraint) (i : ℕ) → con n ≡ some c → i < child-count c → kind-in t (child-number t n c i) ≡ child-of n (proj-at c i)) → ((n : ℕ) (c : Constraint) → con n ≡ some c → Rooted (kind-in t) con n) →
+pub full-of : (t : Sites) (con : ℕ → Option Constraint) (rep : ℕ → ℕ) →
+    ((n : ℕ) (c : Constraint) (i : ℕ) → con n ≡ some c → i < child-count c → kind-in t (child-number t n c i) ≡ child-of n (proj-at c i)) →
+    ((n : ℕ) (c : Constraint) → con n ≡ some c → Rooted (kind-in t) con n) →
     ((a b : ℕ) → rep a ≡ rep b → (a ≡ b → ⊥) → Rooted (kind-in t) con a) → Full t con rep
 full-of t con rep kids rooted joined = record {
   has = λ n c i e h. (child-number t n c i, or-child (getElem? t (child-number t n c i)) n (proj-at c i) (kids n c i e h) ∙ ap some (sym (child-site n c i)));
@@ -90,7 +93,8 @@ pub input-part : (t u : Sites) (at : Given) → Extends t u → Input u at → I
 input-part t u at x I n s e = I n s (x n s e)
 
 -- and an input of a table is the old part of one of a table that extends it
-pub input-more : (t u : Sites) (at : Given) → Sound t → Sound u → Extends t u → Input t at → (at′ : Given) × Input u at′ × ((n : ℕ) → n < length t → at n ≡ at′ n)
+pub input-more : (t u : Sites) (at : Given) → Sound t → Sound u → Extends t u → Input t at →
+    (at′ : Given) × Input u at′ × Same-on t at at′
 input-more t u at S S′ x I =
     let r = input-grow (kind-in t) (kind-in u) (places-of t S .lower) (places-of u S′ .lower) (length t) (kind-stays t u x) inside at (input-is t at .0 I) in
     (r .0, input-is u (r .0) .1 (r .1), r .2)

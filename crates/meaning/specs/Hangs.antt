@@ -54,15 +54,18 @@ module _ (l : Loading) (fine : hanging l ≡ none) where
   unfolding hangs
   named-rooted n m h = go (site-at (l .sites) n, inside-has (l .sites) n h)
     where
-      under-child : (s : Site) (p : ℕ) (c : Constraint) → getElem? (l .sites) n ≡ some s → look (l .constraints) p ≡ some c → any (same-site s) (children p c) ≡ true → Rooted (kind-in (l .sites)) (look (l .constraints)) n
+      under-child : (s : Site) (p : ℕ) (c : Constraint) → getElem? (l .sites) n ≡ some s → look (l .constraints) p ≡ some c →
+          any (same-site s) (children p c) ≡ true → Rooted (kind-in (l .sites)) (look (l .constraints)) n
       under-child s p c e q a =
           let r = of-any (same-site s) (children p c) a in
           let w = of-children p c (r .0) (r .1) in
           let i = w .0 in
           let z : s ≡ child p c i = same-site-true s (r .0) (r .2) ∙ w .2 in
-          under p (proj-at c i) c i (ap or-outside e ∙ (ap kind-of z ∙ (ap kind-of (child-site p c i) ∙ kind-of-site p (proj-at c i)))) q (field-of-proj-at c i (w .1))
+          under p (proj-at c i) c i (ap or-outside e ∙ (ap kind-of z ∙ (ap kind-of (child-site p c i) ∙ kind-of-site p (proj-at c i)))) q
+          (field-of-proj-at c i (w .1))
 
-      has : (s : Site) (p : ℕ) (o : Option Constraint) → getElem? (l .sites) n ≡ some s → look (l .constraints) p ≡ o → not (has-child o p s) ≡ false → Rooted (kind-in (l .sites)) (look (l .constraints)) n
+      has : (s : Site) (p : ℕ) (o : Option Constraint) → getElem? (l .sites) n ≡ some s → look (l .constraints) p ≡ o → not (has-child o p s) ≡ false →
+          Rooted (kind-in (l .sites)) (look (l .constraints)) n
       has s p none e q a = let z : _≡_ {A = ℕ} 0 1 = cc in absurd (omega arith)
       has s p (some c) e q a = yes-is (any (same-site s) (children p c)) refl a
         where
@@ -70,7 +73,8 @@ module _ (l : Loading) (fine : hanging l ≡ none) where
           yes-is true w v = under-child s p c e q w
           yes-is false w v = let z : _≡_ {A = ℕ} 0 1 = cc in absurd (omega arith)
 
-      at : (s : Site) → getElem? (l .sites) n ≡ some s → {o : Option ℕ} → Lies s o → not-child (l .constraints) s o ≡ false → Rooted (kind-in (l .sites)) (look (l .constraints)) n
+      at : (s : Site) → getElem? (l .sites) n ≡ some s → {o : Option ℕ} → Lies s o → not-child (l .constraints) s o ≡ false →
+          Rooted (kind-in (l .sites)) (look (l .constraints)) n
       at s e (freely f) a = top (ap or-outside e ∙ f)
       at s e (beneath {m = p}) a = has s p (look (l .constraints) p) e refl a
 

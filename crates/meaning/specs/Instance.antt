@@ -1,4 +1,5 @@
--- The theorems of 01's own examples, end to end. Demand 3 of two trials: "0 = 1, 0 structure of two fields" is kept, "0 structure of one field, site 2 that field, 0 = 2" is refused 6.
+-- The theorems of 01's own examples, end to end. Demand 3 of two trials: "0 = 1, 0 structure of two fields" is kept, "0 structure of one field, site 2 that
+-- field, 0 = 2" is refused 6.
 -- The comparison, of the rules of the sheet given whole.
 use mathlib.Core.Path.{_≡_, refl, sym, _∙_}
 use mathlib.Core.Bool.{true}
@@ -29,7 +30,8 @@ two-arguments = record { term = 0; flags = 0; sites = argument 0 ∷ argument 1 
 
 made : Made two-arguments
 unfolding all-loading
-made = site-added {g = with-sites (empty-set 0 0) (argument 0 ∷ [])} 0 (argument 1) (record { sites = argument 0 ∷ argument 1 ∷ []; number = 1 }) (site-added {g = empty-set 0 0} 0 (argument 0) (record { sites = argument 0 ∷ []; number = 0 }) (begun 0 0) refl) refl
+made = site-added {g = with-sites (empty-set 0 0) (argument 0 ∷ [])} 0 (argument 1) (record { sites = argument 0 ∷ argument 1 ∷ []; number = 1 })
+    (site-added {g = empty-set 0 0} 0 (argument 0) (record { sites = argument 0 ∷ []; number = 0 }) (begun 0 0) refl) refl
 
 sound : Sound (two-arguments .sites)
 sound = made-sound made
@@ -41,7 +43,12 @@ abbrev pair-kept : Kept
 pair-kept = record { place = 1; priority = 0; constraints = (0, Struct 7 2) ∷ (1, Struct 7 2) ∷ []; equals = (2, 2) ∷ (3, 3) ∷ (4, 2) ∷ (5, 3) ∷ [] }
 
 abbrev pair-set : Set
-pair-set = record { term = 0; flags = 0; sites = argument 0 ∷ argument 1 ∷ extractStruct 0 0 ∷ extractStruct 0 1 ∷ extractStruct 1 0 ∷ extractStruct 1 1 ∷ []; kept = pair-kept ∷ [] }
+pair-set = record {
+  term = 0;
+  flags = 0;
+  sites = argument 0 ∷ argument 1 ∷ extractStruct 0 0 ∷ extractStruct 0 1 ∷ extractStruct 1 0 ∷ extractStruct 1 1 ∷ [];
+  kept = pair-kept ∷ [];
+}
 
 -- the loader keeps it
 pub pair-keeps : Keeps two-arguments pair-rule pair-set pair-kept
@@ -56,7 +63,8 @@ pair-shape = demand-3 two-arguments pair-rule pair-set pair-kept sound pair-keep
 -- and equal first fields, sites 2 and 4
 pub pair-fields : (at : Given) → Input (pair-set .sites) at → Matches at (pair-rule .items) → Agree at 2 4
 unfolding look
-pair-fields = demand-4 two-arguments pair-rule pair-set pair-kept sound pair-keeps 2 4 (λ e. let z : _≡_ {A = ℕ} 0 1 = cc in omega arith) refl refl .0 (2, refl, refl)
+pair-fields =
+    demand-4 two-arguments pair-rule pair-set pair-kept sound pair-keeps 2 4 (λ e. let z : _≡_ {A = ℕ} 0 1 = cc in omega arith) refl refl .0 (2, refl, refl)
 
 -- but no shape there, and not the first field equal to the second
 pub pair-no-shape : (c : Constraint) → ((at : Given) → Input (pair-set .sites) at → Matches at (pair-rule .items) → Meets at 2 c) → ⊥
@@ -110,7 +118,8 @@ circle-refused = refl
 -- so no finite input matches it
 pub circle-unmatched : Unmatched two-arguments circle-rule
 unfolding number
-circle-unmatched = demand-1 two-arguments circle-rule sound (λ x e. let q : refused x ≡ refused (Endless 0) = sym e ∙ circle-refused in let z : Endless 0 ≡ x = cc in rw (← z) (inr refl)) .0 (Endless 0, circle-refused, inr refl)
+circle-unmatched = demand-1 two-arguments circle-rule sound (λ x e. let q : refused x ≡ refused (Endless 0) = sym e ∙ circle-refused in
+    let z : Endless 0 ≡ x = cc in rw (← z) (inr refl)) .0 (Endless 0, circle-refused, inr refl)
 
 -- ---- 01's sheet given whole: rule 10 (priority 1) is "0 is 5", rule 20 (priority 0) is "0 is 5 and 1 is true"; and a rule 30, "0 is 6"
 

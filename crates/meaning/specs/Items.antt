@@ -65,7 +65,8 @@ same-constraint-refl c = same-list-refl _
 
 -- an equality
 part-equal : (items : List Item) (l : Loading) (a b : ℕ) → Part items l → a < length (l .sites) → b < length (l .sites) →
-    Part (items ++ (Equal a b ∷ [])) (record { sites = l .sites; constraints = l .constraints; equalities = l .equalities ++ ((a, b) ∷ []); named = a ∷ b ∷ l .named })
+    Part (items ++ (Equal a b ∷ []))
+    (record { sites = l .sites; constraints = l .constraints; equalities = l .equalities ++ ((a, b) ∷ []); named = a ∷ b ∷ l .named })
 part-equal items l a b P la lb = record {
   sound = P .sound;
   rising = P .rising;
@@ -85,7 +86,8 @@ part-equal items l a b P la lb = record {
 
     eq-of : (x y : ℕ) → List·Memᴰ (Equal x y) items ⊎ List·Memᴰ (Equal x y) (Equal a b ∷ []) → List·Memᴰ (x, y) (l .equalities ++ ((a, b) ∷ []))
     eq-of x y (inl m) = Memᴰ·append-left ((a, b) ∷ []) (P .eq-of x y m)
-    eq-of x y (inr m) = let e = List·Memᴰ·eq-of-singleton m in let p : x ≡ a = cc in let q : y ≡ b = cc in let w : List·Memᴰ {A = ℕ × ℕ} (x, y) ((a, b) ∷ []) = rw (p, q) (List·Memᴰ·head refl) in Memᴰ·append-right (l .equalities) w
+    eq-of x y (inr m) = let e = List·Memᴰ·eq-of-singleton m in let p : x ≡ a = cc in let q : y ≡ b = cc in
+        let w : List·Memᴰ {A = ℕ × ℕ} (x, y) ((a, b) ∷ []) = rw (p, q) (List·Memᴰ·head refl) in Memᴰ·append-right (l .equalities) w
 
     of-eq : (x y : ℕ) → List·Memᴰ (x, y) (l .equalities) ⊎ List·Memᴰ {A = ℕ × ℕ} (x, y) ((a, b) ∷ []) → List·Memᴰ (Equal x y) (items ++ (Equal a b ∷ []))
     of-eq x y (inl m) = Memᴰ·append-left (Equal a b ∷ []) (P .of-eq x y m)
@@ -95,7 +97,8 @@ part-equal items l a b P la lb = record {
         let q : y ≡ b = ap (λ (z : ℕ × ℕ). z .1) e in
         Memᴰ·append-right items (rw (p, q) (List·Memᴰ·head refl))
 
-    named-eq : (x y : ℕ) → List·Memᴰ (x, y) (l .equalities) ⊎ List·Memᴰ {A = ℕ × ℕ} (x, y) ((a, b) ∷ []) → List·Memᴰ x (a ∷ b ∷ l .named) × List·Memᴰ y (a ∷ b ∷ l .named)
+    named-eq : (x y : ℕ) → List·Memᴰ (x, y) (l .equalities) ⊎ List·Memᴰ {A = ℕ × ℕ} (x, y) ((a, b) ∷ []) →
+        List·Memᴰ x (a ∷ b ∷ l .named) × List·Memᴰ y (a ∷ b ∷ l .named)
     named-eq x y (inl m) = let r = P .named-eq x y m in (List·Memᴰ·tail (List·Memᴰ·tail (r .0)), List·Memᴰ·tail (List·Memᴰ·tail (r .1)))
     named-eq x y (inr m) =
         let e = List·Memᴰ·eq-of-singleton m in
@@ -135,7 +138,8 @@ part-again items l s c P e ls = record {
     known n (List·Memᴰ·tail m) = P .known n m
 
 -- a new constraint
-part-new : (items : List Item) (l : Loading) (s : ℕ) (c : Constraint) (at : ℕ) (t : Sites) → Part items l → look (l .constraints) s ≡ none → s < length (l .sites) → add-all (l .sites) at (children s c) ≡ done t →
+part-new : (items : List Item) (l : Loading) (s : ℕ) (c : Constraint) (at : ℕ) (t : Sites) → Part items l → look (l .constraints) s ≡ none →
+    s < length (l .sites) → add-all (l .sites) at (children s c) ≡ done t →
     Part (items ++ (Is s c ∷ [])) (record { sites = t; constraints = put s c (l .constraints); equalities = l .equalities; named = s ∷ l .named })
 part-new items l s c at t P e ls grew = record {
   sound = add-all-sound (l .sites) at (children s c) t (P .sound) grew;
@@ -162,7 +166,8 @@ part-new items l s c at t P e ls grew = record {
     new-con n d q (no p) = inr (sym (put-there s n c (l .constraints) p) ∙ q)
 
     has : (n : ℕ) (d : Constraint) (i : ℕ) → i < child-count d → ((n ≡ s) × (d ≡ c)) ⊎ (look (l .constraints) n ≡ some d) → Has t (child n d i)
-    has n d i h (inl q) = let k : i < child-count c = rw (q .1) at h in rw (q .0, q .1) (add-all-has (l .sites) at (children s c) t grew (child s c i) (in-children s c i k))
+    has n d i h (inl q) =
+        let k : i < child-count c = rw (q .1) at h in rw (q .0, q .1) (add-all-has (l .sites) at (children s c) t grew (child s c i) (in-children s c i k))
     has n d i h (inr q) = let r = P .has n d i q h in (r .0, more (r .0) (child n d i) (r .1))
 
     old-con : (n : ℕ) (d : Constraint) → look (l .constraints) n ≡ some d → Dec (s ≡ n) → look (put s c (l .constraints)) n ≡ some d
@@ -222,20 +227,24 @@ part-item before l f at (Equal a b) P e =
     let z = done-once (y .1) in
     rw (← z) (record { part = part-equal before l a b P (is-known (l .sites) a (x .0)) (is-known (l .sites) b (y .0)); extends = λ i u p. p })
 
-went-on : (before : List Item) (i : Item) (rest : List Item) (l l′ f : Loading) → Extends (l .sites) (l′ .sites) → Went ((before ++ (i ∷ [])) ++ rest) l′ f → Went (before ++ (i ∷ rest)) l f
+went-on : (before : List Item) (i : Item) (rest : List Item) (l l′ f : Loading) → Extends (l .sites) (l′ .sites) → Went ((before ++ (i ∷ [])) ++ rest) l′ f →
+    Went (before ++ (i ∷ rest)) l f
 went-on before i rest l l′ f x W = record { part = rw append-assoc at (W .part); extends = λ n s q. W .extends n s (x n s q) }
 
 pub load-part : (before items : List Item) (l f : Loading) (at : ℕ) → Part before l → load-items l at items ≡ done f → Went (before ++ items) l f
 unfolding load-items
 load-part before [] l f at P e = let q : l ≡ f = cc in rw (append-nil, ← q) (record { part = P; extends = λ i s h. h })
-load-part before (i ∷ rest) l f at P e = go (λ l′ P′ h. load-part (before ++ (i ∷ [])) rest l′ f (suc at) P′ h) (bind-done (load-item l at i) (λ l′. load-items l′ (suc at) rest) f e)
+load-part before (i ∷ rest) l f at P e =
+    go (λ l′ P′ h. load-part (before ++ (i ∷ [])) rest l′ f (suc at) P′ h) (bind-done (load-item l at i) (λ l′. load-items l′ (suc at) rest) f e)
   where
-    go : ((l′ : Loading) → Part (before ++ (i ∷ [])) l′ → load-items l′ (suc at) rest ≡ done f → Went ((before ++ (i ∷ [])) ++ rest) l′ f) → (l′ : Loading) × (load-item l at i ≡ done l′) × (load-items l′ (suc at) rest ≡ done f) → Went (before ++ (i ∷ rest)) l f
+    go : ((l′ : Loading) → Part (before ++ (i ∷ [])) l′ → load-items l′ (suc at) rest ≡ done f → Went ((before ++ (i ∷ [])) ++ rest) l′ f) →
+        (l′ : Loading) × (load-item l at i ≡ done l′) × (load-items l′ (suc at) rest ≡ done f) → Went (before ++ (i ∷ rest)) l f
     go k (l′, q, h) = let w = part-item before l l′ at i P q in went-on before i rest l l′ f (w .extends) (k l′ (w .part) h)
 
 -- ---- 4 among the items: no values at all meet them
 
-clash : (before : List Item) (l : Loading) (s : ℕ) (c d : Constraint) (at : Given) → Part before l → look (l .constraints) s ≡ some d → Matches at before → Meets at s c → c ≡ d
+clash : (before : List Item) (l : Loading) (s : ℕ) (c d : Constraint) (at : Given) → Part before l → look (l .constraints) s ≡ some d → Matches at before →
+    Meets at s c → c ≡ d
 clash before l s c d at P e all m =
     let x = all (Is s d) (P .of-con s d e) in
     let xt = x .there in
@@ -261,11 +270,13 @@ item-clear before l k (Is s c) at P all m =
     given : (o : Option Constraint) → look (l .constraints) s ≡ o → Clear (constrain l k s c o)
     given none q = clear-then (add-all (l .sites) k (children s c)) _ (add-all-clear (l .sites) k (children s c)) (λ t e. clear-done _)
     given (some d) q = clear-then (demand (same-constraint c d) (Unreachable s s)) _ (same d q (same-constraint c d) refl) (λ a e. clear-done _)
-item-clear before l k (Equal a b) at P all m = clear-demand (known (l .sites) a) (Unknown a) _ refl (clear-demand (known (l .sites) b) (Unknown b) _ refl (clear-done _))
+item-clear before l k (Equal a b) at P all m =
+    clear-demand (known (l .sites) a) (Unknown a) _ refl (clear-demand (known (l .sites) b) (Unknown b) _ refl (clear-done _))
 
 pub items-clear : (before items : List Item) (l : Loading) (k : ℕ) (at : Given) → Part before l → Matches at (before ++ items) → Clear (load-items l k items)
 unfolding load-items
 items-clear before [] l k at P M = clear-done l
 items-clear before (i ∷ rest) l k at P M =
-    clear-then (load-item l k i) _ (item-clear before l k i at P (λ j m. M j (Memᴰ·append-left (i ∷ rest) m)) (M i (Memᴰ·append-right before (List·Memᴰ·head refl))))
+    clear-then
+    (load-item l k i) _ (item-clear before l k i at P (λ j m. M j (Memᴰ·append-left (i ∷ rest) m)) (M i (Memᴰ·append-right before (List·Memᴰ·head refl))))
     (λ l′ e. items-clear (before ++ (i ∷ [])) rest l′ (suc k) at (part-item before l l′ k i P e .part) (rw append-assoc M))

@@ -104,7 +104,8 @@ apart-lowest rep low L = record { idem = λ n. idem n (ℕ-discrete (rep n) low)
   where
     idem : (n : ℕ) → Dec (rep n ≡ low) → apart rep low (apart rep low n) ≡ apart rep low n
     idem n (yes e) = ap (apart rep low) (apart-in rep low n e)
-    idem n (no e) = ap (apart rep low) (apart-out rep low n e) ∙ (apart-out rep low (rep n) (λ q. e (sym (L .idem n) ∙ q)) ∙ (L .idem n ∙ sym (apart-out rep low n e)))
+    idem n (no e) =
+        ap (apart rep low) (apart-out rep low n e) ∙ (apart-out rep low (rep n) (λ q. e (sym (L .idem n) ∙ q)) ∙ (L .idem n ∙ sym (apart-out rep low n e)))
 
     below : (n : ℕ) → Dec (rep n ≡ low) → apart rep low n ≤ n
     below n (yes e) = let q = apart-in rep low n e in omega arith
@@ -142,5 +143,9 @@ dissolve-well k low W = record { sound = F .sound; rising = F .rising; mate = ma
     mate n v e =
         let y = dissolved k low n v (W .rising) e in
         let x = W .mate n v (y .0) in
-        let d : lowest k n ≡ low → ⊥ = λ q. y .1 (sym (lowest-is k n v (y .0)) ∙ q) in
-        (x .0, x .1, dissolve-at k low (x .0) W ∙ (apart-out (lowest k) low (x .0) (λ q. d (sym (x .2) ∙ q)) ∙ (x .2 ∙ (sym (apart-out (lowest k) low n d) ∙ sym (dissolve-at k low n W)))))
+        let d : lowest k n ≡ low → ⊥ = λ q. y .1 (sym (lowest-is k n v (y .0)) ∙ q) in (
+          x .0,
+          x .1,
+          dissolve-at k low (x .0) W
+              ∙ (apart-out (lowest k) low (x .0) (λ q. d (sym (x .2) ∙ q)) ∙ (x .2 ∙ (sym (apart-out (lowest k) low n d) ∙ sym (dissolve-at k low n W)))),
+        )

@@ -116,7 +116,8 @@ fits-child at n (makeSome s) m p f e = not-child e
 fits-child at n (matchSome s) m p f e = same-child at n {m = s} {k = m} {p = inner-at} {q = p} e f
 fits-child at n (matchTuple s i) m p f e = not-child e
 
-fits-of : (at : Given) (n : ℕ) (s : Site) → (kind-of s ≡ free → HasOne (at n)) → ((m : ℕ) (p : Proj) → kind-of s ≡ child-of m p → at n ≡ and-then (at m) (field p)) → Fits at n s
+fits-of : (at : Given) (n : ℕ) (s : Site) → (kind-of s ≡ free → HasOne (at n)) →
+    ((m : ℕ) (p : Proj) → kind-of s ≡ child-of m p → at n ≡ and-then (at m) (field p)) → Fits at n s
 fits-of at n (constBool t b) f g = f refl
 fits-of at n (constInt t h l) f g = f refl
 fits-of at n (constPrim s) f g = f refl

@@ -14,7 +14,8 @@ unfolding any
 of-any p [] e = let z : _≡_ {A = ℕ} 0 1 = cc in absurd (omega arith)
 of-any p (y ∷ xs) e = go (p y) refl e (λ q. of-any p xs q)
   where
-    go : (b : Bool) → p y ≡ b → (b || any p xs) ≡ true → (any p xs ≡ true → (x : _) × List·Memᴰ x xs × (p x ≡ true)) → (x : _) × List·Memᴰ x (y ∷ xs) × (p x ≡ true)
+    go : (b : Bool) → p y ≡ b → (b || any p xs) ≡ true → (any p xs ≡ true → (x : _) × List·Memᴰ x xs × (p x ≡ true)) →
+        (x : _) × List·Memᴰ x (y ∷ xs) × (p x ≡ true)
     go true q f r = (y, List·Memᴰ·head refl, q)
     go false q f r = let w = r f in (w .0, List·Memᴰ·tail (w .1), w .2)
 
@@ -40,7 +41,8 @@ unfolding least
 least-some [] n e = absurd (never e)
 least-some (y ∷ xs) n e = go (least xs) refl e (λ m q. least-some xs m q)
   where
-    go : (o : Option ℕ) → least xs ≡ o → elim o as (λ _. Option ℕ) [ none ↦ some y | some z ↦ some (min y z) ] ≡ some n → ((m : ℕ) → least xs ≡ some m → List·Memᴰ m xs) → List·Memᴰ n (y ∷ xs)
+    go : (o : Option ℕ) → least xs ≡ o → elim o as (λ _. Option ℕ) [ none ↦ some y | some z ↦ some (min y z) ] ≡ some n →
+        ((m : ℕ) → least xs ≡ some m → List·Memᴰ m xs) → List·Memᴰ n (y ∷ xs)
     go none q f r = let z : y ≡ n = cc in List·Memᴰ·head (sym z)
     go (some z) q f r = pick (ℕ-discrete y n)
       where
@@ -53,7 +55,8 @@ unfolding first
 first-some p [] x e = absurd (never e)
 first-some {A} p (y ∷ xs) x e = go (p y) refl e (λ q. first-some p xs x q)
   where
-    go : (b : Bool) → p y ≡ b → elim b as (λ _. Option A) [ true ↦ some y | false ↦ first p xs ] ≡ some x → (first p xs ≡ some x → List·Memᴰ x xs × (p x ≡ true)) → List·Memᴰ x (y ∷ xs) × (p x ≡ true)
+    go : (b : Bool) → p y ≡ b → elim b as (λ _. Option A) [ true ↦ some y | false ↦ first p xs ] ≡ some x →
+        (first p xs ≡ some x → List·Memᴰ x xs × (p x ≡ true)) → List·Memᴰ x (y ∷ xs) × (p x ≡ true)
     go true f q r = let z : y ≡ x = cc in (List·Memᴰ·head (sym z), ap p (sym z) ∙ f)
     go false f q r = let w = r q in (List·Memᴰ·tail (w .0), w .1)
 
@@ -61,7 +64,8 @@ pub first-none : {A : Type 0} (p : A → Bool) (xs : List A) → first p xs ≡ 
 unfolding first
 first-none {A} p (y ∷ xs) e x m = go (p y) refl e m (λ q k. first-none p xs q x k)
   where
-    go : (b : Bool) → p y ≡ b → _≡_ {A = Option A} (elim b as (λ _. Option A) [ true ↦ some y | false ↦ first p xs ]) none → List·Memᴰ x (y ∷ xs) → (first p xs ≡ none → List·Memᴰ x xs → p x ≡ false) → p x ≡ false
+    go : (b : Bool) → p y ≡ b → _≡_ {A = Option A} (elim b as (λ _. Option A) [ true ↦ some y | false ↦ first p xs ]) none → List·Memᴰ x (y ∷ xs) →
+        (first p xs ≡ none → List·Memᴰ x xs → p x ≡ false) → p x ≡ false
     go true f q k r = absurd (never (sym q))
     go false f q (List·Memᴰ·head w) r = rw w f
     go false f q (List·Memᴰ·tail w) r = r q w

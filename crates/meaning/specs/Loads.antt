@@ -47,7 +47,8 @@ no-endless-done none u e = refl
 no-endless-done (some n) u e = let z : _≡_ {A = ℕ} 0 1 = cc in absurd (omega arith)
 
 -- a site that differs has someone to differ from
-conflict-told : (k : Labels) (hs : List Holder) (h : Holder) (u : Unit {0}) → conflict k hs ≡ some h → told-4 (h .site) (first-holder k hs (lowest k (h .site))) ≡ done u → ⊥
+conflict-told : (k : Labels) (hs : List Holder) (h : Holder) (u : Unit {0}) → conflict k hs ≡ some h →
+    told-4 (h .site) (first-holder k hs (lowest k (h .site))) ≡ done u → ⊥
 unfolding conflict
 conflict-told k hs h u e f = go (first-holder k hs (lowest k (h .site))) (first-some (λ h. differs h (first-holder k hs (lowest k (h .site)))) hs h e .1) f
   where
@@ -87,10 +88,12 @@ normalise-done l count f e =
 
 -- ---- what 4 and 6 refuse
 
-pub written-fulfils : (items : List Item) (l : Loading) → Part items l → (at : Given) → Matches at items → Fulfils at (look (l .constraints)) (λ a b. List·Memᴰ (a, b) (l .equalities))
+pub written-fulfils : (items : List Item) (l : Loading) → Part items l → (at : Given) → Matches at items →
+    Fulfils at (look (l .constraints)) (λ a b. List·Memᴰ (a, b) (l .equalities))
 written-fulfils items l P at M = record { meets = λ n c e. M (Is n c) (P .of-con n c e); agrees = λ a b q. M (Equal a b) (P .of-eq a b q) }
 
-pub normalise-clear : (items : List Item) (l : Loading) (count : ℕ) (at : Given) → Part items l → Input (l .sites) at → Matches at items → Clear (normalise l count)
+pub normalise-clear : (items : List Item) (l : Loading) (count : ℕ) (at : Given) → Part items l → Input (l .sites) at → Matches at items →
+    Clear (normalise l count)
 unfolding normalise number
 normalise-clear items l count at P I M =
     clear-then (no-hanging (hanging l)) _ (not-5 (hanging l)) (λ _ e.
@@ -168,12 +171,15 @@ module _ (items : List Item) (l : Loading) (P : Part items l) (count : ℕ) (f :
   wrote-rooted self-w = inl refl
   wrote-rooted (back-w w) = flip (wrote-rooted w)
     where
-      flip : {a b : ℕ} → (a ≡ b) ⊎ (Rooted (kind-in (l .sites)) con₀ a × Rooted (kind-in (l .sites)) con₀ b) → (b ≡ a) ⊎ (Rooted (kind-in (l .sites)) con₀ b × Rooted (kind-in (l .sites)) con₀ a)
+      flip : {a b : ℕ} → (a ≡ b) ⊎ (Rooted (kind-in (l .sites)) con₀ a × Rooted (kind-in (l .sites)) con₀ b) →
+          (b ≡ a) ⊎ (Rooted (kind-in (l .sites)) con₀ b × Rooted (kind-in (l .sites)) con₀ a)
       flip (inl p) = inl (sym p)
       flip (inr p) = inr (p .1, p .0)
   wrote-rooted (via-w w v) = link (wrote-rooted w) (wrote-rooted v)
     where
-      link : {a b d : ℕ} → (a ≡ b) ⊎ (Rooted (kind-in (l .sites)) con₀ a × Rooted (kind-in (l .sites)) con₀ b) → (b ≡ d) ⊎ (Rooted (kind-in (l .sites)) con₀ b × Rooted (kind-in (l .sites)) con₀ d) → (a ≡ d) ⊎ (Rooted (kind-in (l .sites)) con₀ a × Rooted (kind-in (l .sites)) con₀ d)
+      link : {a b d : ℕ} → (a ≡ b) ⊎ (Rooted (kind-in (l .sites)) con₀ a × Rooted (kind-in (l .sites)) con₀ b) →
+          (b ≡ d) ⊎ (Rooted (kind-in (l .sites)) con₀ b × Rooted (kind-in (l .sites)) con₀ d) →
+          (a ≡ d) ⊎ (Rooted (kind-in (l .sites)) con₀ a × Rooted (kind-in (l .sites)) con₀ d)
       link (inl p) (inl q) = inl (p ∙ q)
       link {a} {b} {d} (inl p) (inr q) = inr (rw p (q .0), q .1)
       link {a} {b} {d} (inr p) (inl q) = inr (p .0, rw (sym q) (p .1))

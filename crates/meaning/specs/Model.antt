@@ -83,7 +83,8 @@ module _ (con : ℕ → Option Constraint) (kid : ℕ → Constraint → ℕ →
   gen-some k n c e = rw (e, gen)
 
 -- more fuel changes nothing, once there is enough to reach the end of the table
-module _ (kind : ℕ → Kind) (room : ℕ) (con : ℕ → Option Constraint) (kid : ℕ → Constraint → ℕ → ℕ) (rep : ℕ → ℕ) (T : Places kind room) (S : Solved kind con kid rep) (t : ℕ) where
+module _ (kind : ℕ → Kind) (room : ℕ) (con : ℕ → Option Constraint) (kid : ℕ → Constraint → ℕ → ℕ) (rep : ℕ → ℕ) (T : Places kind room)
+    (S : Solved kind con kid rep) (t : ℕ) where
   rooted-inside : (n : ℕ) → Rooted kind con n → n < room
   rooted-inside n (top e) = T .inside n (λ d. let z : _≡_ {A = ℕ} 0 1 = cc in omega arith)
   rooted-inside n (under m p c i e f g) = T .inside n (λ d. let z : _≡_ {A = ℕ} 0 1 = cc in omega arith)
@@ -113,7 +114,8 @@ module _ (kind : ℕ → Kind) (room : ℕ) (con : ℕ → Option Constraint) (k
 
   the-some : (n : ℕ) (c : Constraint) → con n ≡ some c → the n ≡ make c (tab (child-count c) (λ i. the (kid n c i)))
   unfolding the
-  the-some n c e = gen-some con kid rep t room n c e ∙ ap (make c) (tab-ext (child-count c) _ _ (λ i b. gen-more room (kid n c i) (con (kid n c i)) refl (omega arith)))
+  the-some n c e =
+      gen-some con kid rep t room n c e ∙ ap (make c) (tab-ext (child-count c) _ _ (λ i b. gen-more room (kid n c i) (con (kid n c i)) refl (omega arith)))
 
   the-shape : (n : ℕ) (c : Constraint) → con n ≡ some c → shape (the n) ≡ some c
   the-shape n c e = rw (the-some n c e) (shape-make c _ (count-tab (child-count c) _) .0)
@@ -127,7 +129,8 @@ module _ (kind : ℕ → Kind) (room : ℕ) (con : ℕ → Option Constraint) (k
   the-field : (m : ℕ) (c : Constraint) (p : Proj) → con m ≡ some c → field p (the m) ≡ and-then (field-of c p) (λ i. some (the (kid m c i)))
   the-field m c p e = rw (the-some m c e) (field-make c p _ (count-tab (child-count c) _) ∙ go (field-of c p) refl)
     where
-      go : (o : Option ℕ) → field-of c p ≡ o → and-then (field-of c p) (value-at (tab (child-count c) (λ i. the (kid m c i)))) ≡ and-then (field-of c p) (λ i. some (the (kid m c i)))
+      go : (o : Option ℕ) → field-of c p ≡ o →
+          and-then (field-of c p) (value-at (tab (child-count c) (λ i. the (kid m c i)))) ≡ and-then (field-of c p) (λ i. some (the (kid m c i)))
       go none d = rw d
       go (some i) d = rw d (at-tab (child-count c) _ i (field-of-inv c p i d .1))
 
@@ -143,7 +146,8 @@ module _ (kind : ℕ → Kind) (room : ℕ) (con : ℕ → Option Constraint) (k
       is-kid : (c : Constraint) (i : ℕ) → con m ≡ some c → field-of c p ≡ some i → n ≡ kid m c i
       is-kid c i f g = let v = field-of-inv c p i g in T .once n (kid m c i) m p e (let k = S .kids m c i f (v .1) in cc (v .0))
 
-      same : (c : Constraint) (o : Option ℕ) → con m ≡ some c → field-of c p ≡ o → and-then (field-of c p) (λ i. some (the n)) ≡ and-then (field-of c p) (λ i. some (the (kid m c i)))
+      same : (c : Constraint) (o : Option ℕ) → con m ≡ some c → field-of c p ≡ o →
+          and-then (field-of c p) (λ i. some (the n)) ≡ and-then (field-of c p) (λ i. some (the (kid m c i)))
       same c none f g = rw g
       same c (some i) f g = rw g (ap (λ x. some (the x)) (is-kid c i f g))
 
@@ -192,7 +196,8 @@ module _ (kind : ℕ → Kind) (room : ℕ) (con : ℕ → Option Constraint) (k
 
 -- ---- the theorem, of a table and a solved form
 
-module _ (kind : ℕ → Kind) (room : ℕ) (con : ℕ → Option Constraint) (kid : ℕ → Constraint → ℕ → ℕ) (rep : ℕ → ℕ) (T : Places kind room) (S : Solved kind con kid rep) where
+module _ (kind : ℕ → Kind) (room : ℕ) (con : ℕ → Option Constraint) (kid : ℕ → Constraint → ℕ → ℕ) (rep : ℕ → ℕ) (T : Places kind room)
+    (S : Solved kind con kid rep) where
   -- some finite input matches it
   pub model-exists : (at : Given) × Reads kind at × Fulfils at con (Held rep)
   model-exists = (at kind room con kid rep T S 0, input kind room con kid rep T S 0, matches kind room con kid rep T S 0)
@@ -218,9 +223,11 @@ module _ (kind : ℕ → Kind) (room : ℕ) (con : ℕ → Option Constraint) (k
           e ∙ u
 
   -- two unconstrained sites that every matching input makes equal are held equal
-  pub forced-equal : (a b : ℕ) → (a ≡ b → ⊥) → con a ≡ none → con b ≡ none → ((at : Given) → Reads kind at → Fulfils at con (Held rep) → Agree at a b) → Held rep a b
+  pub forced-equal : (a b : ℕ) → (a ≡ b → ⊥) → con a ≡ none → con b ≡ none → ((at : Given) → Reads kind at → Fulfils at con (Held rep) → Agree at a b) →
+      Held rep a b
   forced-equal a b ne e f h =
       record {
-        same = plain-equal kind room con kid rep T S 0 a b e f (h (at kind room con kid rep T S 0) (input kind room con kid rep T S 0) (matches kind room con kid rep T S 0));
+        same = plain-equal kind room con kid rep T S 0 a b e f
+            (h (at kind room con kid rep T S 0) (input kind room con kid rep T S 0) (matches kind room con kid rep T S 0));
         two = ne;
       }

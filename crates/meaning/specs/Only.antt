@@ -71,14 +71,16 @@ module _ (t : Sites) (S : Sound t) (j k : Kept) (J : Stands t j) (K : Stands t k
   same-constraint-at n c e = stands-shape t S k K n c .1 (λ at I M. within at I M .meets n c e)
 
   -- what j holds equal, k does, unless it is constrained there
-  same-class-at : ((n : ℕ) → look (j .constraints) n ≡ look (k .constraints) n) → (a b : ℕ) → lowest (j .equals) a ≡ lowest (j .equals) b → lowest (k .equals) a ≡ lowest (k .equals) b
+  same-class-at : ((n : ℕ) → look (j .constraints) n ≡ look (k .constraints) n) → (a b : ℕ) → lowest (j .equals) a ≡ lowest (j .equals) b →
+      lowest (k .equals) a ≡ lowest (k .equals) b
   same-class-at con a b e = go (ℕ-discrete a b)
     where
       go : Dec (a ≡ b) → lowest (k .equals) a ≡ lowest (k .equals) b
       go (yes q) = ap (lowest (k .equals)) q
       go (no d) = forced-equal (kind-in t) (length t) (look (k .constraints)) (child-number t) (lowest (k .equals)) (places-of t S) (form t k K) a b d
           (sym (con a) ∙ J .free a b e d) (sym (con b) ∙ J .free b a (sym e) (λ z. d (sym z)))
-          (λ at I F. fulfils-kept j (J .well) at .0 (within at (input-is t at .1 I) (fulfils-kept k (K .well) at .1 F)) .agrees a b (record { same = e; two = d })) .same
+          (λ at I F. fulfils-kept j (J .well) at .0 (within at (input-is t at .1 I) (fulfils-kept k (K .well) at .1 F)) .agrees a b
+          (record { same = e; two = d })) .same
 
   -- so k's lowest members are no higher, and who has a label in j has one in k
   lower-at : ((n : ℕ) → look (j .constraints) n ≡ look (k .constraints) n) → (n : ℕ) → lowest (k .equals) n ≤ lowest (j .equals) n
@@ -87,10 +89,12 @@ module _ (t : Sites) (S : Sound t) (j k : Kept) (J : Stands t j) (K : Stands t k
       let l = K .well .sound .function .low (lowest (j .equals) n) in
       omega arith
 
-  label-at : ((n : ℕ) → look (j .constraints) n ≡ look (k .constraints) n) → (n v : ℕ) → look (j .equals) n ≡ some v → look (k .equals) n ≡ some (lowest (k .equals) n)
+  label-at : ((n : ℕ) → look (j .constraints) n ≡ look (k .constraints) n) → (n v : ℕ) → look (j .equals) n ≡ some v →
+      look (k .equals) n ≡ some (lowest (k .equals) n)
   label-at con n v e = let m = J .well .mate n v e in label-of (k .equals) (K .well) n (m .0) (same-class-at con n (m .0) (sym (m .2))) (λ z. m .1 (sym z))
 
-both-ways : {A : Type 0} (s t : Table A) (n : ℕ) → ((a : A) → look s n ≡ some a → look t n ≡ some a) → ((a : A) → look t n ≡ some a → look s n ≡ some a) → look s n ≡ look t n
+both-ways : {A : Type 0} (s t : Table A) (n : ℕ) → ((a : A) → look s n ≡ some a → look t n ≡ some a) → ((a : A) → look t n ≡ some a → look s n ≡ some a) →
+    look s n ≡ look t n
 both-ways {A} s t n f g = go (look s n) refl (look t n) refl
   where
     go : (o : Option A) → look s n ≡ o → (p : Option A) → look t n ≡ p → look s n ≡ look t n
@@ -98,7 +102,8 @@ both-ways {A} s t n f g = go (look s n) refl (look t n) refl
     go none e none q = e ∙ sym q
     go none e (some a) q = absurd (never (sym e ∙ g a q))
 
-pub one-form : (t : Sites) → Sound t → (j k : Kept) → Stands t j → Stands t k → ((at : Given) → Input t at → MatchesKept at j ↔ MatchesKept at k) → (j .constraints ≡ k .constraints) × (j .equals ≡ k .equals)
+pub one-form : (t : Sites) → Sound t → (j k : Kept) → Stands t j → Stands t k → ((at : Given) → Input t at → MatchesKept at j ↔ MatchesKept at k) →
+    (j .constraints ≡ k .constraints) × (j .equals ≡ k .equals)
 one-form t S j k J K same = (
   same-table 0 0 (j .constraints) (k .constraints) (J .rising) (K .rising) con,
   same-table 0 0 (j .equals) (k .equals) (J .well .rising) (K .well .rising) (λ n. both-ways (j .equals) (k .equals) n (λ v e. one n v e) (λ v e. other n v e)),
@@ -123,6 +128,7 @@ one-form t S j k J K same = (
     other n v e = label-at t S k j K J in-j (λ n. sym (con n)) n v e ∙ ap some (lowest-same n ∙ lowest-is (k .equals) n v e)
 
 -- the kept rule
-pub only-kept : (g : Set) (r : Written) (h : Set) (k j : Kept) → Sound (g .sites) → Keeps g r h k → Stands (h .sites) j → ((at : Given) → Input (h .sites) at → Matches at (r .items) ↔ MatchesKept at j) → (j .constraints ≡ k .constraints) × (j .equals ≡ k .equals)
+pub only-kept : (g : Set) (r : Written) (h : Set) (k j : Kept) → Sound (g .sites) → Keeps g r h k → Stands (h .sites) j →
+    ((at : Given) → Input (h .sites) at → Matches at (r .items) ↔ MatchesKept at j) → (j .constraints ≡ k .constraints) × (j .equals ≡ k .equals)
 only-kept g r h k j S K J same = one-form (h .sites) (load-sound g r h S (K .loaded)) j k J (A.new-stands g r S h k (K .loaded) (K .last))
     (λ at I. let x = same at I in let y = demand-2 g r h k S K at I in (λ M. y .0 (x .1 M), λ M. x .0 (y .1 M)))

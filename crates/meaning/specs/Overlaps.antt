@@ -26,7 +26,8 @@ module _ (g : Set) (M : Made g) (k : Kept) (in-k : List·Memᴰ k (g .kept)) whe
   pub forces-shape : (n : ℕ) (c : Constraint) → (look (k .constraints) n ≡ some c) ↔ ((at : Given) → Input (g .sites) at → MatchesKept at k → Meets at n c)
   forces-shape = stands-shape (g .sites) (made-sound M) k (made-stands M k in-k)
 
-  pub forces-equal : (a b : ℕ) → (a ≡ b → ⊥) → look (k .constraints) a ≡ none → look (k .constraints) b ≡ none → Holds-equal k a b ↔ ((at : Given) → Input (g .sites) at → MatchesKept at k → Agree at a b)
+  pub forces-equal : (a b : ℕ) → (a ≡ b → ⊥) → look (k .constraints) a ≡ none → look (k .constraints) b ≡ none →
+      Holds-equal k a b ↔ ((at : Given) → Input (g .sites) at → MatchesKept at k → Agree at a b)
   forces-equal = stands-equal (g .sites) (made-sound M) k (made-stands M k in-k)
 
 module _ (g : Set) (M : Made g) (a b : Kept) (in-a : List·Memᴰ a (g .kept)) (in-b : List·Memᴰ b (g .kept)) where
@@ -35,22 +36,26 @@ module _ (g : Set) (M : Made g) (a b : Kept) (in-a : List·Memᴰ a (g .kept)) (
   no-means = overlap-no (g .sites) a b (made-stands M a in-a) (made-stands M b in-b)
 
   -- "if neither has equalities, No holds exactly then"
-  pub no-exactly : no-equals (a .equals) ≡ true → no-equals (b .equals) ≡ true → (may-overlap a b ≡ No) ↔ ((at : Given) → Input (g .sites) at → MatchesKept at a → MatchesKept at b → ⊥)
+  pub no-exactly : no-equals (a .equals) ≡ true → no-equals (b .equals) ≡ true →
+      (may-overlap a b ≡ No) ↔ ((at : Given) → Input (g .sites) at → MatchesKept at a → MatchesKept at b → ⊥)
   no-exactly na nb = (λ e at I. no-means e at, λ h. go h (overlap-either (g .sites) (made-sound M) a b (made-stands M a in-a) (made-stands M b in-b) na nb))
     where
-      go : ((at : Given) → Input (g .sites) at → MatchesKept at a → MatchesKept at b → ⊥) → (may-overlap a b ≡ No) ⊎ Common (g .sites) a b → may-overlap a b ≡ No
+      go : ((at : Given) → Input (g .sites) at → MatchesKept at a → MatchesKept at b → ⊥) → (may-overlap a b ≡ No) ⊎ Common (g .sites) a b →
+          may-overlap a b ≡ No
       go h (inl e) = e
       go h (inr c) = absurd (h (c .0) (c .1) (c .2) (c .3))
 
   -- and where the answer is another, some input does match both
-  pub else-common : no-equals (a .equals) ≡ true → no-equals (b .equals) ≡ true → (may-overlap a b ≡ No → ⊥) → (at : Given) × Input (g .sites) at × MatchesKept at a × MatchesKept at b
+  pub else-common : no-equals (a .equals) ≡ true → no-equals (b .equals) ≡ true → (may-overlap a b ≡ No → ⊥) →
+      (at : Given) × Input (g .sites) at × MatchesKept at a × MatchesKept at b
   else-common na nb d = go (overlap-either (g .sites) (made-sound M) a b (made-stands M a in-a) (made-stands M b in-b) na nb)
     where
       go : (may-overlap a b ≡ No) ⊎ Common (g .sites) a b → Common (g .sites) a b
       go (inl e) = absurd (d e)
       go (inr c) = c
 
-  smaller-exactly : no-equals (a .equals) ≡ true → no-equals (b .equals) ≡ true → (compare-with a b ≡ Subset) ↔ ((at : Given) → Input (g .sites) at → MatchesKept at b → MatchesKept at a)
+  smaller-exactly : no-equals (a .equals) ≡ true → no-equals (b .equals) ≡ true →
+      (compare-with a b ≡ Subset) ↔ ((at : Given) → Input (g .sites) at → MatchesKept at b → MatchesKept at a)
   smaller-exactly na nb = (λ e at I. compare-subset a b e at, subset-compare (g .sites) (made-sound M) a b (made-stands M a in-a) (made-stands M b in-b) na nb)
 
   -- "and subset exactly when the larger's inputs all match the smaller": a is the smaller, and stands first or second

@@ -38,7 +38,8 @@ use Rattle.meaning.specs.Answers.{Stands, form, fulfils-kept, last-kept}
 -- ---- the kept rules of a made set are solved forms
 
 stands-on : (t u : Sites) (k : Kept) → Extends t u → Stands t k → Stands u k
-stands-on t u k x W = record { rising = W .rising; well = W .well; full = full-grows t u (look (k .constraints)) (lowest (k .equals)) x (W .full); free = W .free }
+stands-on t u k x W =
+    record { rising = W .rising; well = W .well; full = full-grows t u (look (k .constraints)) (lowest (k .equals)) x (W .full); free = W .free }
 
 pub made-stands : {g : Set} → Made g → (k : Kept) → List·Memᴰ k (g .kept) → Stands (g .sites) k
 unfolding empty-set with-sites
@@ -46,7 +47,8 @@ made-stands (begun term flags) k m = elim m [ ]
 made-stands (site-added {g = g} at s a M e) k m = stands-on (g .sites) (a .sites) k (add-extends (g .sites) at s a e) (made-stands M k m)
 made-stands (rule-loaded {g = g} {h = h} r M e) k m = go (last-kept g r h e) (λ j q. made-stands M j q)
   where
-    go : (j : Kept) × (h .kept ≡ g .kept ++ (j ∷ [])) × (j .place ≡ r .place) × (j .priority ≡ r .priority) → ((j : Kept) → List·Memᴰ j (g .kept) → Stands (g .sites) j) → Stands (h .sites) k
+    go : (j : Kept) × (h .kept ≡ g .kept ++ (j ∷ [])) × (j .place ≡ r .place) × (j .priority ≡ r .priority) →
+        ((j : Kept) → List·Memᴰ j (g .kept) → Stands (g .sites) j) → Stands (h .sites) k
     go (j, last, p, q) before = pick (List·Memᴰ·append-cases (g .kept) (rw last at m))
       where
         pick : List·Memᴰ k (g .kept) ⊎ List·Memᴰ k (j ∷ []) → Stands (h .sites) k
@@ -63,16 +65,27 @@ module _ (t : Sites) (S : Sound t) (k : Kept) (W : Stands t k) where
   rep = lowest (k .equals)
 
   pub stands-matched : (at : Given) × Input t at × MatchesKept at k
-  stands-matched = let m = model-exists (kind-in t) (length t) con (child-number t) rep (places-of t S) (form t k W) in (m .0, input-is t (m .0) .1 (m .1), fulfils-kept k (W .well) (m .0) .1 (m .2))
+  stands-matched = let m = model-exists (kind-in t) (length t) con (child-number t) rep (places-of t S) (form t k W) in
+      (m .0, input-is t (m .0) .1 (m .1), fulfils-kept k (W .well) (m .0) .1 (m .2))
 
   pub stands-shape : (n : ℕ) (c : Constraint) → (look (k .constraints) n ≡ some c) ↔ ((at : Given) → Input t at → MatchesKept at k → Meets at n c)
-  stands-shape n c = (λ e at I M. M .meets n c e, λ h. forced-shape (kind-in t) (length t) con (child-number t) rep (places-of t S) (form t k W) n c (λ at I F. h at (input-is t at .1 I) (fulfils-kept k (W .well) at .1 F)))
+  stands-shape n c = (
+    λ e at I M. M .meets n c e,
+    λ h. forced-shape (kind-in t) (length t) con (child-number t) rep (places-of t S) (form t k W) n c
+        (λ at I F. h at (input-is t at .1 I) (fulfils-kept k (W .well) at .1 F)),
+  )
 
-  pub stands-equal : (a b : ℕ) → (a ≡ b → ⊥) → look (k .constraints) a ≡ none → look (k .constraints) b ≡ none → Holds-equal k a b ↔ ((at : Given) → Input t at → MatchesKept at k → Agree at a b)
-  stands-equal a b d p q = (λ e at I M. M .agrees a b (e .0) (e .1) (e .2), λ h. held (forced-equal (kind-in t) (length t) con (child-number t) rep (places-of t S) (form t k W) a b d p q (λ at I F. h at (input-is t at .1 I) (fulfils-kept k (W .well) at .1 F))))
+  pub stands-equal : (a b : ℕ) → (a ≡ b → ⊥) → look (k .constraints) a ≡ none → look (k .constraints) b ≡ none →
+      Holds-equal k a b ↔ ((at : Given) → Input t at → MatchesKept at k → Agree at a b)
+  stands-equal a b d p q = (
+    λ e at I M. M .agrees a b (e .0) (e .1) (e .2),
+    λ h. held (forced-equal (kind-in t) (length t) con (child-number t) rep
+        (places-of t S) (form t k W) a b d p q (λ at I F. h at (input-is t at .1 I) (fulfils-kept k (W .well) at .1 F))),
+  )
     where
       held : Held rep a b → Holds-equal k a b
-      held e = (rep a, label-of (k .equals) (W .well) a b (e .same) d, label-of (k .equals) (W .well) b a (sym (e .same)) (λ z. d (sym z)) ∙ ap some (sym (e .same)))
+      held e =
+          (rep a, label-of (k .equals) (W .well) a b (e .same) d, label-of (k .equals) (W .well) b a (sym (e .same)) (λ z. d (sym z)) ∙ ap some (sym (e .same)))
 
 -- ---- the tests, as facts
 
@@ -92,7 +105,12 @@ is-every p (y ∷ xs) f = rw (f y (List·Memᴰ·head refl)) (is-every p xs (λ 
 
 other-is : (o : Option Constraint) (c : Constraint) → other-there o c ≡ true → (d : Constraint) × (o ≡ some d) × (c ≡ d → ⊥)
 other-is none c e = let z : _≡_ {A = ℕ} 0 1 = cc in absurd (omega arith)
-other-is (some d) c e = (d, refl, λ q. let s : same-constraint c d ≡ true = rw (← q) (same-constraint-refl c) in let y : not true ≡ true = rw s at e in let z : _≡_ {A = ℕ} 0 1 = cc in omega arith)
+other-is (some d) c e = (
+  d,
+  refl,
+  λ q. let s : same-constraint c d ≡ true = rw (← q) (same-constraint-refl c) in let y : not true ≡ true = rw s at e in
+      let z : _≡_ {A = ℕ} 0 1 = cc in omega arith,
+)
 
 same-is : (o : Option Constraint) (c : Constraint) → same-there o c ≡ true → o ≡ some c
 same-is none c e = let z : _≡_ {A = ℕ} 0 1 = cc in absurd (omega arith)
@@ -119,17 +137,22 @@ no-labels (p ∷ ps) e n v q = let z : _≡_ {A = ℕ} 0 1 = cc in omega arith
 -- the three answers
 data Compared (small large : Kept) : Overlap → Type 0 where
   no-is : differ (small .constraints) (large .constraints) ≡ true → Compared small large No
-  yes-is : differ (small .constraints) (large .constraints) ≡ false → (no-equals (small .equals) ≡ true → no-equals (large .equals) ≡ true → within (small .constraints) (large .constraints) ≡ true → ⊥) → Compared small large Yes
-  subset-is : differ (small .constraints) (large .constraints) ≡ false → no-equals (small .equals) ≡ true → no-equals (large .equals) ≡ true → within (small .constraints) (large .constraints) ≡ true → Compared small large Subset
+  yes-is : differ (small .constraints) (large .constraints) ≡ false →
+      (no-equals (small .equals) ≡ true → no-equals (large .equals) ≡ true → within (small .constraints) (large .constraints) ≡ true → ⊥) →
+      Compared small large Yes
+  subset-is : differ (small .constraints) (large .constraints) ≡ false → no-equals (small .equals) ≡ true → no-equals (large .equals) ≡ true →
+      within (small .constraints) (large .constraints) ≡ true → Compared small large Subset
 
 compared : (small large : Kept) → Compared small large (compare-with small large)
 unfolding compare-with
-compared small large = go (differ (small .constraints) (large .constraints)) refl (no-equals (small .equals)) refl (no-equals (large .equals)) refl (within (small .constraints) (large .constraints)) refl
+compared small large = go (differ (small .constraints) (large .constraints)) refl (no-equals (small .equals)) refl (no-equals (large .equals)) refl
+    (within (small .constraints) (large .constraints)) refl
   where
     apart : {x : Bool} → x ≡ false → x ≡ true → ⊥
     apart p q = let z : _≡_ {A = ℕ} 0 1 = cc in omega arith
 
-    go : (a : Bool) → differ (small .constraints) (large .constraints) ≡ a → (b : Bool) → no-equals (small .equals) ≡ b → (c : Bool) → no-equals (large .equals) ≡ c → (d : Bool) → within (small .constraints) (large .constraints) ≡ d →
+    go : (a : Bool) → differ (small .constraints) (large .constraints) ≡ a → (b : Bool) → no-equals (small .equals) ≡ b → (c : Bool) →
+        no-equals (large .equals) ≡ c → (d : Bool) → within (small .constraints) (large .constraints) ≡ d →
         Compared small large (if a then No else (if b && (c && d) then Subset else Yes))
     go true p b q c r d s = no-is p
     go false p true q true r true s = subset-is p q r s
@@ -172,7 +195,8 @@ abbrev either : Option Constraint → Option Constraint → Option Constraint
 either none o = o
 either (some c) o = some c
 
-module _ (t : Sites) (S : Sound t) (a b : Kept) (W : Stands t a) (X : Stands t b) (fine : (n : ℕ) (c d : Constraint) → look (a .constraints) n ≡ some c → look (b .constraints) n ≡ some d → c ≡ d)
+module _ (t : Sites) (S : Sound t) (a b : Kept) (W : Stands t a) (X : Stands t b)
+    (fine : (n : ℕ) (c d : Constraint) → look (a .constraints) n ≡ some c → look (b .constraints) n ≡ some d → c ≡ d)
     (none-a : no-equals (a .equals) ≡ true) (none-b : no-equals (b .equals) ≡ true) where
   both : ℕ → Option Constraint
   both n = either (look (a .constraints) n) (look (b .constraints) n)
@@ -193,7 +217,8 @@ module _ (t : Sites) (S : Sound t) (a b : Kept) (W : Stands t a) (X : Stands t b
   unfolding both
   of-both n c e = go (look (a .constraints) n) refl e
     where
-      go : (o : Option Constraint) → look (a .constraints) n ≡ o → either o (look (b .constraints) n) ≡ some c → (look (a .constraints) n ≡ some c) ⊎ (look (b .constraints) n ≡ some c)
+      go : (o : Option Constraint) → look (a .constraints) n ≡ o → either o (look (b .constraints) n) ≡ some c →
+          (look (a .constraints) n ≡ some c) ⊎ (look (b .constraints) n ≡ some c)
       go none q f = inr f
       go (some d) q f = inl (q ∙ f)
 
@@ -205,7 +230,8 @@ module _ (t : Sites) (S : Sound t) (a b : Kept) (W : Stands t a) (X : Stands t b
     joined-free = λ x y e d. absurd (d e);
   }
     where
-      kids : (n : ℕ) (c : Constraint) (i : ℕ) → i < child-count c → (look (a .constraints) n ≡ some c) ⊎ (look (b .constraints) n ≡ some c) → kind-in t (child-number t n c i) ≡ child-of n (proj-at c i)
+      kids : (n : ℕ) (c : Constraint) (i : ℕ) → i < child-count c → (look (a .constraints) n ≡ some c) ⊎ (look (b .constraints) n ≡ some c) →
+          kind-in t (child-number t n c i) ≡ child-of n (proj-at c i)
       kids n c i h (inl e) = child-kind t n c i (W .full .has n c i e h)
       kids n c i h (inr e) = child-kind t n c i (X .full .has n c i e h)
 
@@ -225,7 +251,8 @@ module _ (t : Sites) (S : Sound t) (a b : Kept) (W : Stands t a) (X : Stands t b
 abbrev pub Common : Sites → Kept → Kept → Type 0
 Common t a b = (at : Given) × Input t at × MatchesKept at a × MatchesKept at b
 
-compare-either : (t : Sites) → Sound t → (a b : Kept) → Stands t a → Stands t b → no-equals (a .equals) ≡ true → no-equals (b .equals) ≡ true → (compare-with a b ≡ No) ⊎ Common t a b
+compare-either : (t : Sites) → Sound t → (a b : Kept) → Stands t a → Stands t b → no-equals (a .equals) ≡ true → no-equals (b .equals) ≡ true →
+    (compare-with a b ≡ No) ⊎ Common t a b
 compare-either t S a b W X na nb = go (compared a b)
   where
     go : {o : Overlap} → Compared a b o → (o ≡ No) ⊎ Common t a b
@@ -234,7 +261,8 @@ compare-either t S a b W X na nb = go (compared a b)
     go (subset-is p q r s) = inr (common t S a b W X (differs-not (a .constraints) (b .constraints) p) na nb)
 
 -- the answer is No, or some input matches both
-pub overlap-either : (t : Sites) → Sound t → (a b : Kept) → Stands t a → Stands t b → no-equals (a .equals) ≡ true → no-equals (b .equals) ≡ true → (may-overlap a b ≡ No) ⊎ Common t a b
+pub overlap-either : (t : Sites) → Sound t → (a b : Kept) → Stands t a → Stands t b → no-equals (a .equals) ≡ true → no-equals (b .equals) ≡ true →
+    (may-overlap a b ≡ No) ⊎ Common t a b
 unfolding may-overlap
 overlap-either t S a b W X na nb = go (leb (length (a .constraints)) (length (b .constraints)))
   where
@@ -255,11 +283,14 @@ compare-subset small large e at M = go (compared small large) e
     go (no-is p) q = let z : _≡_ {A = ℕ} 0 1 = cc in absurd (omega arith)
     go (yes-is p f) q = let z : _≡_ {A = ℕ} 0 1 = cc in absurd (omega arith)
     go (subset-is p ns nl w) q = record {
-      meets = λ n c f. M .meets n c (same-is (look (large .constraints) n) c (every-is (λ (x : ℕ × Constraint). same-there (look (large .constraints) (x .0)) (x .1)) (small .constraints) (unfold within in w) (n, c) (look-in (small .constraints) n c f)));
+      meets = λ n c f. M .meets n c (same-is (look (large .constraints) n) c (every-is
+          (λ (x : ℕ × Constraint). same-there (look (large .constraints) (x .0)) (x .1)) (small .constraints) (unfold within in w) (n, c)
+          (look-in (small .constraints) n c f)));
       agrees = λ x y low p q. absurd (no-labels (small .equals) ns x low p);
     }
 
-pub subset-compare : (t : Sites) → Sound t → (small large : Kept) → Stands t small → Stands t large → no-equals (small .equals) ≡ true → no-equals (large .equals) ≡ true → ((at : Given) → Input t at → MatchesKept at large → MatchesKept at small) → compare-with small large ≡ Subset
+pub subset-compare : (t : Sites) → Sound t → (small large : Kept) → Stands t small → Stands t large → no-equals (small .equals) ≡ true →
+    no-equals (large .equals) ≡ true → ((at : Given) → Input t at → MatchesKept at large → MatchesKept at small) → compare-with small large ≡ Subset
 unfolding within differ
 subset-compare t S small large W X ns nl h = go (compared small large)
   where
@@ -287,8 +318,10 @@ pub masks-covers : (a b : Kept) → masks a b ≡ true → (rank (b .priority) <
 unfolding masks may-overlap
 masks-covers a b e =
     let x = and-both (ltb (rank (b .priority)) (rank (a .priority))) (subset? (may-overlap a b) && leb (total a) (total b)) e in
-    let y = and-both (subset? (may-overlap a b)) (leb (total a) (total b)) (x .1) in
-    (ltb-true (rank (b .priority)) (rank (a .priority)) (x .0), λ at M. covers (leb (length (a .constraints)) (length (b .constraints))) refl (y .0) (leb-true (total a) (total b) (y .1)) at M)
+    let y = and-both (subset? (may-overlap a b)) (leb (total a) (total b)) (x .1) in (
+      ltb-true (rank (b .priority)) (rank (a .priority)) (x .0),
+      λ at M. covers (leb (length (a .constraints)) (length (b .constraints))) refl (y .0) (leb-true (total a) (total b) (y .1)) at M,
+    )
   where
     is-subset : (o : Overlap) → subset? o ≡ true → o ≡ Subset
     is-subset No q = let z : _≡_ {A = ℕ} 0 1 = cc in absurd (omega arith)
@@ -302,8 +335,11 @@ masks-covers a b e =
     longer : {o : Overlap} → Compared b a o → o ≡ Subset → total a ≤ total b → length (b .constraints) < length (a .constraints) → ⊥
     longer (no-is p) q h l = let z : _≡_ {A = ℕ} 0 1 = cc in omega arith
     longer (yes-is p f) q h l = let z : _≡_ {A = ℕ} 0 1 = cc in omega arith
-    longer (subset-is p nb na w) q h l = let u = plain (b .equals) nb in let v = plain (a .equals) na in let i : length (a .constraints) + length (a .equals) ≤ length (b .constraints) + length (b .equals) = unfold total in h in omega arith
+    longer (subset-is p nb na w) q h l = let u = plain (b .equals) nb in let v = plain (a .equals) na in
+        let i : length (a .constraints) + length (a .equals) ≤ length (b .constraints) + length (b .equals) = unfold total in h in omega arith
 
-    covers : (s : Bool) → leb (length (a .constraints)) (length (b .constraints)) ≡ s → subset? (if s then compare-with a b else compare-with b a) ≡ true → total a ≤ total b → (at : Given) → MatchesKept at b → MatchesKept at a
+    covers : (s : Bool) → leb (length (a .constraints)) (length (b .constraints)) ≡ s → subset? (if s then compare-with a b else compare-with b a) ≡ true →
+        total a ≤ total b → (at : Given) → MatchesKept at b → MatchesKept at a
     covers true p q h at M = compare-subset a b (is-subset (compare-with a b) q) at M
-    covers false p q h at M = absurd (longer (compared b a) (is-subset (compare-with b a) q) h (leb-false (length (a .constraints)) (length (b .constraints)) p))
+    covers false p q h at M =
+        absurd (longer (compared b a) (is-subset (compare-with b a) q) h (leb-false (length (a .constraints)) (length (b .constraints)) p))

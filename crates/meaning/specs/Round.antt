@@ -30,7 +30,8 @@ pub data Left (kid : ℕ → Constraint → ℕ → ℕ) (rep : ℕ → ℕ) (lo
   via : {a b d : ℕ} → Left kid rep low c a b → Left kid rep low c b d → Left kid rep low c a d
 
 -- one round: the class of `low`, which holds the constrained site `seen`, is dissolved
-pub record Round (kid : ℕ → Constraint → ℕ → ℕ) (con : ℕ → Option Constraint) (rep : ℕ → ℕ) (con′ : ℕ → Option Constraint) (rep′ : ℕ → ℕ) (low : ℕ) (c : Constraint) : Type 0 where
+pub record Round (kid : ℕ → Constraint → ℕ → ℕ) (con : ℕ → Option Constraint) (rep : ℕ → ℕ) (con′ : ℕ → Option Constraint) (rep′ : ℕ → ℕ) (low : ℕ)
+    (c : Constraint) : Type 0 where
   pub seen : ℕ
   pub seen-in : rep seen ≡ rep low
   pub seen-con : con seen ≡ some c
@@ -41,14 +42,16 @@ pub record Round (kid : ℕ → Constraint → ℕ → ℕ) (con : ℕ → Optio
   pub only : (a b : ℕ) → rep′ a ≡ rep′ b → Left kid rep low c a b
 
 -- in a matching input every rooted site has a value
-pub rooted-has : (kind : ℕ → Kind) (con : ℕ → Option Constraint) (at : Given) → Reads kind at → ((n : ℕ) (c : Constraint) → con n ≡ some c → Meets at n c) → (n : ℕ) → Rooted kind con n → (x : Value) × (at n ≡ some x)
+pub rooted-has : (kind : ℕ → Kind) (con : ℕ → Option Constraint) (at : Given) → Reads kind at → ((n : ℕ) (c : Constraint) → con n ≡ some c → Meets at n c) →
+    (n : ℕ) → Rooted kind con n → (x : Value) × (at n ≡ some x)
 rooted-has kind con at I M n (top e) = I .free-has n e
 rooted-has kind con at I M n (under m p c i e f g) =
     let x = M m c f in
     let y = field-has c (x .value) p i (x .shaped) g in
     (y .0, I .child-has n m p e ∙ rw (x .there) (y .1))
 
-module _ (kind : ℕ → Kind) (kid : ℕ → Constraint → ℕ → ℕ) (con : ℕ → Option Constraint) (rep : ℕ → ℕ) (con′ : ℕ → Option Constraint) (rep′ : ℕ → ℕ) (low : ℕ) (c : Constraint)
+module _ (kind : ℕ → Kind) (kid : ℕ → Constraint → ℕ → ℕ) (con : ℕ → Option Constraint) (rep : ℕ → ℕ) (con′ : ℕ → Option Constraint) (rep′ : ℕ → ℕ) (low : ℕ)
+    (c : Constraint)
     (R : Round kid con rep con′ rep′ low c) (at : Given) (I : Reads kind at) where
   module _ (S′ : State kind con′ kid rep′) where
     kid-at : (n : ℕ) (i : ℕ) → rep n ≡ rep low → i < child-count c → at (kid n c i) ≡ and-then (at n) (field (proj-at c i))
@@ -68,7 +71,8 @@ module _ (kind : ℕ → Kind) (kid : ℕ → Constraint → ℕ → ℕ) (con :
 
       left-same : {a b : ℕ} → Left kid rep low c a b → at a ≡ at b
       left-same (old {a = a} {b = b} e q) = class-same con rep at M a b e
-      left-same (kids {n = n} i e h) = kid-at low i refl h ∙ (ap (λ o. and-then o (field (proj-at c i))) (class-same con rep at M low n (sym e)) ∙ sym (kid-at n i e h))
+      left-same (kids {n = n} i e h) =
+          kid-at low i refl h ∙ (ap (λ o. and-then o (field (proj-at c i))) (class-same con rep at M low n (sym e)) ∙ sym (kid-at n i e h))
       left-same self = refl
       left-same (back h) = sym (left-same h)
       left-same (via h k) = left-same h ∙ left-same k

@@ -56,19 +56,29 @@ all-pairs t low c (n ∷ ns) = like-children t low n c ++ all-pairs t low c ns
 children-joined : (t : Sites) (low : ℕ) (c : Constraint) (ns : List ℕ) (k : Labels) → join-children t low c ns k ≡ join-all k (all-pairs t low c ns)
 unfolding join-children all-pairs
 children-joined t low c [] k = unfold join-all in refl
-children-joined t low c (n ∷ ns) k = children-joined t low c ns (join-all k (like-children t low n c)) ∙ sym (all-append (like-children t low n c) (all-pairs t low c ns) k)
+children-joined t low c (n ∷ ns) k =
+    children-joined t low c ns (join-all k (like-children t low n c)) ∙ sym (all-append (like-children t low n c) (all-pairs t low c ns) k)
 
-in-all : (t : Sites) (low : ℕ) (c : Constraint) (ns : List ℕ) (n i : ℕ) → List·Memᴰ n ns → i < child-count c → List·Memᴰ (child-number t low c i, child-number t n c i) (all-pairs t low c ns)
+in-all : (t : Sites) (low : ℕ) (c : Constraint) (ns : List ℕ) (n i : ℕ) → List·Memᴰ n ns → i < child-count c →
+    List·Memᴰ (child-number t low c i, child-number t n c i) (all-pairs t low c ns)
 unfolding all-pairs like-children
-in-all t low c (m ∷ ns) n i (List·Memᴰ·head e) h = Memᴰ·append-left (all-pairs t low c ns) (let q : List·Memᴰ (child-number t low c i, child-number t n c i) (like-children t low m c) = rw e (in-below (child-count c) (λ j. (child-number t low c j, child-number t m c j)) i h) in q)
+in-all t low c (m ∷ ns) n i (List·Memᴰ·head e) h =
+    let q : List·Memᴰ (child-number t low c i, child-number t n c i) (like-children t low m c) =
+    rw e (in-below (child-count c) (λ j. (child-number t low c j, child-number t m c j)) i h) in
+    Memᴰ·append-left (all-pairs t low c ns) q
 in-all t low c (m ∷ ns) n i (List·Memᴰ·tail q) h = Memᴰ·append-right (like-children t low m c) (in-all t low c ns n i q h)
 
-of-all : (t : Sites) (low : ℕ) (c : Constraint) (ns : List ℕ) (p : ℕ × ℕ) → List·Memᴰ p (all-pairs t low c ns) → (n : ℕ) × (i : ℕ) × List·Memᴰ n ns × (i < child-count c) × (p ≡ (child-number t low c i, child-number t n c i))
+-- the pair p is of like children of low and one of ns
+abbrev Like-pair : (t : Sites) (low : ℕ) (c : Constraint) (ns : List ℕ) (p : ℕ × ℕ) → Type 0
+Like-pair t low c ns p = (n : ℕ) × (i : ℕ) × List·Memᴰ n ns × (i < child-count c) × (p ≡ (child-number t low c i, child-number t n c i))
+
+of-all : (t : Sites) (low : ℕ) (c : Constraint) (ns : List ℕ) (p : ℕ × ℕ) → List·Memᴰ p (all-pairs t low c ns) → Like-pair t low c ns p
 unfolding all-pairs like-children
 of-all t low c [] p m = elim m [ ]
 of-all t low c (k ∷ ns) p m = go (λ q. of-all t low c ns p q) (List·Memᴰ·append-cases (like-children t low k c) m)
   where
-    go : (List·Memᴰ p (all-pairs t low c ns) → (n : ℕ) × (i : ℕ) × List·Memᴰ n ns × (i < child-count c) × (p ≡ (child-number t low c i, child-number t n c i))) → List·Memᴰ p (like-children t low k c) ⊎ List·Memᴰ p (all-pairs t low c ns) → (n : ℕ) × (i : ℕ) × List·Memᴰ n (k ∷ ns) × (i < child-count c) × (p ≡ (child-number t low c i, child-number t n c i))
+    go : (List·Memᴰ p (all-pairs t low c ns) → Like-pair t low c ns p) →
+        List·Memᴰ p (like-children t low k c) ⊎ List·Memᴰ p (all-pairs t low c ns) → Like-pair t low c (k ∷ ns) p
     go f (inl q) = let r = of-below (child-count c) (λ j. (child-number t low c j, child-number t k c j)) p q in (k, r .0, List·Memᴰ·head refl, r .1, r .2)
     go f (inr q) = let r = f q in (r .0, r .1, List·Memᴰ·tail (r .2), r .3, r .4)
 
@@ -81,7 +91,8 @@ pub record Good (u : ℕ → Value) (s : Solving) : Type 0 where
   pub matched : Fulfils (value-of (kind-in (s .sites)) u) (look (s .constraints)) (Held (lowest (s .classes)))
 
 -- the values in a larger table match what is named in the smaller
-matched-grows : (u : ℕ → Value) (t t′ : Sites) (con : ℕ → Option Constraint) (rep : ℕ → ℕ) → Lower (kind-in t) → Extends t t′ → Full t con rep → Fulfils (value-of (kind-in t) u) con (Held rep) → Fulfils (value-of (kind-in t′) u) con (Held rep)
+matched-grows : (u : ℕ → Value) (t t′ : Sites) (con : ℕ → Option Constraint) (rep : ℕ → ℕ) → Lower (kind-in t) → Extends t t′ → Full t con rep →
+    Fulfils (value-of (kind-in t) u) con (Held rep) → Fulfils (value-of (kind-in t′) u) con (Held rep)
 matched-grows u t t′ con rep low x F M = record {
   meets = λ n c e.
       let m = M .meets n c e in
@@ -99,7 +110,8 @@ matched-grows u t t′ con rep low x F M = record {
     same n r = value-of-grow (kind-in t) (kind-in t′) u low (length t) (kind-stays t t′ x) n (rooted-inside t con n r)
 
 -- two constrained sites of one class of a matched rule have one constraint
-pub matched-uniform : (con : ℕ → Option Constraint) (rep : ℕ → ℕ) (at : Given) → Fulfils at con (Held rep) → (n m : ℕ) (d c : Constraint) → rep n ≡ rep m → con n ≡ some d → con m ≡ some c → d ≡ c
+pub matched-uniform : (con : ℕ → Option Constraint) (rep : ℕ → ℕ) (at : Given) → Fulfils at con (Held rep) → (n m : ℕ) (d c : Constraint) → rep n ≡ rep m →
+    con n ≡ some d → con m ≡ some c → d ≡ c
 matched-uniform con rep at M n m d c e f g =
     let x = M .meets n d f in
     let y = M .meets m c g in
@@ -111,9 +123,14 @@ matched-uniform con rep at M n m d c e f g =
     cc
 
 after : Solving → Sites → ℕ → Constraint → Solving
-after s t low c = record { sites = t; constraints = give-all (members (s .classes) low) c (s .constraints); classes = join-children t low c (others (s .classes) low) (dissolve (s .classes) low) }
+after s t low c = record {
+  sites = t;
+  constraints = give-all (members (s .classes) low) c (s .constraints);
+  classes = join-children t low c (others (s .classes) low) (dissolve (s .classes) low);
+}
 
-module _ (u : ℕ → Value) (s : Solving) (G : Good u s) (low : ℕ) (c : Constraint) (T : Taken s low c) (t′ : Sites) (at-item : ℕ) (grew : grow-all (s .sites) at-item (members (s .classes) low) c ≡ done t′) where
+module _ (u : ℕ → Value) (s : Solving) (G : Good u s) (low : ℕ) (c : Constraint) (T : Taken s low c) (t′ : Sites) (at-item : ℕ)
+    (grew : grow-all (s .sites) at-item (members (s .classes) low) c ≡ done t′) where
   abbrev k : Labels
   k = s .classes
 
@@ -198,7 +215,8 @@ module _ (u : ℕ → Value) (s : Solving) (G : Good u s) (low : ℕ) (c : Const
 
   is-round : Round (child-number t′) con rep con′ rep′ low c
   unfolding rep′
-  is-round = round-is (child-number t′) con con′ rep low c ps (G .well .sound .function) is-low pairs (T .member) seen-in (T .constrained) uniform con-in con-out
+  is-round =
+      round-is (child-number t′) con con′ rep low c ps (G .well .sound .function) is-low pairs (T .member) seen-in (T .constrained) uniform con-in con-out
 
   has′ : (n : ℕ) (d : Constraint) (i : ℕ) → con′ n ≡ some d → i < child-count d → Has t′ (child n d i)
   has′ n d i e h = go (ℕ-discrete (rep n) low)
@@ -211,14 +229,16 @@ module _ (u : ℕ → Value) (s : Solving) (G : Good u s) (low : ℕ) (c : Const
       go (no q) = full₀ .has n d i (sym (con-out n q) ∙ e) h
 
   state′ : State (kind-in t′) con′ (child-number t′) rep′
-  state′ = state-after (kind-in t′) (child-number t′) con rep con′ rep′ low c is-round (full-state t′ con rep full₀) (record { kids = λ n d i e h. child-kind t′ n d i (has′ n d i e h) })
+  state′ = state-after (kind-in t′) (child-number t′) con rep con′ rep′ low c is-round (full-state t′ con rep full₀)
+      (record { kids = λ n d i e h. child-kind t′ n d i (has′ n d i e h) })
 
   full′ : Full t′ con′ rep′
   full′ = record { has = has′; rooted = state′ .rooted; joined-rooted = state′ .joined-rooted }
 
   well′ : Well (s′ .classes)
   unfolding after
-  well′ = rw (children-joined t′ low c (others k low) (dissolve k low)) (all-well (all-pairs t′ low c (others k low)) (dissolve k low) (dissolve-well k low (G .well)))
+  well′ = rw (children-joined t′ low c (others k low) (dissolve k low))
+      (all-well (all-pairs t′ low c (others k low)) (dissolve k low) (dissolve-well k low (G .well)))
 
   is-done : round s at-item low c ≡ done s′
   unfolding round after
@@ -242,14 +262,17 @@ module _ (u : ℕ → Value) (s : Solving) (G : Good u s) (low : ℕ) (c : Const
 
 -- ---- a round over a larger table
 
-left-kid : (kid kid′ : ℕ → Constraint → ℕ → ℕ) (rep : ℕ → ℕ) (low : ℕ) (c : Constraint) → ((n i : ℕ) → rep n ≡ rep low → i < child-count c → kid′ n c i ≡ kid n c i) → {a b : ℕ} → Left kid rep low c a b → Left kid′ rep low c a b
+left-kid : (kid kid′ : ℕ → Constraint → ℕ → ℕ) (rep : ℕ → ℕ) (low : ℕ) (c : Constraint) →
+    ((n i : ℕ) → rep n ≡ rep low → i < child-count c → kid′ n c i ≡ kid n c i) → {a b : ℕ} → Left kid rep low c a b → Left kid′ rep low c a b
 left-kid kid kid′ rep low c h (old e q) = old e q
 left-kid kid kid′ rep low c h (kids {n = n} i e l) = rw (← h low i refl l, ← h n i e l) (kids i e l)
 left-kid kid kid′ rep low c h self = self
 left-kid kid kid′ rep low c h (back x) = back (left-kid kid kid′ rep low c h x)
 left-kid kid kid′ rep low c h (via x y) = via (left-kid kid kid′ rep low c h x) (left-kid kid kid′ rep low c h y)
 
-round-kid : (kid kid′ : ℕ → Constraint → ℕ → ℕ) (con : ℕ → Option Constraint) (rep : ℕ → ℕ) (con′ : ℕ → Option Constraint) (rep′ : ℕ → ℕ) (low : ℕ) (c : Constraint) → ((n i : ℕ) → rep n ≡ rep low → i < child-count c → kid′ n c i ≡ kid n c i) → Round kid con rep con′ rep′ low c → Round kid′ con rep con′ rep′ low c
+round-kid : (kid kid′ : ℕ → Constraint → ℕ → ℕ) (con : ℕ → Option Constraint) (rep : ℕ → ℕ)
+    (con′ : ℕ → Option Constraint) (rep′ : ℕ → ℕ) (low : ℕ) (c : Constraint) →
+    ((n i : ℕ) → rep n ≡ rep low → i < child-count c → kid′ n c i ≡ kid n c i) → Round kid con rep con′ rep′ low c → Round kid′ con rep con′ rep′ low c
 round-kid kid kid′ con rep con′ rep′ low c h R = record {
   seen = R .seen;
   seen-in = R .seen-in;
@@ -273,7 +296,8 @@ pub record Ran (s f : Solving) : Type 0 where
 rests : (u : ℕ → Value) (s : Solving) → Good u s → Ran s s
 rests u s G = record { extends = λ i x h. h; fair = G .fair; well = G .well; rounds = no-more }
 
-before : (u : ℕ → Value) (s f : Solving) (G : Good u s) (low : ℕ) (c : Constraint) (T : Taken s low c) (t′ : Sites) (at : ℕ) (grew : grow-all (s .sites) at (members (s .classes) low) c ≡ done t′) → Ran (after s t′ low c) f → Ran s f
+before : (u : ℕ → Value) (s f : Solving) (G : Good u s) (low : ℕ) (c : Constraint) (T : Taken s low c) (t′ : Sites) (at : ℕ)
+    (grew : grow-all (s .sites) at (members (s .classes) low) c ≡ done t′) → Ran (after s t′ low c) f → Ran s f
 unfolding after
 before u s f G low c T t′ at g N =
     let x = N .extends in
@@ -283,9 +307,11 @@ before u s f G low c T t′ at g N =
       fair = N .fair;
       well = N .well;
       rounds = one-more low c
-          (round-kid (child-number t′) (child-number (f .sites)) (look (s .constraints)) (lowest (s .classes)) (look (s′ .constraints)) (lowest (s′ .classes)) low c
+          (round-kid (child-number t′) (child-number (f .sites)) (look (s .constraints)) (lowest (s .classes))
+          (look (s′ .constraints)) (lowest (s′ .classes)) low c
           (λ n i q h. child-stays t′ (f .sites) x (N .fair .sites) n c i (round-has u s G low c T t′ at g n i q h)) (round-next u s G low c T t′ at g))
-          (full-state (f .sites) (look (s′ .constraints)) (lowest (s′ .classes)) (full-grows t′ (f .sites) (look (s′ .constraints)) (lowest (s′ .classes)) x (good-next u s G low c T t′ at g .full)) .grown)
+          (full-state (f .sites) (look (s′ .constraints)) (lowest (s′ .classes))
+          (full-grows t′ (f .sites) (look (s′ .constraints)) (lowest (s′ .classes)) x (good-next u s G low c T t′ at g .full)) .grown)
           (N .rounds);
     }
 
@@ -294,7 +320,9 @@ unfolding rounds
 rounds-ran u zero at s f G e = let q = done-once e in rw (← q) (rests u s G)
 rounds-ran u (suc j) at s f G e = go (take-class (s .classes) (s .constraints) (s .classes)) refl e (λ s′ G′ q. rounds-ran u j at s′ f G′ q)
   where
-    go : (o : Option (ℕ × Constraint)) → take-class (s .classes) (s .constraints) (s .classes) ≡ o → elim o as (λ _. Outcome Solving) [ none ↦ done s | some p ↦ round s at (p .0) (p .1) >>= rounds j at ] ≡ done f → ((s′ : Solving) → Good u s′ → rounds j at s′ ≡ done f → Ran s′ f) → Ran s f
+    go : (o : Option (ℕ × Constraint)) → take-class (s .classes) (s .constraints) (s .classes) ≡ o →
+        elim o as (λ _. Outcome Solving) [ none ↦ done s | some p ↦ round s at (p .0) (p .1) >>= rounds j at ] ≡ done f →
+        ((s′ : Solving) → Good u s′ → rounds j at s′ ≡ done f → Ran s′ f) → Ran s f
     go none q h r = let z = done-once h in rw (← z) (rests u s G)
     go (some (low, c)) q h r = next (bind-done (round s at low c) (rounds j at) f h)
       where

@@ -99,7 +99,8 @@ unfolding count value-at
 parts-ext nil nil e h = refl
 parts-ext nil (more y ys) e h = absurd (omega arith)
 parts-ext (more x xs) nil e h = absurd (omega arith)
-parts-ext (more x xs) (more y ys) e h = ap₂ more (let q : some x ≡ some y = h zero (omega arith) in cc) (parts-ext xs ys (omega arith) (λ i k. h (suc i) (omega arith)))
+parts-ext (more x xs) (more y ys) e h =
+    ap₂ more (let q : some x ≡ some y = h zero (omega arith) in cc) (parts-ext xs ys (omega arith) (λ i k. h (suc i) (omega arith)))
 
 pub at-in : (xs : Values) (i : ℕ) → i < count xs → (x : Value) × (value-at xs i ≡ some x)
 unfolding count value-at
@@ -190,7 +191,8 @@ pub field-in : (c : Constraint) (x : Value) (i : ℕ) → shape x ≡ some c →
 field-in c x i e h = field-has c x (proj-at c i) i e (field-of-proj-at c i h)
 
 -- and the shape and the fields make the value
-pub field-ext : (c : Constraint) (x y : Value) → shape x ≡ some c → shape y ≡ some c → ((i : ℕ) → i < child-count c → field (proj-at c i) x ≡ field (proj-at c i) y) → x ≡ y
+pub field-ext : (c : Constraint) (x y : Value) → shape x ≡ some c → shape y ≡ some c →
+    ((i : ℕ) → i < child-count c → field (proj-at c i) x ≡ field (proj-at c i) y) → x ≡ y
 field-ext c x y e d h =
     let k = make-shape x c e in
     let l = make-shape y c d in

@@ -17,18 +17,21 @@ use Rattle.meaning.specs.Round.{Grown, State, Left, old, kids, self, bac
 -- ---- a round keeps what a state promises
 
 -- the constraint of a site stays
-con-stays : (kid : ℕ → Constraint → ℕ → ℕ) (con : ℕ → Option Constraint) (rep : ℕ → ℕ) (con′ : ℕ → Option Constraint) (rep′ : ℕ → ℕ) (low : ℕ) (c : Constraint) → Round kid con rep con′ rep′ low c → (n : ℕ) (d : Constraint) → con n ≡ some d → con′ n ≡ some d
+con-stays : (kid : ℕ → Constraint → ℕ → ℕ) (con : ℕ → Option Constraint) (rep : ℕ → ℕ) (con′ : ℕ → Option Constraint) (rep′ : ℕ → ℕ) (low : ℕ)
+    (c : Constraint) → Round kid con rep con′ rep′ low c → (n : ℕ) (d : Constraint) → con n ≡ some d → con′ n ≡ some d
 con-stays kid con rep con′ rep′ low c R n d e = go (ℕ-discrete (rep n) (rep low))
   where
     go : Dec (rep n ≡ rep low) → con′ n ≡ some d
     go (yes q) = R .con-in n q ∙ ap some (sym (R .uniform n d q e))
     go (no q) = R .con-out n q ∙ e
 
-pub rooted-stays : (kind : ℕ → Kind) (con con′ : ℕ → Option Constraint) → ((n : ℕ) (d : Constraint) → con n ≡ some d → con′ n ≡ some d) → (n : ℕ) → Rooted kind con n → Rooted kind con′ n
+pub rooted-stays : (kind : ℕ → Kind) (con con′ : ℕ → Option Constraint) → ((n : ℕ) (d : Constraint) → con n ≡ some d → con′ n ≡ some d) → (n : ℕ) →
+    Rooted kind con n → Rooted kind con′ n
 rooted-stays kind con con′ h n (top e) = top e
 rooted-stays kind con con′ h n (under m p c i e f g) = under m p c i e (h m c f) g
 
-module _ (kind : ℕ → Kind) (kid : ℕ → Constraint → ℕ → ℕ) (con : ℕ → Option Constraint) (rep : ℕ → ℕ) (con′ : ℕ → Option Constraint) (rep′ : ℕ → ℕ) (low : ℕ) (c : Constraint)
+module _ (kind : ℕ → Kind) (kid : ℕ → Constraint → ℕ → ℕ) (con : ℕ → Option Constraint) (rep : ℕ → ℕ) (con′ : ℕ → Option Constraint) (rep′ : ℕ → ℕ) (low : ℕ)
+    (c : Constraint)
     (R : Round kid con rep con′ rep′ low c) (S : State kind con kid rep) (G : Grown kind con′ kid) where
   stays : (n : ℕ) → Rooted kind con n → Rooted kind con′ n
   stays = rooted-stays kind con con′ (con-stays kid con rep con′ rep′ low c R)
@@ -52,7 +55,8 @@ module _ (kind : ℕ → Kind) (kid : ℕ → Constraint → ℕ → ℕ) (con :
       go (inr p) = inr (p .1, p .0)
   left-rooted (via h k) = go (left-rooted h) (left-rooted k)
     where
-      go : {a b d : ℕ} → (a ≡ b) ⊎ (Rooted kind con′ a × Rooted kind con′ b) → (b ≡ d) ⊎ (Rooted kind con′ b × Rooted kind con′ d) → (a ≡ d) ⊎ (Rooted kind con′ a × Rooted kind con′ d)
+      go : {a b d : ℕ} → (a ≡ b) ⊎ (Rooted kind con′ a × Rooted kind con′ b) → (b ≡ d) ⊎ (Rooted kind con′ b × Rooted kind con′ d) →
+          (a ≡ d) ⊎ (Rooted kind con′ a × Rooted kind con′ d)
       go (inl p) (inl q) = inl (p ∙ q)
       go {a} {b} {d} (inl p) (inr q) = inr (rw p (q .0), q .1)
       go {a} {b} {d} (inr p) (inl q) = inr (p .0, rw (sym q) (p .1))
@@ -82,13 +86,17 @@ module _ (kind : ℕ → Kind) (kid : ℕ → Constraint → ℕ → ℕ) (con :
 
 pub data Rounds (kind : ℕ → Kind) (kid : ℕ → Constraint → ℕ → ℕ) : (ℕ → Option Constraint) → (ℕ → ℕ) → (ℕ → Option Constraint) → (ℕ → ℕ) → Type 0 where
   no-more : {con : ℕ → Option Constraint} {rep : ℕ → ℕ} → Rounds kind kid con rep con rep
-  one-more : {con con₁ con₂ : ℕ → Option Constraint} {rep rep₁ rep₂ : ℕ → ℕ} (low : ℕ) (c : Constraint) → Round kid con rep con₁ rep₁ low c → Grown kind con₁ kid → Rounds kind kid con₁ rep₁ con₂ rep₂ → Rounds kind kid con rep con₂ rep₂
+  one-more : {con con₁ con₂ : ℕ → Option Constraint} {rep rep₁ rep₂ : ℕ → ℕ} (low : ℕ) (c : Constraint) → Round kid con rep con₁ rep₁ low c →
+      Grown kind con₁ kid → Rounds kind kid con₁ rep₁ con₂ rep₂ → Rounds kind kid con rep con₂ rep₂
 
-pub rounds-state : {kind : ℕ → Kind} {kid : ℕ → Constraint → ℕ → ℕ} {con con′ : ℕ → Option Constraint} {rep rep′ : ℕ → ℕ} → Rounds kind kid con rep con′ rep′ → State kind con kid rep → State kind con′ kid rep′
+pub rounds-state : {kind : ℕ → Kind} {kid : ℕ → Constraint → ℕ → ℕ} {con con′ : ℕ → Option Constraint} {rep rep′ : ℕ → ℕ} → Rounds kind kid con rep con′ rep′ →
+    State kind con kid rep → State kind con′ kid rep′
 rounds-state no-more S = S
-rounds-state {kind} {kid} (one-more {con = con} {con₁ = con₁} {rep = rep} {rep₁ = rep₁} low c R G N) S = rounds-state N (state-after kind kid con rep con₁ rep₁ low c R S G)
+rounds-state {kind} {kid} (one-more {con = con} {con₁ = con₁} {rep = rep} {rep₁ = rep₁} low c R G N) S =
+    rounds-state N (state-after kind kid con rep con₁ rep₁ low c R S G)
 
-pub rounds-same : {kind : ℕ → Kind} {kid : ℕ → Constraint → ℕ → ℕ} {con con′ : ℕ → Option Constraint} {rep rep′ : ℕ → ℕ} → Rounds kind kid con rep con′ rep′ → State kind con kid rep → (at : Given) → Reads kind at → Fulfils at con (Held rep) ↔ Fulfils at con′ (Held rep′)
+pub rounds-same : {kind : ℕ → Kind} {kid : ℕ → Constraint → ℕ → ℕ} {con con′ : ℕ → Option Constraint} {rep rep′ : ℕ → ℕ} → Rounds kind kid con rep con′ rep′ →
+    State kind con kid rep → (at : Given) → Reads kind at → Fulfils at con (Held rep) ↔ Fulfils at con′ (Held rep′)
 rounds-same no-more S at I = (λ m. m, λ m. m)
 rounds-same {kind} {kid} (one-more {con = con} {con₁ = con₁} {rep = rep} {rep₁ = rep₁} low c R G N) S at I =
     let S₁ = state-after kind kid con rep con₁ rep₁ low c R S G in
@@ -113,7 +121,8 @@ pub record Loaded (kind : ℕ → Kind) (items : List Item) (con : ℕ → Optio
   pub only : (a b : ℕ) → rep a ≡ rep b → Wrote items a b
   pub named : (a b : ℕ) → List·Memᴰ (Equal a b) items → Rooted kind con a × Rooted kind con b
 
-module _ (kind : ℕ → Kind) (kid : ℕ → Constraint → ℕ → ℕ) (items : List Item) (con : ℕ → Option Constraint) (rep : ℕ → ℕ) (L : Loaded kind items con rep) (S : State kind con kid rep) (at : Given) (I : Reads kind at) where
+module _ (kind : ℕ → Kind) (kid : ℕ → Constraint → ℕ → ℕ) (items : List Item) (con : ℕ → Option Constraint) (rep : ℕ → ℕ) (L : Loaded kind items con rep)
+    (S : State kind con kid rep) (at : Given) (I : Reads kind at) where
   wrote-same : (h : (i : Item) → List·Memᴰ i items → MeetsItem at i) {a b : ℕ} → Wrote items a b → at a ≡ at b
   wrote-same h (given {a = a} {b = b} m) = let g = h (Equal a b) m in g .one ∙ sym (g .other)
   wrote-same h self-w = refl
@@ -153,9 +162,11 @@ pub record Kept (kind : ℕ → Kind) (room : ℕ) (kid : ℕ → Constraint →
   pub rounds : Rounds kind kid con₀ rep₀ con rep
   pub ended : (a b : ℕ) → rep a ≡ rep b → (a ≡ b → ⊥) → con a ≡ none
 
-module _ {kind : ℕ → Kind} {room : ℕ} {kid : ℕ → Constraint → ℕ → ℕ} {items : List Item} {con : ℕ → Option Constraint} {rep : ℕ → ℕ} (K : Kept kind room kid items con rep) where
+module _ {kind : ℕ → Kind} {room : ℕ} {kid : ℕ → Constraint → ℕ → ℕ} {items : List Item} {con : ℕ → Option Constraint} {rep : ℕ → ℕ}
+    (K : Kept kind room kid items con rep) where
   pub solved : Solved kind con kid rep
-  solved = let S = rounds-state (K .rounds) (K .start) in record { kids = S .grown .kids; rooted = S .rooted; joined-rooted = S .joined-rooted; joined-free = K .ended }
+  solved = let S = rounds-state (K .rounds) (K .start) in
+      record { kids = S .grown .kids; rooted = S .rooted; joined-rooted = S .joined-rooted; joined-free = K .ended }
 
   pub kept-same : (at : Given) → Reads kind at → Matches at items ↔ Fulfils at con (Held rep)
   kept-same at I =

@@ -1,4 +1,4 @@
--- Demand 3 of 01, four parts, of what `load` answers over lent memory. (meaning's Demand3 has them of paper's `load`; loading's contract says that
+-- Demand 3 of 01, four parts, of what `load` answers over lent memory. (meaning's Demand3 has them of paper's `load`; rule_load's contract says that
 -- the answer is `load-in`.)
 use mathlib.Core.Path.{_≡_, refl, sym, ap, _∙_}
 use mathlib.Core.Bool.{_&&_}
@@ -11,7 +11,6 @@ use lib.ListN.{length, getD}
 use lib.Seq.{getD-at}
 use lib.Dec.{ltb, leb}
 use Rattle.paper.specs.declared.Constraint.{Constraint}
-use Rattle.paper.specs.declared.Refusal.{Refusal}
 use Rattle.paper.specs.declared.Refusal.the-variants.{TooManySites, TooManyRules}
 use Rattle.paper.specs.declared.Rule.{Rule}
 use Rattle.paper.specs.Words.{look}
@@ -27,7 +26,7 @@ use Rattle.sites.proofs.Places.{sites-length}
 use Rattle.rule_load.specs.Whole.{set-in, load-in}
 use Rattle.rule_load.proofs.Parting.{first-length}
 use Rattle.rule_load.proofs.Afterwards.{load-is, kept-comes}
-use Rattle.meaning.specs.RuleSites.{Four-or-six}
+use Rattle.meaning.specs.RuleSites.{Only-four-or-six, Refused-four-or-six}
 use Rattle.meaning.specs.Demand3.{Unmatched, Keeps, Holds-equal, demand-1, demand-2, demand-3, demand-4}
 
 loaded-so : (m : List ℕ) (n : ℕ) (ws : List ℕ) (k : ℕ) (r : Rule) (g : Set) → load-in m n ws k r ≡ done g → load (set-in m n ws k) (written r) ≡ done g
@@ -40,7 +39,8 @@ loaded-so m n ws k r g e =
     z .1 ∙ ap done (done-once (w .1))
 
 -- the rule that was kept is the set's last
-pub kept-last : (m : List ℕ) (n : ℕ) (ws : List ℕ) (k : ℕ) (r : Rule) (g : Set) → load-in m n ws k r ≡ done g → Keeps (set-in m n ws k) (written r) g (getD (g .kept) k no-rule)
+pub kept-last : (m : List ℕ) (n : ℕ) (ws : List ℕ) (k : ℕ) (r : Rule) (g : Set) → load-in m n ws k r ≡ done g →
+    Keeps (set-in m n ws k) (written r) g (getD (g .kept) k no-rule)
 unfolding with-rule set-in
 kept-last m n ws k r g e =
     let C = kept-comes m n ws k r g e in
@@ -54,8 +54,8 @@ module _ (m : List ℕ) (n : ℕ) (ws : List ℕ) (k : ℕ) (r : Rule) (S : Soun
   sound = S
 
   -- 1. where the memory has room for the limits
-  pub demand-1-in : max-sites * slot ≤ length m → base max-rules ≤ length ws → k ≤ max-rules → ((x : Refusal) → load-in m n ws k r ≡ refused x → Four-or-six x)
-      → ((x : Refusal) × (load-in m n ws k r ≡ refused x) × Four-or-six x) ↔ Unmatched (set-in m n ws k) (written r)
+  pub demand-1-in : max-sites * slot ≤ length m → base max-rules ≤ length ws → k ≤ max-rules → Only-four-or-six (load-in m n ws k r) →
+      Refused-four-or-six (load-in m n ws k r) ↔ Unmatched (set-in m n ws k) (written r)
   demand-1-in a b c others =
       let h = sites-length m n in
       let f = S .fits in
@@ -72,7 +72,8 @@ module _ (m : List ℕ) (n : ℕ) (ws : List ℕ) (k : ℕ) (r : Rule) (S : Soun
     demand-2-in = demand-2 (set-in m n ws k) (written r) g rule sound (kept-last m n ws k r g e)
 
     -- 3. constrained exactly where forced
-    pub demand-3-in : (i : ℕ) (c : Constraint) → (look (rule .constraints) i ≡ some c) ↔ ((at : Given) → Input (g .sites) at → Matches at (written r .items) → Meets at i c)
+    pub demand-3-in : (i : ℕ) (c : Constraint) →
+        (look (rule .constraints) i ≡ some c) ↔ ((at : Given) → Input (g .sites) at → Matches at (written r .items) → Meets at i c)
     demand-3-in = demand-3 (set-in m n ws k) (written r) g rule sound (kept-last m n ws k r g e)
 
     -- 4. equal exactly where forced

@@ -1,8 +1,8 @@
 -- `lintelbox::joins::lintel_find` meets its contract. Assumes nothing.
 use mathlib.Core.Path.{ap, _∙_}
 use borrow.Author.Needs.{needs}
-use Rattle.lintelbox.specs.Border.{looked-said}
-use Rattle.lintelbox.proofs.Crossing.{via, looked-is}
+use Rattle.box_answers.specs.Border.{looked-said}
+use Rattle.box_answers.proofs.Crossing.{via, looked-is}
 use Rattle.lintelbox.proofs.joins.lintel_find.Statement.{statement}
 use Rattle.lintelbox.proofs.joins.lintel_find.Tie as tie
 

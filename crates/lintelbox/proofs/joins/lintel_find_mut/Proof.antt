@@ -1,7 +1,7 @@
 -- `lintelbox::joins::lintel_find_mut` meets its contract. Assumes nothing.
 use mathlib.Core.Path.{_∙_}
 use borrow.Author.Needs.{needs}
-use Rattle.lintelbox.proofs.Crossing.{too-short, stayed, went, less, enough, via, sought-is}
+use Rattle.box_answers.proofs.Crossing.{too-short, stayed, went, less, enough, via, sought-is}
 use Rattle.lintelbox.proofs.joins.lintel_find_mut.Statement.{statement}
 use Rattle.lintelbox.proofs.joins.lintel_find_mut.Tie as tie
 

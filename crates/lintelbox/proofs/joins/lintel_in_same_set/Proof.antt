@@ -1,8 +1,8 @@
 -- `lintelbox::joins::lintel_in_same_set` meets its contract. Assumes nothing.
 use mathlib.Core.Path.{ap, _∙_}
 use borrow.Author.Needs.{needs}
-use Rattle.lintelbox.specs.Border.{same-said}
-use Rattle.lintelbox.proofs.Crossing.{via, same-is}
+use Rattle.box_answers.specs.Border.{same-said}
+use Rattle.box_answers.proofs.Crossing.{via, same-is}
 use Rattle.lintelbox.proofs.joins.lintel_in_same_set.Statement.{statement}
 use Rattle.lintelbox.proofs.joins.lintel_in_same_set.Tie as tie
 

@@ -1,5 +1,5 @@
 -- `lintelbox::joins::lintel_is_empty` meets its contract. Assumes nothing.
-use Rattle.lintelbox.proofs.Crossing.{empty-is, not-empty-is}
+use Rattle.box_answers.proofs.Crossing.{empty-is, not-empty-is}
 use Rattle.lintelbox.proofs.joins.lintel_is_empty.Statement.{statement}
 use Rattle.lintelbox.proofs.joins.lintel_is_empty.Tie as tie
 

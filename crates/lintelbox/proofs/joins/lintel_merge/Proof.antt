@@ -1,7 +1,7 @@
 -- `lintelbox::joins::lintel_merge` meets its contract. Assumes nothing.
 use mathlib.Core.Path.{_∙_}
 use borrow.Author.Needs.{needs}
-use Rattle.lintelbox.proofs.Crossing.{too-short, stayed, went, less, enough, via, merged-is}
+use Rattle.box_answers.proofs.Crossing.{too-short, stayed, went, less, enough, via, merged-is}
 use Rattle.lintelbox.proofs.joins.lintel_merge.Statement.{statement}
 use Rattle.lintelbox.proofs.joins.lintel_merge.Tie as tie
 

@@ -2,7 +2,7 @@
 use mathlib.Core.Path.{_∙_}
 use denote.Ref.{now}
 use borrow.Author.Needs.{needs}
-use Rattle.lintelbox.proofs.Crossing.{too-short, stayed, went, less, enough, first-no, second-no, both-yes, via, past, all-taken}
+use Rattle.box_answers.proofs.Crossing.{too-short, stayed, went, less, enough, first-no, second-no, both-yes, via, past, all-taken}
 use Rattle.lintelbox.proofs.joins.lintel_remove_set_of.Statement.{statement}
 use Rattle.lintelbox.proofs.joins.lintel_remove_set_of.Tie as tie
 

@@ -2,8 +2,7 @@
 use mathlib.Core.Path.{refl}
 use denote.Ref.{now}
 use borrow.Author.Needs.{needs}
-use Rattle.lintelbox.specs.Loads.{load-said, load-sites, load-words}
-use Rattle.lintelbox.proofs.Crossing.{too-short, stayed, went, less, enough, first-no, second-no, both-yes, via, past}
+use Rattle.box_answers.proofs.Crossing.{too-short, stayed, went, less, enough, first-no, second-no, both-yes, via, past, load-said, load-sites, load-words}
 use Rattle.lintelbox.proofs.loads.lintel_load.Statement.{statement}
 use Rattle.lintelbox.proofs.loads.lintel_load.Tie as tie
 
@@ -36,10 +35,10 @@ same-length-3 c = search needs
 
 returns-3 : tie.Need-returns-3
 returns-3 c = (
-  past _ _ _ _ _ (enough _ _ (c .before .before .before .before .before .before .before .before .before .before .before .before .before .if1 .left)) (via _ _ _ _ _ (c .before .before .say .ensures) (load-said (now (c .before .before .before .before .before .before .before .before .before .before .before .before .before .before .before .before .before .before .args .sites)) (c .before .before .before .before .before .before .before .before .before .before .before .before .before .before .before .before .before .before .args .count) (now (c .before .before .before .before .before .before .before .before .before .before .before .before .before .before .before .before .before .before .args .words)) (c .before .before .before .before .before .before .before .before .before .before .before .before .before .before .before .before .before .before .args .kept) _ _ _ _ refl (c .before .before .before .before .before .before .before .before .before .load-handed .ensures .0) (c .before .before .before .loaded-said .ensures))),
+  past _ _ _ _ _ (enough _ _ (c .before .before .before .before .before .before .before .before .before .before .before .before .before .if1 .left)) (via _ _ _ _ _ (c .before .before .say .ensures) (load-said (now (c .before .before .before .before .before .before .before .before .before .before .before .before .before .before .before .before .before .before .args .slots)) (c .before .before .before .before .before .before .before .before .before .before .before .before .before .before .before .before .before .before .args .count) (now (c .before .before .before .before .before .before .before .before .before .before .before .before .before .before .before .before .before .before .args .words)) (c .before .before .before .before .before .before .before .before .before .before .before .before .before .before .before .before .before .before .args .kept) _ _ _ _ refl (c .before .before .before .before .before .before .before .before .before .load-handed .ensures .0) (c .before .before .before .loaded-said .ensures))),
   (
-    went _ _ _ _ (both-yes _ _ (enough _ _ (c .before .before .before .before .before .before .before .before .before .before .before .before .before .if1 .left)) (enough _ _ (c .before .before .before .before .before .before .before .before .before .before .before .before .if2 .left))) (load-sites (now (c .before .before .before .before .before .before .before .before .before .before .before .before .before .before .before .before .before .before .args .sites)) (c .before .before .before .before .before .before .before .before .before .before .before .before .before .before .before .before .before .before .args .count) (now (c .before .before .before .before .before .before .before .before .before .before .before .before .before .before .before .before .before .before .args .words)) (c .before .before .before .before .before .before .before .before .before .before .before .before .before .before .before .before .before .before .args .kept) _ _ _ refl (c .before .before .before .before .before .before .before .before .before .load-handed .ensures .1 .0)),
-    went _ _ _ _ (both-yes _ _ (enough _ _ (c .before .before .before .before .before .before .before .before .before .before .before .before .before .if1 .left)) (enough _ _ (c .before .before .before .before .before .before .before .before .before .before .before .before .if2 .left))) (load-words (now (c .before .before .before .before .before .before .before .before .before .before .before .before .before .before .before .before .before .before .args .sites)) (c .before .before .before .before .before .before .before .before .before .before .before .before .before .before .before .before .before .before .args .count) (now (c .before .before .before .before .before .before .before .before .before .before .before .before .before .before .before .before .before .before .args .words)) (c .before .before .before .before .before .before .before .before .before .before .before .before .before .before .before .before .before .before .args .kept) _ _ _ refl (c .before .before .before .before .before .before .before .before .before .load-handed .ensures .1 .1)),
+    went _ _ _ _ (both-yes _ _ (enough _ _ (c .before .before .before .before .before .before .before .before .before .before .before .before .before .if1 .left)) (enough _ _ (c .before .before .before .before .before .before .before .before .before .before .before .before .if2 .left))) (load-sites (now (c .before .before .before .before .before .before .before .before .before .before .before .before .before .before .before .before .before .before .args .slots)) (c .before .before .before .before .before .before .before .before .before .before .before .before .before .before .before .before .before .before .args .count) (now (c .before .before .before .before .before .before .before .before .before .before .before .before .before .before .before .before .before .before .args .words)) (c .before .before .before .before .before .before .before .before .before .before .before .before .before .before .before .before .before .before .args .kept) _ _ _ refl (c .before .before .before .before .before .before .before .before .before .load-handed .ensures .1 .0)),
+    went _ _ _ _ (both-yes _ _ (enough _ _ (c .before .before .before .before .before .before .before .before .before .before .before .before .before .if1 .left)) (enough _ _ (c .before .before .before .before .before .before .before .before .before .before .before .before .if2 .left))) (load-words (now (c .before .before .before .before .before .before .before .before .before .before .before .before .before .before .before .before .before .before .args .slots)) (c .before .before .before .before .before .before .before .before .before .before .before .before .before .before .before .before .before .before .args .count) (now (c .before .before .before .before .before .before .before .before .before .before .before .before .before .before .before .before .before .before .args .words)) (c .before .before .before .before .before .before .before .before .before .before .before .before .before .before .before .before .before .before .args .kept) _ _ _ refl (c .before .before .before .before .before .before .before .before .before .load-handed .ensures .1 .1)),
   ),
 )
 

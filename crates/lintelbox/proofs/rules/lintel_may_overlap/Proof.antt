@@ -1,8 +1,8 @@
 -- `lintelbox::rules::lintel_may_overlap` meets its contract. Assumes nothing.
 use mathlib.Core.Path.{ap, refl, _∙_}
 use borrow.Author.Needs.{needs}
-use Rattle.lintelbox.specs.Border.{overlap-word}
-use Rattle.lintelbox.proofs.Crossing.{too-short, no-rule, rule-there, first-no, second-no, via, past, done-as}
+use Rattle.box_answers.specs.Border.{overlap-word}
+use Rattle.box_answers.proofs.Crossing.{too-short, no-rule, rule-there, first-no, second-no, via, past, done-as}
 use Rattle.lintelbox.proofs.rules.lintel_may_overlap.Statement.{statement}
 use Rattle.lintelbox.proofs.rules.lintel_may_overlap.Tie as tie
 

@@ -1,8 +1,8 @@
 -- `lintelbox::rules::lintel_report` meets its contract. Assumes nothing.
 use mathlib.Core.Path.{ap, _∙_}
 use borrow.Author.Needs.{needs}
-use Rattle.lintelbox.specs.Border.{reported-said}
-use Rattle.lintelbox.proofs.Crossing.{too-short, stayed, went, less, enough, no-rules, rules-there, first-no, second-no, both-yes, via, past}
+use Rattle.box_answers.specs.Border.{reported-said}
+use Rattle.box_answers.proofs.Crossing.{too-short, stayed, went, less, enough, no-rules, rules-there, first-no, second-no, both-yes, via, past}
 use Rattle.lintelbox.proofs.rules.lintel_report.Statement.{statement}
 use Rattle.lintelbox.proofs.rules.lintel_report.Tie as tie
 

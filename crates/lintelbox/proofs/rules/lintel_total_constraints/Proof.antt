@@ -1,7 +1,7 @@
 -- `lintelbox::rules::lintel_total_constraints` meets its contract. Assumes nothing.
 use mathlib.Core.Path.{refl}
 use borrow.Author.Needs.{needs}
-use Rattle.lintelbox.proofs.Crossing.{too-short, no-rule, rule-there, first-no, via, past, done-as}
+use Rattle.box_answers.proofs.Crossing.{too-short, no-rule, rule-there, first-no, via, past, done-as}
 use Rattle.lintelbox.proofs.rules.lintel_total_constraints.Statement.{statement}
 use Rattle.lintelbox.proofs.rules.lintel_total_constraints.Tie as tie
 

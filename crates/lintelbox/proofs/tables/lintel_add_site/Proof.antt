@@ -1,8 +1,8 @@
 -- `lintelbox::tables::lintel_add_site` meets its contract. Assumes nothing.
 use mathlib.Core.Path.{ap, _∙_}
 use borrow.Author.Needs.{needs}
-use Rattle.lintelbox.specs.Border.{numbered-said}
-use Rattle.lintelbox.proofs.Crossing.{too-short, stayed, went, less, enough, via, numbered-is}
+use Rattle.box_answers.specs.Border.{numbered-said}
+use Rattle.box_answers.proofs.Crossing.{too-short, stayed, went, less, enough, via, numbered-is}
 use Rattle.lintelbox.proofs.tables.lintel_add_site.Statement.{statement}
 use Rattle.lintelbox.proofs.tables.lintel_add_site.Tie as tie
 

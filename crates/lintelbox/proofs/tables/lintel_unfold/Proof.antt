@@ -1,8 +1,8 @@
 -- `lintelbox::tables::lintel_unfold` meets its contract. Assumes nothing.
 use mathlib.Core.Path.{ap, _∙_}
 use borrow.Author.Needs.{needs}
-use Rattle.lintelbox.specs.Border.{unfolded-said}
-use Rattle.lintelbox.proofs.Crossing.{too-short, stayed, went, less, enough, via, unfolded-is}
+use Rattle.box_answers.specs.Border.{unfolded-said}
+use Rattle.box_answers.proofs.Crossing.{too-short, stayed, went, less, enough, via, unfolded-is}
 use Rattle.lintelbox.proofs.tables.lintel_unfold.Statement.{statement}
 use Rattle.lintelbox.proofs.tables.lintel_unfold.Tie as tie
 

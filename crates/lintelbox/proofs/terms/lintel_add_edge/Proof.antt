@@ -1,7 +1,7 @@
 -- `lintelbox::terms::lintel_add_edge` meets its contract. Assumes nothing.
 use mathlib.Core.Path.{_∙_}
 use borrow.Author.Needs.{needs}
-use Rattle.lintelbox.proofs.Crossing.{too-short, stayed, went, less, enough, via, added-is, left-is}
+use Rattle.box_answers.proofs.Crossing.{too-short, stayed, went, less, enough, via, added-is, left-is}
 use Rattle.lintelbox.proofs.terms.lintel_add_edge.Statement.{statement}
 use Rattle.lintelbox.proofs.terms.lintel_add_edge.Tie as tie
 

@@ -6,7 +6,7 @@ use denote.Ref.{now}
 use borrow.Author.Needs.{needs}
 use Rattle.term_table.specs.Table.{terms}
 use Rattle.term_table.specs.declared.Listed.{Listed}
-use Rattle.lintelbox.proofs.Crossing.{too-short, stayed, went, less, enough, first-no, second-no, both-yes, via, past, done-as, listed-count}
+use Rattle.box_answers.proofs.Crossing.{too-short, stayed, went, less, enough, first-no, second-no, both-yes, via, past, done-as, listed-count}
 use Rattle.lintelbox.proofs.terms.lintel_cyclic_terms.Statement.{statement}
 use Rattle.lintelbox.proofs.terms.lintel_cyclic_terms.Tie as tie
 
@@ -25,8 +25,8 @@ slice-aggregate-put-terms c = search needs
 put-terms-requires : tie.Need-put-terms-requires
 put-terms-requires c κs = search needs
 
-wide-requires : tie.Need-wide-requires
-wide-requires c κs = search needs
+word16-requires : tie.Need-word16-requires
+word16-requires c κs = search needs
 
 done-requires : tie.Need-done-requires
 done-requires c κs = search needs
@@ -41,7 +41,7 @@ same-length-2 : tie.Need-same-length-2
 same-length-2 c = search needs
 
 returns-3 : tie.Need-returns-3
-returns-3 c = (past _ _ _ _ _ (enough _ _ (c .before .before .before .before .before .before .before .before .before .before .before .before .before .before .if1 .left)) (via _ _ _ _ _ (c .before .before .say .ensures) (done-as _ _ _ _ _ (c .before .before .before .done .ensures) (c .before .before .before .before .wide .ensures ∙ ap (λ (l : Listed). l .count) (c .before .before .before .before .before .before .before .before .before .before .before .before .findings .ensures) ∙ listed-count _) refl)), went _ _ _ _ (both-yes _ _ (enough _ _ (c .before .before .before .before .before .before .before .before .before .before .before .before .before .before .if1 .left)) (enough _ _ (c .before .before .before .before .before .before .before .before .before .before .before .before .before .if2 .left))) (c .before .before .before .before .before .before .before .before .put-terms .ensures ∙ ap (λ (l : Listed). l .terms ++ drop terms (now (c .before .before .before .before .before .before .before .before .before .before .before .before .before .before .before .before .before .args .found))) (c .before .before .before .before .before .before .before .before .before .before .before .before .findings .ensures)))
+returns-3 c = (past _ _ _ _ _ (enough _ _ (c .before .before .before .before .before .before .before .before .before .before .before .before .before .before .if1 .left)) (via _ _ _ _ _ (c .before .before .say .ensures) (done-as _ _ _ _ _ (c .before .before .before .done .ensures) (c .before .before .before .before .word16 .ensures ∙ ap (λ (l : Listed). l .count) (c .before .before .before .before .before .before .before .before .before .before .before .before .findings .ensures) ∙ listed-count _) refl)), went _ _ _ _ (both-yes _ _ (enough _ _ (c .before .before .before .before .before .before .before .before .before .before .before .before .before .before .if1 .left)) (enough _ _ (c .before .before .before .before .before .before .before .before .before .before .before .before .before .if2 .left))) (c .before .before .before .before .before .before .before .before .put-terms .ensures ∙ ap (λ (l : Listed). l .terms ++ drop terms (now (c .before .before .before .before .before .before .before .before .before .before .before .before .before .before .before .before .before .args .found))) (c .before .before .before .before .before .before .before .before .before .before .before .before .findings .ensures)))
 
 pub lintel-cyclic-terms-spec : {M : Type 1} → statement M
 lintel-cyclic-terms-spec =
@@ -52,7 +52,7 @@ lintel-cyclic-terms-spec =
     findings-requires
     slice-aggregate-put-terms
     put-terms-requires
-    wide-requires
+    word16-requires
     done-requires
     say-requires
     same-length

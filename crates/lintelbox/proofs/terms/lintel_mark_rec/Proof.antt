@@ -1,7 +1,7 @@
 -- `lintelbox::terms::lintel_mark_rec` meets its contract. Assumes nothing.
 use mathlib.Core.Path.{_∙_}
 use borrow.Author.Needs.{needs}
-use Rattle.lintelbox.proofs.Crossing.{too-short, stayed, went, less, enough, via, added-is, left-is}
+use Rattle.box_answers.proofs.Crossing.{too-short, stayed, went, less, enough, via, added-is, left-is}
 use Rattle.lintelbox.proofs.terms.lintel_mark_rec.Statement.{statement}
 use Rattle.lintelbox.proofs.terms.lintel_mark_rec.Tie as tie
 

@@ -1,6 +1,6 @@
 -- `lintelbox::terms::lintel_terms_clear` meets its contract. Assumes nothing.
 use borrow.Author.Needs.{needs}
-use Rattle.lintelbox.proofs.Crossing.{no-marks-is}
+use Rattle.box_answers.proofs.Crossing.{no-marks-is}
 use Rattle.lintelbox.proofs.terms.lintel_terms_clear.Statement.{statement}
 use Rattle.lintelbox.proofs.terms.lintel_terms_clear.Tie as tie
 

@@ -1,0 +1,31 @@
+-- `box_answers::calls::taken_said` meets its contract. Assumes nothing.
+use mathlib.Core.Path.{sym, ap, _∙_}
+use borrow.Author.Needs.{needs}
+use Rattle.box_answers.specs.Border.{taken-said}
+use Rattle.box_answers.proofs.calls.taken_said.Statement.{statement}
+use Rattle.box_answers.proofs.calls.taken_said.Tie as tie
+
+enum-known-t : tie.Need-enum-known-t
+enum-known-t c = search needs
+
+done-requires : tie.Need-done-requires
+done-requires c κs = search needs
+
+enum-known-t-2 : tie.Need-enum-known-t-2
+enum-known-t-2 c = search needs
+
+refused-requires : tie.Need-refused-requires
+refused-requires c κs = search needs
+
+returns : tie.Need-returns
+unfolding taken-said
+returns c = c .done .ensures ∙ sym (ap taken-said (c .before .before .t .given .1))
+
+returns-2 : tie.Need-returns-2
+unfolding taken-said
+returns-2 c = c .refused .ensures ∙ sym (ap taken-said (c .before .before .t2 .given .1))
+
+pub taken-said-spec : {M : Type 1} → statement M
+taken-said-spec =
+    tie.close
+    (tie.spec enum-known-t done-requires enum-known-t-2 refused-requires returns returns-2)

@@ -1,0 +1,31 @@
+-- `box_answers::calls::unfolded_said` meets its contract. Assumes nothing.
+use mathlib.Core.Path.{sym, ap, _∙_}
+use borrow.Author.Needs.{needs}
+use Rattle.box_answers.specs.Border.{unfolded-said}
+use Rattle.box_answers.proofs.calls.unfolded_said.Statement.{statement}
+use Rattle.box_answers.proofs.calls.unfolded_said.Tie as tie
+
+enum-known-u : tie.Need-enum-known-u
+enum-known-u c = search needs
+
+done-requires : tie.Need-done-requires
+done-requires c κs = search needs
+
+enum-known-u-2 : tie.Need-enum-known-u-2
+enum-known-u-2 c = search needs
+
+refused-requires : tie.Need-refused-requires
+refused-requires c κs = search needs
+
+returns : tie.Need-returns
+unfolding unfolded-said
+returns c = c .done .ensures ∙ sym (ap unfolded-said (c .before .before .u .given .1))
+
+returns-2 : tie.Need-returns-2
+unfolding unfolded-said
+returns-2 c = c .refused .ensures ∙ sym (ap unfolded-said (c .before .before .u2 .given .1))
+
+pub unfolded-said-spec : {M : Type 1} → statement M
+unfolded-said-spec =
+    tie.close
+    (tie.spec enum-known-u done-requires enum-known-u-2 refused-requires returns returns-2)

@@ -1,0 +1,2 @@
+-- The definitions that this crate's contracts cite.
+pub mod Sheet

@@ -1,2 +1,0 @@
-pub mod Crossing
-pub mod Feeding
