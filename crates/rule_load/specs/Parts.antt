@@ -20,12 +20,12 @@ use Rattle.rule_lists.specs.declared.Answer.{Answer}
 use Rattle.rule_lists.specs.declared.Answer.the-variants as answer
 use Rattle.rule_items.specs.declared.Progress.{Progress}
 use Rattle.rule_items.specs.Shown.{items-in, Told}
-use Rattle.rule_load.specs.declared.Solved.{Solved}
+use Rattle.rule_rounds.specs.declared.Solved.{Solved}
 use Rattle.rule_load.specs.declared.Loaded.{Loaded}
 use Rattle.rule_load.specs.declared.Loaded.the-variants as loaded
 use Rattle.rule_load.specs.declared.Tried.{Tried}
 use Rattle.rule_load.specs.declared.Tried.the-variants as tried
-use Rattle.rule_load.specs.Rounding.{Scant}
+use Rattle.rule_rounds.specs.Rounding.{Scant}
 use Rattle.rule_load.specs.Whole.{load-in, loaded-as, sites-after, words-after}
 
 abbrev pub answer-as : {A : Type 0} → Outcome A → Answer

@@ -12,7 +12,7 @@ ghost use Rattle.rule_words.specs.Stored.{written};
 ghost use Rattle.sites.specs.Slots.{slot, put, store};
 ghost use Rattle.rule_children.specs.Tail.{site-of-word};
 ghost use Rattle.item_words.specs.Items.{items-in, rule-in};
-ghost use Rattle.rule_load.specs.Rounding.{Rounds, Unless};
+ghost use Rattle.rule_rounds.specs.Rounding.{Rounds, Unless};
 ghost use Rattle.rule_load.specs.Whole.{load-in, loaded-as, sites-after, words-after};
 ghost use Rattle.rule_load.specs.Parts.{has-place, admitted, answer-as, worked, settled, ChildWord, Lent, Left, SameTo, Keepable, Finishable, Finishes, Answers, Tries, gathered, new-sites};
 use paper::CONSTRAINED;

@@ -5,7 +5,7 @@ use borrow.Author.Needs.{needs}
 use Rattle.item_words.specs.Items.{rule-in}
 use Rattle.item_words.proofs.Laws.{rule-written}
 use Rattle.rule_load.specs.Parts.{Tries}
-use Rattle.rule_load.specs.RoundStep.{fine-told}
+use Rattle.rule_rounds.proofs.RoundStep.{fine-told}
 use Rattle.rule_load.proofs.Keeping.{refused-told, rounds-refuse, finishable, finished, array-long}
 use Rattle.rule_load.proofs.attempt.Statement.{statement}
 use Rattle.rule_load.proofs.attempt.Tie as tie

@@ -4,7 +4,7 @@ use native.Mathlib.Omega.{arith}
 use lib.ListN.{replicate}
 use Rattle.rule_load.proofs.Checking.{rounds-by, items-refuse, roomy-so, zeros-inside, left-so}
 use borrow.Author.Needs.{needs}
-use Rattle.rule_load.specs.RoundStep.{told-refused, told-up}
+use Rattle.rule_rounds.proofs.RoundStep.{told-refused, told-up}
 use Rattle.rule_load.proofs.solve.Statement.{statement}
 use Rattle.rule_load.proofs.solve.Tie as tie
 
