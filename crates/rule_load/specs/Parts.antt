@@ -126,14 +126,18 @@ pub record Finishable (n : ℕ) (tail sites rows shapes equal low : List ℕ) (x
   pub long-low : max-equal ≤ length low
 
 -- a result that passes is written, one that does not changes nothing
-abbrev pub Finishes : List ℕ → ℕ → List ℕ → ℕ → ℕ → ℕ → List ℕ → List ℕ → List ℕ → List ℕ → List ℕ → List ℕ → Solved → Loaded → List ℕ → List ℕ → Outcome (Unit {0}) → Type 0
+abbrev pub Finishes : List ℕ → ℕ → List ℕ → ℕ → ℕ → ℕ → List ℕ → List ℕ → List ℕ → List ℕ → List ℕ → List ℕ → Solved → Loaded → List ℕ → List ℕ
+    → Outcome (Unit {0}) → Type 0
 Finishes m n ws k place priority tail sites rows shapes equal low x out m′ ws′ (done _) =
-    (out ≡ loaded.Kept (n + x .tail)) × ((m′ ≡ store m n (new-sites tail (x .tail))) × (ws′ ≡ written ws k place priority (take (x .held) sites) (gathered rows shapes (3 * x .held)) (take (x .equal) equal) (take (x .equal) low)))
+    (out ≡ loaded.Kept (n + x .tail)) × ((m′ ≡ store m n (new-sites tail (x .tail)))
+    × (ws′ ≡ written ws k place priority (take (x .held) sites) (gathered rows shapes (3 * x .held)) (take (x .equal) equal)
+    (take (x .equal) low)))
 Finishes m n ws k place priority tail sites rows shapes equal low x out m′ ws′ (refused e) = (out ≡ loaded.Refused e) × ((m′ ≡ m) × (ws′ ≡ ws))
 
 -- what `load` ensures
 abbrev pub Answers : List ℕ → ℕ → List ℕ → ℕ → Rule → Loaded → List ℕ → List ℕ → Type 0
-Answers m n ws k r out m′ ws′ = (out ≡ loaded-as (load-in m n ws k r)) × ((m′ ≡ sites-after m n (load-in m n ws k r)) × (ws′ ≡ words-after ws k (load-in m n ws k r)))
+Answers m n ws k r out m′ ws′ = (out ≡ loaded-as (load-in m n ws k r))
+    × ((m′ ≡ sites-after m n (load-in m n ws k r)) × (ws′ ≡ words-after ws k (load-in m n ws k r)))
 
 -- the rule is loaded; or nothing is written, and a lent list was too short
 unfoldable pub Tries : List ℕ → ℕ → List ℕ → ℕ → Rule → List ℕ → List ℕ → List ℕ → List ℕ → Tried → Type 0

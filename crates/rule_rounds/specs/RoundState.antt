@@ -3,7 +3,7 @@ use mathlib.Core.Path.{_≡_}
 use mathlib.Core.Option.{none, some}
 use mathlib.Core.List.{List}
 use Prim.Native.Nat.{ℕ, _+_, _<_, _≤_, min}
-use lib.ListN.{length, getD, set}
+use lib.ListN.{length, getD, set, replicate}
 use lib.Dec.{eqb}
 use Rattle.paper.specs.declared.Constraint.{Constraint}
 use Rattle.paper.specs.Words.{if_then_else_, below, put, look}
@@ -57,7 +57,8 @@ abbrev pub Covers : List ℕ → List ℕ → ℕ → Type 0
 Covers p js many = (z : ℕ) → z < max-sites → getD p z 0 < max-sites → Among js many z
 
 -- the lists and the classes tell s
-pub record Stood (m : List ℕ) (n : ℕ) (tail : List ℕ) (t : ℕ) (sites rows words : List ℕ) (held : ℕ) (p r : List ℕ) (c : ℕ) (js : List ℕ) (many : ℕ) (s : Solving) : Type 0 where
+pub record Stood (m : List ℕ) (n : ℕ) (tail : List ℕ) (t : ℕ) (sites rows words : List ℕ) (held : ℕ) (p r : List ℕ) (c : ℕ) (js : List ℕ) (many : ℕ)
+    (s : Solving) : Type 0 where
   pub laid : Laid n tail t sites rows words held
   pub sites-are : table m n tail t ≡ s .sites
   pub constraints-are : shown sites rows words held ≡ s .constraints
@@ -101,7 +102,8 @@ pub record Grew (m : List ℕ) (n t : ℕ) (sites rows words : List ℕ) (held r
   pub eight : length (g .kids) ≡ max-fields
 
 abbrev pub Grows : List ℕ → ℕ → ℕ → List ℕ → List ℕ → List ℕ → ℕ → ℕ → ℕ → List ℕ → List ℕ → List ℕ → Grown → Outcome Sites → Type 0
-Grows m n t sites rows words held row x tail′ sites′ rows′ g (done u) = (g .state .answer ≡ ended.Fine) × Grew m n t sites rows words held row x tail′ sites′ rows′ g u
+Grows m n t sites rows words held row x tail′ sites′ rows′ g (done u) = (g .state .answer ≡ ended.Fine)
+    × Grew m n t sites rows words held row x tail′ sites′ rows′ g u
 Grows m n t sites rows words held row x tail′ sites′ rows′ g (refused e) = g .state .answer ≡ ended.Refused e
 
 -- ---- like-numbered children
@@ -130,7 +132,8 @@ left at low c ns s =
     done (record { sites = u; constraints = give-all ns c (s .constraints); classes = join-children u low c ns (s .classes) })
 
 -- the lowest member is low, with its children `of`
-pub record Led (m : List ℕ) (n : ℕ) (tail : List ℕ) (t : ℕ) (sites rows words : List ℕ) (held : ℕ) (p r : List ℕ) (c : ℕ) (js : List ℕ) (many : ℕ) (of : List ℕ) (row low : ℕ) (s : Solving) : Type 0 where
+pub record Led (m : List ℕ) (n : ℕ) (tail : List ℕ) (t : ℕ) (sites rows words : List ℕ) (held : ℕ) (p r : List ℕ) (c : ℕ) (js : List ℕ) (many : ℕ)
+    (of : List ℕ) (row low : ℕ) (s : Solving) : Type 0 where
   pub stood : Stood m n tail t sites rows words held p r c js many s
   pub good : GoodRow words row
   pub kids : Kids (s .sites) low (shape-in words row) of
@@ -140,35 +143,45 @@ Within ms b = (i : ℕ) → i < length ms → getD ms i 0 < b
 
 -- ---- the next class
 
+-- no row: what is noted where nothing is
+abbrev pub no-row : ℕ
+no-row = 65535
+
+-- nothing is noted
+abbrev pub Unmarked : List ℕ → Type 0
+Unmarked l = l ≡ replicate max-sites no-row
+
 pub record Sights (p sites rows : List ℕ) (held : ℕ) : Type 0 where
   pub reps : (x : ℕ) → x < max-sites → rep p x < max-sites
   pub long-sites : held ≤ length sites
   pub long-rows : held ≤ length rows
   pub inside : (i : ℕ) → i < held → getD sites i 0 < max-sites
-  pub small : (i : ℕ) → i < held → getD rows i 0 < 65535
+  pub small : (i : ℕ) → i < held → getD rows i 0 < no-row
 
 -- noted has, by root, the row of the first of i constrained sites of its class
 pub record Noted (p sites rows : List ℕ) (i : ℕ) (noted : List ℕ) : Type 0 where
   pub long : length noted ≡ max-sites
-  pub none : (z : ℕ) → z < max-sites → getD noted z 0 ≡ 65535 → (j : ℕ) → j < i → rep p (getD sites j 0) ≡ z → ⊥
-  pub some : (z : ℕ) → z < max-sites → (getD noted z 0 ≡ 65535 → ⊥) → (j : ℕ) × (j < i) × (rep p (getD sites j 0) ≡ z) × (getD noted z 0 ≡ getD rows j 0) × ((h : ℕ) → h < j → rep p (getD sites h 0) ≡ z → ⊥)
+  pub none : (z : ℕ) → z < max-sites → getD noted z 0 ≡ no-row → (j : ℕ) → j < i → rep p (getD sites j 0) ≡ z → ⊥
+  pub some : (z : ℕ) → z < max-sites → (getD noted z 0 ≡ no-row → ⊥) → (j : ℕ) × (j < i) × (rep p (getD sites j 0) ≡ z)
+      × (getD noted z 0 ≡ getD rows j 0) × ((h : ℕ) → h < j → rep p (getD sites h 0) ≡ z → ⊥)
 
 -- only roots of the constrained sites from i on are noted at
 pub record Stained (p sites : List ℕ) (i held : ℕ) (noted : List ℕ) : Type 0 where
   pub long : length noted ≡ max-sites
-  pub stain : (z : ℕ) → z < max-sites → (getD noted z 0 ≡ 65535 → ⊥) → (j : ℕ) × (i ≤ j) × (j < held) × (rep p (getD sites j 0) ≡ z)
+  pub stain : (z : ℕ) → z < max-sites → (getD noted z 0 ≡ no-row → ⊥) → (j : ℕ) × (i ≤ j) × (j < held) × (rep p (getD sites j 0) ≡ z)
 
 abbrev pub marked : List ℕ → ℕ → ℕ → List ℕ
-marked l z row = if eqb (getD l z 0) 65535 then set l z row else l
+marked l z row = if eqb (getD l z 0) no-row then set l z row else l
 
 -- the first site that is joined and whose class has a row
 pub record Picks (p noted : List ℕ) (x : Picked) : Type 0 where
-  pub before : (z : ℕ) → z < max-sites → z < x .low → getD p z 0 < max-sites → getD noted (rep p z) 0 ≡ 65535
-  pub here : x .low < max-sites → (getD p (x .low) 0 < max-sites) × (getD noted (rep p (x .low)) 0 ≡ x .row) × (x .row ≡ 65535 → ⊥)
+  pub before : (z : ℕ) → z < max-sites → z < x .low → getD p z 0 < max-sites → getD noted (rep p z) 0 ≡ no-row
+  pub here : x .low < max-sites → (getD p (x .low) 0 < max-sites) × (getD noted (rep p (x .low)) 0 ≡ x .row) × (x .row ≡ no-row → ⊥)
 
 pub record Chosen (k : Labels) (cs : Constraints) (rows words : List ℕ) (held : ℕ) (x : Picked) : Type 0 where
   pub none : max-sites ≤ x .low → take-class k cs k ≡ none
-  pub some : x .low < max-sites → (take-class k cs k ≡ some (x .low, shape-in words (x .row))) × (look k (x .low) ≡ some (x .low)) × ((i : ℕ) × (i < held) × (x .row ≡ getD rows i 0))
+  pub some : x .low < max-sites → (take-class k cs k ≡ some (x .low, shape-in words (x .row))) × (look k (x .low) ≡ some (x .low))
+      × ((i : ℕ) × (i < held) × (x .row ≡ getD rows i 0))
 
 abbrev pub Chooses : List ℕ → List ℕ → List ℕ → ℕ → Picked → Type 0
 Chooses p sites rows held x = (words r : List ℕ) (c : ℕ) (k : Labels) → Tied p r c k → Chosen k (shown sites rows words held) rows words held x
@@ -196,4 +209,5 @@ pub record Upto (p lows equal low : List ℕ) (k x : ℕ) (ls : Labels) : Type 0
   pub only : (z : ℕ) → z < max-sites → getD lows z 0 < max-sites → (y : ℕ) × (y < x) × (getD p y 0 < max-sites) × (rep p y ≡ z)
 
 abbrev pub Enlists : List ℕ → List ℕ → List ℕ → List ℕ → ℕ → ℕ → List ℕ → List ℕ → List ℕ → ℕ → Type 0
-Enlists p lows equal low k x lows′ equal′ low′ k′ = (r : List ℕ) (c : ℕ) (ls : Labels) → Tied p r c ls → Upto p lows equal low k x ls → Upto p lows′ equal′ low′ k′ (x + 1) ls
+Enlists p lows equal low k x lows′ equal′ low′ k′ = (r : List ℕ) (c : ℕ) (ls : Labels) → Tied p r c ls → Upto p lows equal low k x ls
+    → Upto p lows′ equal′ low′ k′ (x + 1) ls
