@@ -42,6 +42,9 @@ const KIDS: usize = FIELDS * ITEMS;
 
 const NUMBERS: usize = 2 * ITEMS;
 
+// The most items of a rule, as it counts them.
+const MANY: u8 = ITEMS as u8;
+
 // Lists that do for a rule that is kept: for its new sites, its constrained sites, and the sites that may be joined.
 const FEW_CHILDREN: usize = KIDS;
 
@@ -625,7 +628,7 @@ fn hold(rule: Rule, out: &mut [u64])
 {
     let count = rule.count;
     let mut k: u8 = 0;
-    while k < ITEMS as u8 {
+    while k < MANY {
         if count <= k {
             return;
         }
