@@ -73,6 +73,30 @@ abbrev pub Ends : List ℕ → ℕ → List ℕ → List ℕ → List ℕ → Li
 Ends m n tail sites rows words p r c js x (done s) = (x .answer ≡ ended.Fine) × Stood m n tail (x .tail) sites rows words (x .held) p r c js (x .equal) s
 Ends m n tail sites rows words p r c js x (refused e) = x .answer ≡ ended.Refused e
 
+-- all that a round reads and writes
+pub record State : Type 0 where
+  pub m : List ℕ
+  pub n : ℕ
+  pub tail : List ℕ
+  pub sites : List ℕ
+  pub rows : List ℕ
+  pub words : List ℕ
+  pub p : List ℕ
+  pub r : List ℕ
+  pub c : ℕ
+  pub joined : List ℕ
+
+abbrev pub state : List ℕ → ℕ → List ℕ → List ℕ → List ℕ → List ℕ → List ℕ → List ℕ → ℕ → List ℕ → State
+state m n tail sites rows words p r c js = record { m = m; n = n; tail = tail; sites = sites; rows = rows; words = words; p = p; r = r; c = c; joined = js }
+
+-- it tells v, with the numbers of s
+abbrev pub Stands : State → Solved → Solving → Type 0
+Stands w s v = Stood (w .m) (w .n) (w .tail) (s .tail) (w .sites) (w .rows) (w .words) (s .held) (w .p) (w .r) (w .c) (w .joined) (s .equal) v
+
+-- and is where paper's step ends
+abbrev pub Comes : State → Solved → Outcome Solving → Type 0
+Comes w s o = Ends (w .m) (w .n) (w .tail) (w .sites) (w .rows) (w .words) (w .p) (w .r) (w .c) (w .joined) s o
+
 -- ---- one constraint for one member
 
 -- room for the children of one more site, and for that site
@@ -137,6 +161,10 @@ pub record Led (m : List ℕ) (n : ℕ) (tail : List ℕ) (t : ℕ) (sites rows 
   pub stood : Stood m n tail t sites rows words held p r c js many s
   pub good : GoodRow words row
   pub kids : Kids (s .sites) low (shape-in words row) of
+
+abbrev pub Leads : State → Solved → List ℕ → ℕ → ℕ → Solving → Type 0
+Leads w s of row low v =
+    Led (w .m) (w .n) (w .tail) (s .tail) (w .sites) (w .rows) (w .words) (s .held) (w .p) (w .r) (w .c) (w .joined) (s .equal) of row low v
 
 abbrev pub Within : List ℕ → ℕ → Type 0
 Within ms b = (i : ℕ) → i < length ms → getD ms i 0 < b
