@@ -29,7 +29,7 @@ same-length-5 : tie.Need-same-length-5
 same-length-5 c = search needs
 
 returns : tie.Need-returns
-returns c = absurd (turned-laid _ _ _ _ _ _ _ (c .before .before .before .before .before .before .before .before .before .before .before .before .rounds .ensures) (c .before .before .before .before .before .before .before .before .before .before .before .before .before .before .before .before .before .before .before .before .before .before .before .before .before .before .before .before .pre) (c .enum-told .given .1))
+returns c = let at-rounds = c .before .before .before .before .before .before .before .before .before .before .before .before in let start = at-rounds .before .before .before .before .before .before .before .before .before .before .before .before .before .before .before .before in absurd (turned-laid _ _ _ _ _ _ _ (at-rounds .rounds .ensures) (start .pre) (c .enum-told .given .1))
 
 same-length-6 : tie.Need-same-length-6
 same-length-6 c = search needs
@@ -47,7 +47,7 @@ same-length-10 : tie.Need-same-length-10
 same-length-10 c = search needs
 
 returns-2 : tie.Need-returns-2
-returns-2 c = turned-told _ _ _ _ _ _ _ (c .before .before .before .before .before .before .before .before .before .before .before .before .before .rounds .ensures) (c .before .before .before .before .before .before .before .before .before .before .before .before .before .before .before .before .before .before .before .before .before .before .before .before .before .before .before .before .before .pre) _ (c .before .r .given .1)
+returns-2 c = let at-rounds = c .before .before .before .before .before .before .before .before .before .before .before .before .before in let start = at-rounds .before .before .before .before .before .before .before .before .before .before .before .before .before .before .before .before in turned-told _ _ _ _ _ _ _ (at-rounds .rounds .ensures) (start .pre) _ (c .before .r .given .1)
 
 pub turn-spec : {M : Type 1} → statement M
 turn-spec =

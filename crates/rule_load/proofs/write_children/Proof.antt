@@ -37,7 +37,7 @@ write-child-requires : tie.Need-write-child-requires Inv-loop μ-loop
 write-child-requires c κs = (omega (arith, c .before .before .before .before .before .size16 .ensures, c .before .before .before .before .size162 .ensures), omega (arith, c .before .before .before .before .before .size16 .ensures, c .before .before .before .before .size162 .ensures, c .before .before .before .loop .inv .2), c .before .before .before .before .before .before .before .before .pre .3 _ (omega (arith, c .before .before .before .before .size162 .ensures)))
 
 add-i : tie.Need-add-i Inv-loop μ-loop
-add-i c = omega (arith, c .before .before .before .before .before .before .before .size162 .ensures, c .before .before .before .before .before .before .before .before .before .before .before .pre .0)
+add-i c = let start = c .before .before .before .before .before .before .before .before .before .before .before in omega (arith, c .before .before .before .before .before .before .before .size162 .ensures, start .pre .0)
 
 loop-less : tie.Need-loop-less Inv-loop μ-loop
 loop-less c = omega arith
