@@ -28,14 +28,14 @@ use Rattle.rule_children.specs.Tail.{site-of-word, table}
 use Rattle.rule_lists.specs.declared.Answer.{Answer}
 use Rattle.rule_lists.specs.declared.Answer.the-variants as answer
 use Rattle.rule_items.specs.Shown.{shown}
-use Rattle.rule_load.specs.declared.Solved.{Solved}
-use Rattle.rule_load.specs.declared.Ended.{Ended}
-use Rattle.rule_load.specs.declared.Ended.the-variants as end
+use Rattle.rule_rounds.specs.declared.Solved.{Solved}
+use Rattle.rule_rounds.specs.declared.Ended.{Ended}
+use Rattle.rule_rounds.specs.declared.Ended.the-variants as end
 use Rattle.rule_load.specs.declared.Tried.{Tried}
 use Rattle.rule_load.specs.declared.Tried.the-variants as tried
 use Rattle.rule_load.specs.declared.Loaded.{Loaded}
 use Rattle.rule_load.specs.declared.Loaded.the-variants as loaded
-use Rattle.rule_load.specs.Rounding.{Solves, Rounds, Scant, Unless}
+use Rattle.rule_rounds.specs.Rounding.{Solves, Rounds, Scant, Unless}
 use Rattle.rule_load.specs.Parts.{answer-as, admitted, worked, settled, Lent, ChildWord, new-sites, gathered, Keepable, Finishable, Finishes, Answers, Tries}
 use Rattle.rule_load.specs.Whole.{set-in, load-in, loaded-as, sites-after, three, put-kept, words-after}
 use Rattle.rule_load.proofs.Widening.{NewSite, Widens, Turned, classes-few}

@@ -19,7 +19,7 @@ use Rattle.rule_check.specs.Holding.{shape-in}
 use Rattle.rule_check.proofs.Turning.{length-below}
 use Rattle.rule_check.proofs.Agreeing.{below-is}
 use Rattle.rule_items.specs.Shown.{shown}
-use Rattle.rule_load.specs.Rounding.{Listed}
+use Rattle.rule_rounds.specs.Rounding.{Listed}
 use Rattle.rule_load.specs.Parts.{new-sites, gathered}
 use Rattle.rule_load.specs.Whole.{three}
 

@@ -1,4 +1,3 @@
-pub mod Endings
 pub mod Holding
 -- Laws of loading.
 pub mod Placing

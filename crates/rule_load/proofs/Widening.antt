@@ -29,7 +29,7 @@ use Rattle.sites.proofs.After.{Storable, All-storable, Grows}
 use Rattle.rule_items.proofs.Numbering.{length-all}
 use Rattle.rule_items.proofs.Stepping.{few-children}
 use Rattle.class_labels.specs.Rows.{below-length}
-use Rattle.rule_load.specs.RoundGive.{put-long}
+use Rattle.rule_rounds.proofs.RoundGive.{put-long}
 
 -- ---- new sites
 pub record NewSite (s : Site) : Type 0 where

@@ -1,12 +1,2 @@
-pub mod Rounding
 pub mod Whole
 pub mod Parts
-pub mod RoundState
-pub mod RoundLaws
-pub mod RoundGive
-pub mod RoundList
-pub mod RoundStep
-pub mod RoundTurn
-pub mod RoundPick
-pub mod RoundEqual
-pub mod RoundWhole

@@ -20,12 +20,12 @@ use Rattle.rule_lists.specs.declared.Answer.{Answer}
 use Rattle.rule_lists.specs.declared.Answer.the-variants as answer
 use Rattle.rule_items.specs.declared.Progress.{Progress}
 use Rattle.rule_items.specs.Shown.{items-in, Told}
-use Rattle.rule_load.specs.declared.Solved.{Solved}
+use Rattle.rule_rounds.specs.declared.Solved.{Solved}
 use Rattle.rule_load.specs.declared.Loaded.{Loaded}
 use Rattle.rule_load.specs.declared.Loaded.the-variants as loaded
 use Rattle.rule_load.specs.declared.Tried.{Tried}
 use Rattle.rule_load.specs.declared.Tried.the-variants as tried
-use Rattle.rule_load.specs.Rounding.{Scant}
+use Rattle.rule_rounds.specs.Rounding.{Scant}
 use Rattle.rule_load.specs.Whole.{load-in, loaded-as, sites-after, words-after}
 
 abbrev pub answer-as : {A : Type 0} → Outcome A → Answer
@@ -126,14 +126,18 @@ pub record Finishable (n : ℕ) (tail sites rows shapes equal low : List ℕ) (x
   pub long-low : max-equal ≤ length low
 
 -- a result that passes is written, one that does not changes nothing
-abbrev pub Finishes : List ℕ → ℕ → List ℕ → ℕ → ℕ → ℕ → List ℕ → List ℕ → List ℕ → List ℕ → List ℕ → List ℕ → Solved → Loaded → List ℕ → List ℕ → Outcome (Unit {0}) → Type 0
+abbrev pub Finishes : List ℕ → ℕ → List ℕ → ℕ → ℕ → ℕ → List ℕ → List ℕ → List ℕ → List ℕ → List ℕ → List ℕ → Solved → Loaded → List ℕ → List ℕ
+    → Outcome (Unit {0}) → Type 0
 Finishes m n ws k place priority tail sites rows shapes equal low x out m′ ws′ (done _) =
-    (out ≡ loaded.Kept (n + x .tail)) × ((m′ ≡ store m n (new-sites tail (x .tail))) × (ws′ ≡ written ws k place priority (take (x .held) sites) (gathered rows shapes (3 * x .held)) (take (x .equal) equal) (take (x .equal) low)))
+    (out ≡ loaded.Kept (n + x .tail)) × ((m′ ≡ store m n (new-sites tail (x .tail)))
+    × (ws′ ≡ written ws k place priority (take (x .held) sites) (gathered rows shapes (3 * x .held)) (take (x .equal) equal)
+    (take (x .equal) low)))
 Finishes m n ws k place priority tail sites rows shapes equal low x out m′ ws′ (refused e) = (out ≡ loaded.Refused e) × ((m′ ≡ m) × (ws′ ≡ ws))
 
 -- what `load` ensures
 abbrev pub Answers : List ℕ → ℕ → List ℕ → ℕ → Rule → Loaded → List ℕ → List ℕ → Type 0
-Answers m n ws k r out m′ ws′ = (out ≡ loaded-as (load-in m n ws k r)) × ((m′ ≡ sites-after m n (load-in m n ws k r)) × (ws′ ≡ words-after ws k (load-in m n ws k r)))
+Answers m n ws k r out m′ ws′ = (out ≡ loaded-as (load-in m n ws k r))
+    × ((m′ ≡ sites-after m n (load-in m n ws k r)) × (ws′ ≡ words-after ws k (load-in m n ws k r)))
 
 -- the rule is loaded; or nothing is written, and a lent list was too short
 unfoldable pub Tries : List ℕ → ℕ → List ℕ → ℕ → Rule → List ℕ → List ℕ → List ℕ → List ℕ → Tried → Type 0

@@ -46,7 +46,8 @@ three p = head (p .1) ∷ second (p .1) ∷ third (p .1) ∷ []
 -- and the kept rule into its stride
 unfoldable pub put-kept : List ℕ → ℕ → Kept → List ℕ
 put-kept ws k q =
-    stored.written ws k (q .place) (q .priority) (map (λ p. p .0) (q .constraints)) (joined (map three (q .constraints))) (map (λ p. p .0) (q .equals)) (map (λ p. p .1) (q .equals))
+    stored.written ws k (q .place) (q .priority) (map (λ p. p .0) (q .constraints)) (joined (map three (q .constraints)))
+    (map (λ p. p .0) (q .equals)) (map (λ p. p .1) (q .equals))
 
 abbrev pub words-after : List ℕ → ℕ → Outcome Set → List ℕ
 words-after ws k (done g) = put-kept ws k (getD (g .kept) k no-rule)

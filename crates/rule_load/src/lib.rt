@@ -12,11 +12,13 @@ ghost use Rattle.rule_words.specs.Stored.{written};
 ghost use Rattle.sites.specs.Slots.{slot, put, store};
 ghost use Rattle.rule_children.specs.Tail.{site-of-word};
 ghost use Rattle.item_words.specs.Items.{items-in, rule-in};
-ghost use Rattle.rule_load.specs.Rounding.{Rounds, Unless};
+ghost use Rattle.rule_rounds.specs.Rounding.{Rounds, Unless, LaidOut, Leaves, memory};
 ghost use Rattle.rule_load.specs.Whole.{load-in, loaded-as, sites-after, words-after};
 ghost use Rattle.rule_load.specs.Parts.{has-place, admitted, answer-as, worked, settled, ChildWord, Lent, Left, SameTo, Keepable, Finishable, Finishes, Answers, Tries, gathered, new-sites};
+use item_words::ITEMS_ROOM;
 use paper::CONSTRAINED;
 use paper::EQUALS;
+use paper::FIELDS;
 use paper::ITEMS;
 use paper::RULES;
 use paper::Refusal;
@@ -25,26 +27,30 @@ use paper::SITES;
 use rule_check::Verdict;
 use rule_items::Progress;
 use rule_lists::Answer;
+use rule_rounds::Ended;
+use rule_rounds::Rounded;
+use rule_rounds::Solved;
+use rule_rounds::Start;
+use widths::size16;
 
 const SLOT: usize = 32;
 
-pub mod rounds;
+// For each item the three words of its constraint, the numbers of its children, and two numbers of an equality.
+const SHAPES: usize = 3 * ITEMS;
 
-// How the rounds end. Short: the lent lists are too short for the rule, of which nothing else is known.
-pub enum Ended {
-    Fine,
-    Short,
-    Refused(Refusal),
-}
+const KIDS: usize = FIELDS * ITEMS;
 
-// What the rounds leave: how many words the tail has, how many sites are constrained, how many are equal; or why the rule is refused.
-// Between two rounds `equal` counts the sites that may be joined, which are listed.
-pub struct Solved {
-    pub tail: u16,
-    pub held: usize,
-    pub equal: usize,
-    pub answer: Ended,
-}
+const NUMBERS: usize = 2 * ITEMS;
+
+// The most items of a rule, as it counts them.
+const MANY: u8 = ITEMS as u8;
+
+// Lists that do for a rule that is kept: for its new sites, its constrained sites, and the sites that may be joined.
+const FEW_CHILDREN: usize = KIDS;
+
+const FEW_SITES: usize = 2 * CONSTRAINED;
+
+const FEW_JOINED: usize = FEW_SITES + 2 * FIELDS;
 
 // How many sites there are then, or why the rule is refused.
 pub enum Loaded {
@@ -56,12 +62,6 @@ pub enum Loaded {
 pub enum Tried {
     Done(Loaded),
     Short,
-}
-
-fn size(x: u16) -> usize
-    ensures { λ r. ⌜ (r ≡ x) × (r < 65536) ⌝ }
-{
-    x as usize
 }
 
 // Does a kept rule have the place?
@@ -91,7 +91,7 @@ fn admit(n: u16, words: &[u64], kept: u32, place: u32, count: u8) -> Answer
     if words.len() < rule_words::start(kept) + rule_words::STRIDE {
         return Answer::Refused(Refusal::TooManyRules { asked: kept + 1 });
     }
-    if SITES < size(n) {
+    if SITES < size16(n) {
         return Answer::Refused(Refusal::TooManySites {
             asked: n as u32,
             at: count as u32,
@@ -130,6 +130,52 @@ fn copy(from: &[u16; EQUALS], to: &mut [u16])
     }
 }
 
+// The rounds over lists that are laid out for them.
+fn turn(
+    m: &[u8],
+    a: Start,
+    tail: &mut [u64],
+    sites: &mut [u16],
+    rows: &mut [u16],
+    shapes: &[u64],
+    eqs: &[u16],
+    joined: &mut [u16],
+    list: &mut [u16],
+    equal: &mut [u16; EQUALS],
+    low: &mut [u16; EQUALS],
+) -> Solved
+    requires { ⌜ LaidOut (now m) a (now shapes) (now eqs) (memory (now tail) (now sites) (now rows) (now joined) (now list) (now equal) (now low)) ⌝ }
+    ensures { λ x. ⌜
+        (let before = memory (now (tail .entry)) (now (sites .entry)) (now (rows .entry)) (now (joined .entry)) (now (list .entry))
+        (now (equal .entry)) (now (low .entry)) in
+        let after = memory (now (tail .exit)) (now (sites .exit)) (now (rows .exit)) (now (joined .exit)) (now (list .exit))
+        (now (equal .exit)) (now (low .exit)) in
+        Leaves (now (m .entry)) a (now (shapes .entry)) (now (eqs .entry)) before after x) ⌝ }
+{
+    let r = rule_rounds::rounds(
+        m,
+        a,
+        tail,
+        sites,
+        rows,
+        shapes,
+        eqs,
+        joined,
+        list,
+        equal,
+        low,
+    );
+    let Rounded::Done(s) = r else {
+        return Solved {
+            tail: 0,
+            held: 0,
+            equal: 0,
+            answer: Ended::Short,
+        };
+    };
+    s
+}
+
 // The class check, then the rounds, of what the items left.
 fn normalise(
     m: &[u8],
@@ -147,9 +193,15 @@ fn normalise(
     low: &mut [u16],
     count: u8,
 ) -> Solved
-    requires { ⌜ ((is : List Item) × Left (now m) n (now tail) (now sites) (now rows) (now shapes) (now kids) (now eqs) (now equal) (now low) a count is) ⌝ }
+    requires { ⌜ ((is : List Item)
+        × Left (now m) n (now tail) (now sites) (now rows) (now shapes) (now kids) (now eqs) (now equal) (now low) a count is) ⌝ }
     requires { ⌜ (length (now sites) ≤ length (now joined)) × (length (now joined) ≤ length (now list)) ⌝ }
-    ensures { λ r. ⌜ Unless (r .answer) (now (tail .entry)) (now (sites .entry)) ((is : List Item) → Left (now (m .entry)) n (now (tail .entry)) (now (sites .entry)) (now (rows .entry)) (now (shapes .entry)) (now (kids .entry)) (now (eqs .entry)) (now (equal .entry)) (now (low .entry)) a count is → Rounds (now (m .entry)) n (now (tail .exit)) (now (sites .exit)) (now (rows .exit)) (now (shapes .entry)) (now (equal .exit)) (now (low .exit)) r (worked (now (m .entry)) n count is)) ⌝ }
+    ensures { λ r. ⌜ Unless (r .answer) (now (tail .entry)) (now (sites .entry))
+        ((is : List Item)
+        → Left (now (m .entry)) n (now (tail .entry)) (now (sites .entry)) (now (rows .entry)) (now (shapes .entry)) (now (kids .entry))
+        (now (eqs .entry)) (now (equal .entry)) (now (low .entry)) a count is
+        → Rounds (now (m .entry)) n (now (tail .exit)) (now (sites .exit)) (now (rows .exit)) (now (shapes .entry))
+        (now (equal .exit)) (now (low .exit)) r (worked (now (m .entry)) n count is)) ⌝ }
 {
     let held = a.held;
     let k = a.equal;
@@ -159,15 +211,18 @@ fn normalise(
     }
     let mut found = [0u16; EQUALS];
     let mut lowest = [0u16; EQUALS];
-    let s = rounds::rounds(
+    let start = Start {
+        known: n,
+        tail: a.tail,
+        held,
+        at: count as u32,
+    };
+    let s = turn(
         m,
-        n,
+        start,
         tail,
-        a.tail,
-        count as u32,
         sites,
         rows,
-        held,
         shapes,
         &eqs[..k],
         joined,
@@ -195,12 +250,16 @@ fn solve(
     items: &[u64],
     count: u8,
 ) -> Solved
-    requires { ⌜ Lent (now tail) (now sites) (now rows) × ((3 * max-items ≤ length (now shapes)) × ((max-equal ≤ length (now equal)) × (max-equal ≤ length (now low)))) ⌝ }
+    requires { ⌜ Lent (now tail) (now sites) (now rows)
+        × ((3 * max-items ≤ length (now shapes)) × ((max-equal ≤ length (now equal)) × (max-equal ≤ length (now low)))) ⌝ }
     requires { ⌜ (length (now sites) ≤ length (now joined)) × (length (now joined) ≤ length (now list)) ⌝ }
-    ensures { λ r. ⌜ Unless (r .answer) (now (tail .entry)) (now (sites .entry)) (Rounds (now (m .entry)) n (now (tail .exit)) (now (sites .exit)) (now (rows .exit)) (now (shapes .exit)) (now (equal .exit)) (now (low .exit)) r (worked (now (m .entry)) n count (items-in (now (items .entry)) (min count max-items)))) ⌝ }
+    ensures { λ r. ⌜ Unless (r .answer) (now (tail .entry)) (now (sites .entry))
+        (Rounds (now (m .entry)) n (now (tail .exit)) (now (sites .exit)) (now (rows .exit)) (now (shapes .exit))
+        (now (equal .exit)) (now (low .exit)) r
+        (worked (now (m .entry)) n count (items-in (now (items .entry)) (min count max-items)))) ⌝ }
 {
-    let mut kids = [0u16; 256];
-    let mut eqs = [0u16; 64];
+    let mut kids = [0u16; KIDS];
+    let mut eqs = [0u16; NUMBERS];
     let a = rule_items::load_items(
         m,
         n,
@@ -259,12 +318,13 @@ fn settle(total: usize, held: usize, equal: usize, room: usize, count: u8) -> An
 
 // The words of the constraints, three a site, in the order of the sites.
 fn gather(rows: &[u16], held: usize, shapes: &[u64], out: &mut [u64])
-    requires { ⌜ (held ≤ length (now rows)) × (held ≤ max-constrained) × (96 ≤ length (now shapes)) × (96 ≤ length (now out)) × ((i : ℕ) → i < held → getD (now rows) i 0 < max-items) ⌝ }
+    requires { ⌜ (held ≤ length (now rows)) × (held ≤ max-constrained) × (3 * max-items ≤ length (now shapes)) × (3 * max-items ≤ length (now out))
+        × ((i : ℕ) → i < held → getD (now rows) i 0 < max-items) ⌝ }
     ensures { λ _. ⌜ take (3 * held) (now (out .exit)) ≡ gathered (now (rows .entry)) (now (shapes .entry)) (3 * held) ⌝ }
 {
     let mut k = 0;
     while k < 3 * held {
-        let row = size(rows[k / 3]);
+        let row = size16(rows[k / 3]);
         out[k] = shapes[3 * row + k % 3];
         k += 1;
     }
@@ -313,8 +373,8 @@ fn write_children(m: &mut [u8], n: u16, tail: &[u64], t: u16)
     requires { ⌜ (n + t ≤ max-sites) × ((n + t) * slot ≤ length (now m)) × (t ≤ length (now tail)) × ((i : ℕ) → i < t → ChildWord (getD (now tail) i 0)) ⌝ }
     ensures { λ _. ⌜ now (m .exit) ≡ store (now (m .entry)) n (new-sites (now (tail .entry)) t) ⌝ }
 {
-    let first = size(n);
-    let count = size(t);
+    let first = size16(n);
+    let count = size16(t);
     let mut i = 0;
     while i < count {
         write_child(m, first + i, tail[i]);
@@ -340,12 +400,13 @@ fn keep(
 )
     requires { ⌜ Keepable (length (now m)) n (now tail) (now sites) (now rows) (now shapes) (now equal) (now low) s ⌝ }
     ensures { λ _. ⌜ now (m .exit) ≡ store (now (m .entry)) n (new-sites (now (tail .entry)) (s .tail)) ⌝ }
-    ensures { λ _. ⌜ now (words .exit) ≡ written (now (words .entry)) kept place priority (take (s .held) (now (sites .entry))) (gathered (now (rows .entry)) (now (shapes .entry)) (3 * s .held)) (take (s .equal) (now (equal .entry))) (take (s .equal) (now (low .entry))) ⌝ }
+    ensures { λ _. ⌜ now (words .exit) ≡ written (now (words .entry)) kept place priority (take (s .held) (now (sites .entry)))
+        (gathered (now (rows .entry)) (now (shapes .entry)) (3 * s .held)) (take (s .equal) (now (equal .entry))) (take (s .equal) (now (low .entry))) ⌝ }
 {
     let held = s.held;
     let count = 3 * held;
     let e = s.equal;
-    let mut out = [0u64; 96];
+    let mut out = [0u64; SHAPES];
     gather(rows, held, shapes, &mut out);
     write_children(m, n, tail, s.tail);
     rule_words::write(
@@ -378,9 +439,11 @@ fn finish(
     s: Solved,
 ) -> Loaded
     requires { ⌜ Finishable n (now tail) (now sites) (now rows) (now shapes) (now equal) (now low) s ⌝ }
-    ensures { λ r. ⌜ Finishes (now (m .entry)) n (now (words .entry)) kept place priority (now (tail .entry)) (now (sites .entry)) (now (rows .entry)) (now (shapes .entry)) (now (equal .entry)) (now (low .entry)) s r (now (m .exit)) (now (words .exit)) (settled (n + s .tail) (s .held) (s .equal) (length (now (m .entry))) count) ⌝ }
+    ensures { λ r. ⌜ Finishes (now (m .entry)) n (now (words .entry)) kept place priority (now (tail .entry)) (now (sites .entry)) (now (rows .entry))
+        (now (shapes .entry)) (now (equal .entry)) (now (low .entry)) s r (now (m .exit)) (now (words .exit))
+        (settled (n + s .tail) (s .held) (s .equal) (length (now (m .entry))) count) ⌝ }
 {
-    let total = size(n) + size(s.tail);
+    let total = size16(n) + size16(s.tail);
     let room = m.len();
     let last = settle(total, s.held, s.equal, room, count);
     if let Answer::Refused(why) = last {
@@ -423,9 +486,10 @@ fn attempt(
 ) -> Tried
     requires { ⌜ Lent (now tail) (now sites) (now rows) × (admitted n (now words) kept place count ≡ done tt) ⌝ }
     requires { ⌜ (length (now sites) ≤ length (now joined)) × (length (now joined) ≤ length (now list)) ⌝ }
-    ensures { λ r. ⌜ Tries (now (m .entry)) n (now (words .entry)) kept (rule-in (now (items .entry)) place priority count) (now (tail .entry)) (now (sites .entry)) (now (m .exit)) (now (words .exit)) r ⌝ }
+    ensures { λ r. ⌜ Tries (now (m .entry)) n (now (words .entry)) kept (rule-in (now (items .entry)) place priority count)
+        (now (tail .entry)) (now (sites .entry)) (now (m .exit)) (now (words .exit)) r ⌝ }
 {
-    let mut shapes = [0u64; 96];
+    let mut shapes = [0u64; SHAPES];
     let mut equal = [0u16; EQUALS];
     let mut low = [0u16; EQUALS];
     let s = solve(
@@ -480,7 +544,8 @@ fn at_large(
     items: &[u64],
 ) -> Loaded
     requires { ⌜ admitted n (now words) kept place count ≡ done tt ⌝ }
-    ensures { λ r. ⌜ Answers (now (m .entry)) n (now (words .entry)) kept (rule-in (now (items .entry)) place priority count) r (now (m .exit)) (now (words .exit)) ⌝ }
+    ensures { λ r. ⌜ Answers (now (m .entry)) n (now (words .entry)) kept (rule-in (now (items .entry)) place priority count) r
+        (now (m .exit)) (now (words .exit)) ⌝ }
 {
     let mut tail = [0u64; SITES];
     let mut sites = [0u16; SITES];
@@ -521,18 +586,20 @@ pub fn load_handed(
     items: &[u64],
 ) -> Loaded
     ensures { λ r. ⌜ r ≡ loaded-as (load-in (now (m .entry)) n (now (words .entry)) kept (rule-in (now (items .entry)) place priority count)) ⌝ }
-    ensures { λ _. ⌜ now (m .exit) ≡ sites-after (now (m .entry)) n (load-in (now (m .entry)) n (now (words .entry)) kept (rule-in (now (items .entry)) place priority count)) ⌝ }
-    ensures { λ _. ⌜ now (words .exit) ≡ words-after (now (words .entry)) kept (load-in (now (m .entry)) n (now (words .entry)) kept (rule-in (now (items .entry)) place priority count)) ⌝ }
+    ensures { λ _. ⌜ now (m .exit) ≡ sites-after (now (m .entry)) n
+        (load-in (now (m .entry)) n (now (words .entry)) kept (rule-in (now (items .entry)) place priority count)) ⌝ }
+    ensures { λ _. ⌜ now (words .exit) ≡ words-after (now (words .entry)) kept
+        (load-in (now (m .entry)) n (now (words .entry)) kept (rule-in (now (items .entry)) place priority count)) ⌝ }
 {
     let first = admit(n, words, kept, place, count);
     if let Answer::Refused(why) = first {
         return Loaded::Refused(why);
     }
-    let mut tail = [0u64; 256];
-    let mut sites = [0u16; 64];
-    let mut rows = [0u16; 64];
-    let mut joined = [0u16; 80];
-    let mut list = [0u16; 80];
+    let mut tail = [0u64; FEW_CHILDREN];
+    let mut sites = [0u16; FEW_SITES];
+    let mut rows = [0u16; FEW_SITES];
+    let mut joined = [0u16; FEW_JOINED];
+    let mut list = [0u16; FEW_JOINED];
     let a = attempt(
         m,
         n,
@@ -561,7 +628,7 @@ fn hold(rule: Rule, out: &mut [u64])
 {
     let count = rule.count;
     let mut k: u8 = 0;
-    while k < 32 {
+    while k < MANY {
         if count <= k {
             return;
         }
@@ -578,7 +645,7 @@ pub fn load(m: &mut [u8], n: u16, words: &mut [u64], kept: u32, rule: Rule) -> L
     ensures { λ _. ⌜ now (m .exit) ≡ sites-after (now (m .entry)) n (load-in (now (m .entry)) n (now (words .entry)) kept rule) ⌝ }
     ensures { λ _. ⌜ now (words .exit) ≡ words-after (now (words .entry)) kept (load-in (now (m .entry)) n (now (words .entry)) kept rule) ⌝ }
 {
-    let mut items = [0u64; 128];
+    let mut items = [0u64; ITEMS_ROOM];
     hold(rule, &mut items);
     load_handed(
         m,

@@ -21,7 +21,7 @@ slice-aggregate-attempt-5 : tie.Need-slice-aggregate-attempt-5
 slice-aggregate-attempt-5 c = search needs
 
 attempt-requires : tie.Need-attempt-requires
-attempt-requires c κs = ((lent-all, c .before .before .before .before .before .before .before .before .before .before .pre), (omega arith, omega arith))
+attempt-requires c κs = let start = c .before .before .before .before .before .before .before .before .before .before in ((lent-all, start .pre), (omega arith, omega arith))
 
 enum-known-a : tie.Need-enum-known-a
 enum-known-a c = search needs
@@ -36,7 +36,7 @@ same-length-2 : tie.Need-same-length-2
 same-length-2 c = search needs
 
 returns : tie.Need-returns
-returns c = absurd (never-scant (tried-short _ _ _ _ _ _ _ _ _ _ (c .before .before .before .before .before .before .before .before .before .before .before .attempt .ensures) (c .enum-told .given .1) .0))
+returns c = let at-attempt = c .before .before .before .before .before .before .before .before .before .before .before in absurd (never-scant (tried-short _ _ _ _ _ _ _ _ _ _ (at-attempt .attempt .ensures) (c .enum-told .given .1) .0))
 
 same-length-3 : tie.Need-same-length-3
 same-length-3 c = search needs
@@ -45,7 +45,7 @@ same-length-4 : tie.Need-same-length-4
 same-length-4 c = search needs
 
 returns-2 : tie.Need-returns-2
-returns-2 c = tried-done _ _ _ _ _ _ _ _ _ _ (c .before .before .before .before .before .before .before .before .before .before .before .before .attempt .ensures) _ (c .before .a .given .1)
+returns-2 c = let at-attempt = c .before .before .before .before .before .before .before .before .before .before .before .before in tried-done _ _ _ _ _ _ _ _ _ _ (at-attempt .attempt .ensures) _ (c .before .a .given .1)
 
 pub at-large-spec : {M : Type 1} → statement M
 at-large-spec =

@@ -5,7 +5,7 @@ use borrow.Author.Needs.{needs}
 use Rattle.item_words.specs.Items.{rule-in}
 use Rattle.item_words.proofs.Laws.{rule-written}
 use Rattle.rule_load.specs.Parts.{Tries}
-use Rattle.rule_load.specs.RoundStep.{fine-told}
+use Rattle.rule_rounds.proofs.RoundStep.{fine-told}
 use Rattle.rule_load.proofs.Keeping.{refused-told, rounds-refuse, finishable, finished, array-long}
 use Rattle.rule_load.proofs.attempt.Statement.{statement}
 use Rattle.rule_load.proofs.attempt.Tie as tie
@@ -20,7 +20,7 @@ slice-aggregate-solve-3 : tie.Need-slice-aggregate-solve-3
 slice-aggregate-solve-3 c = search needs
 
 solve-requires : tie.Need-solve-requires
-solve-requires c κs = ((c .before .before .before .before .before .before .before .before .before .before .before .before .before .before .before .before .before .pre .0 .0, (omega arith, (omega arith, omega arith))), c .before .before .before .before .before .before .before .before .before .before .before .before .before .before .before .before .before .pre .1)
+solve-requires c κs = let start = c .before .before .before .before .before .before .before .before .before .before .before .before .before .before .before .before .before in ((start .pre .0 .0, (omega arith, (omega arith, omega arith))), start .pre .1)
 
 enum-told : tie.Need-enum-told
 enum-told c = search needs
@@ -41,7 +41,7 @@ slice-aggregate-finish-3 : tie.Need-slice-aggregate-finish-3
 slice-aggregate-finish-3 c = search needs
 
 finish-requires : tie.Need-finish-requires
-finish-requires c κs = finishable (c .before .before .before .before .before .before .before .before .before .before .before .before .before .before .before .before .before .before .before .before .before .before .before .before .before .before .before .before .before .before .before .before .before .before .before .before .before .before .before .before .before .args .m .now) (c .before .before .before .before .before .before .before .before .before .before .before .before .before .before .before .before .before .before .before .before .before .before .before .before .before .before .before .before .before .before .before .before .before .before .before .before .before .before .before .before .before .args .n) (c .before .before .before .before .before .before .before .before .before .before .before .before .before .before .before .before .before .before .before .before .before .before .before .before .before .before .before .before .before .before .before .before .before .before .before .before .before .before .before .before .before .args .words .now) (c .before .before .before .before .before .before .before .before .before .before .before .before .before .before .before .before .before .before .before .before .before .before .before .before .before .before .before .before .before .before .before .before .before .before .before .before .before .before .before .before .before .args .kept) (rule-in (c .before .before .before .before .before .before .before .before .before .before .before .before .before .before .before .before .before .before .before .before .before .before .before .before .before .before .before .before .before .before .before .before .before .before .before .before .before .before .before .before .before .args .items .now) (c .before .before .before .before .before .before .before .before .before .before .before .before .before .before .before .before .before .before .before .before .before .before .before .before .before .before .before .before .before .before .before .before .before .before .before .before .before .before .before .before .before .args .place) (c .before .before .before .before .before .before .before .before .before .before .before .before .before .before .before .before .before .before .before .before .before .before .before .before .before .before .before .before .before .before .before .before .before .before .before .before .before .before .before .before .before .args .priority) (c .before .before .before .before .before .before .before .before .before .before .before .before .before .before .before .before .before .before .before .before .before .before .before .before .before .before .before .before .before .before .before .before .before .before .before .before .before .before .before .before .before .args .count)) _ (rule-written (c .before .before .before .before .before .before .before .before .before .before .before .before .before .before .before .before .before .before .before .before .before .before .before .before .before .before .before .before .before .before .before .before .before .before .before .before .before .before .before .before .before .args .items .now) (c .before .before .before .before .before .before .before .before .before .before .before .before .before .before .before .before .before .before .before .before .before .before .before .before .before .before .before .before .before .before .before .before .before .before .before .before .before .before .before .before .before .args .place) (c .before .before .before .before .before .before .before .before .before .before .before .before .before .before .before .before .before .before .before .before .before .before .before .before .before .before .before .before .before .before .before .before .before .before .before .before .before .before .before .before .before .args .priority) (c .before .before .before .before .before .before .before .before .before .before .before .before .before .before .before .before .before .before .before .before .before .before .before .before .before .before .before .before .before .before .before .before .before .before .before .before .before .before .before .before .before .args .count)) (c .before .before .before .before .before .before .before .before .before .before .before .before .before .before .before .before .before .before .before .before .before .before .before .before .before .before .before .before .before .before .before .before .before .before .before .before .before .before .before .before .before .pre .0 .1) (c .before .before .before .before .before .before .before .before .before .before .before .before .before .before .before .before .before .before .before .before .before .before .before .solve .last .1 .1 .0) (c .before .before .before .before .before .before .before .before .before .before .before .before .before .before .before .before .before .before .before .before .before .before .before .solve .last .1 .1 .1 .0) (c .before .before .before .before .before .before .before .before .before .before .before .before .before .before .before .before .before .before .before .before .before .before .before .solve .last .1 .1 .1 .1 .0) (c .before .before .before .before .before .before .before .before .before .before .before .before .before .before .before .before .before .before .before .before .before .before .before .solve .last .1 .1 .1 .1 .1 .1 .1 .0) (c .before .before .before .before .before .before .before .before .before .before .before .before .before .before .before .before .before .before .before .before .before .before .before .solve .last .1 .1 .1 .1 .1 .1 .1 .1 .0) (c .before .before .before .before .before .before .before .before .before .before .before .before .before .before .before .before .before .before .before .before .before .before .before .solve .last .1 .1 .1 .1 .1 .1 .1 .1 .1 .0) (c .before .before .before .before .before .before .before .before .before .before .before .before .before .before .before .before .before .before .before .before .before .before .before .solve .result) (fine-told (c .before .before .before .before .before .before .before .before .enum-told2 .given .1) (c .before .before .before .before .before .before .before .before .before .before .before .before .before .before .before .before .before .before .before .before .before .before .before .solve .ensures)) (c .before .before .before .before .before .before .before .before .enum-told2 .given .1) (let z = array-long (c .before .before .before .before .before .before .before .before .before .before .before .before .before .before .before .before .before .before .before .before .before .before .before .solve .last .1 .1 .1 .1 .1 .1 .1 .0) 96 (c .before .before .before .before .before .before .before .before .before .before .before .before .before .before .before .before .before .before .before .before .before .before .before .solve .kept .1 .1 .1 .1 .1 .1 .1 .0) in omega arith) (let z = array-long (c .before .before .before .before .before .before .before .before .before .before .before .before .before .before .before .before .before .before .before .before .before .before .before .solve .last .1 .1 .1 .1 .1 .1 .1 .1 .0) 32 (c .before .before .before .before .before .before .before .before .before .before .before .before .before .before .before .before .before .before .before .before .before .before .before .solve .kept .1 .1 .1 .1 .1 .1 .1 .1 .0) in omega arith) (let z = array-long (c .before .before .before .before .before .before .before .before .before .before .before .before .before .before .before .before .before .before .before .before .before .before .before .solve .last .1 .1 .1 .1 .1 .1 .1 .1 .1 .0) 32 (c .before .before .before .before .before .before .before .before .before .before .before .before .before .before .before .before .before .before .before .before .before .before .before .solve .kept .1 .1 .1 .1 .1 .1 .1 .1 .1 .0) in omega arith)
+finish-requires c κs = let at-solve = c .before .before .before .before .before .before .before .before .before .before .before .before .before .before .before .before .before .before .before .before .before .before .before in let start = at-solve .before .before .before .before .before .before .before .before .before .before .before .before .before .before .before .before .before .before in finishable (start .args .m .now) (start .args .n) (start .args .words .now) (start .args .kept) (rule-in (start .args .items .now) (start .args .place) (start .args .priority) (start .args .count)) _ (rule-written (start .args .items .now) (start .args .place) (start .args .priority) (start .args .count)) (start .pre .0 .1) (at-solve .solve .last .1 .1 .0) (at-solve .solve .last .1 .1 .1 .0) (at-solve .solve .last .1 .1 .1 .1 .0) (at-solve .solve .last .1 .1 .1 .1 .1 .1 .1 .0) (at-solve .solve .last .1 .1 .1 .1 .1 .1 .1 .1 .0) (at-solve .solve .last .1 .1 .1 .1 .1 .1 .1 .1 .1 .0) (at-solve .solve .result) (fine-told (c .before .before .before .before .before .before .before .before .enum-told2 .given .1) (at-solve .solve .ensures)) (c .before .before .before .before .before .before .before .before .enum-told2 .given .1) (let z = array-long (at-solve .solve .last .1 .1 .1 .1 .1 .1 .1 .0) 96 (at-solve .solve .kept .1 .1 .1 .1 .1 .1 .1 .0) in omega arith) (let z = array-long (at-solve .solve .last .1 .1 .1 .1 .1 .1 .1 .1 .0) 32 (at-solve .solve .kept .1 .1 .1 .1 .1 .1 .1 .1 .0) in omega arith) (let z = array-long (at-solve .solve .last .1 .1 .1 .1 .1 .1 .1 .1 .1 .0) 32 (at-solve .solve .kept .1 .1 .1 .1 .1 .1 .1 .1 .1 .0) in omega arith)
 
 same-length : tie.Need-same-length
 same-length c = search needs
@@ -63,7 +63,7 @@ same-length-6 c = search needs
 
 returns : tie.Need-returns
 unfolding Tries
-returns c = (c .before .before .before .before .before .before .before .before .before .before .before .before .before .before .before .solve .ensures .short (c .enum-told .given .1), (refl, refl))
+returns c = let at-solve = c .before .before .before .before .before .before .before .before .before .before .before .before .before .before .before in (at-solve .solve .ensures .short (c .enum-told .given .1), (refl, refl))
 
 same-length-7 : tie.Need-same-length-7
 same-length-7 c = search needs
@@ -85,7 +85,7 @@ same-length-12 c = search needs
 
 returns-2 : tie.Need-returns-2
 unfolding Tries
-returns-2 c = rounds-refuse (c .before .before .before .before .before .before .before .before .before .before .before .before .before .before .before .before .before .before .before .before .before .before .before .before .before .before .before .before .before .before .before .before .before .before .args .m .now) (c .before .before .before .before .before .before .before .before .before .before .before .before .before .before .before .before .before .before .before .before .before .before .before .before .before .before .before .before .before .before .before .before .before .before .args .n) (c .before .before .before .before .before .before .before .before .before .before .before .before .before .before .before .before .before .before .before .before .before .before .before .before .before .before .before .before .before .before .before .before .before .before .args .words .now) (c .before .before .before .before .before .before .before .before .before .before .before .before .before .before .before .before .before .before .before .before .before .before .before .before .before .before .before .before .before .before .before .before .before .before .args .kept) (rule-in (c .before .before .before .before .before .before .before .before .before .before .before .before .before .before .before .before .before .before .before .before .before .before .before .before .before .before .before .before .before .before .before .before .before .before .args .items .now) (c .before .before .before .before .before .before .before .before .before .before .before .before .before .before .before .before .before .before .before .before .before .before .before .before .before .before .before .before .before .before .before .before .before .before .args .place) (c .before .before .before .before .before .before .before .before .before .before .before .before .before .before .before .before .before .before .before .before .before .before .before .before .before .before .before .before .before .before .before .before .before .before .args .priority) (c .before .before .before .before .before .before .before .before .before .before .before .before .before .before .before .before .before .before .before .before .before .before .before .before .before .before .before .before .before .before .before .before .before .before .args .count)) _ (rule-written (c .before .before .before .before .before .before .before .before .before .before .before .before .before .before .before .before .before .before .before .before .before .before .before .before .before .before .before .before .before .before .before .before .before .before .args .items .now) (c .before .before .before .before .before .before .before .before .before .before .before .before .before .before .before .before .before .before .before .before .before .before .before .before .before .before .before .before .before .before .before .before .before .before .args .place) (c .before .before .before .before .before .before .before .before .before .before .before .before .before .before .before .before .before .before .before .before .before .before .before .before .before .before .before .before .before .before .before .before .before .before .args .priority) (c .before .before .before .before .before .before .before .before .before .before .before .before .before .before .before .before .before .before .before .before .before .before .before .before .before .before .before .before .before .before .before .before .before .before .args .count)) (c .before .before .before .before .before .before .before .before .before .before .before .before .before .before .before .before .before .before .before .before .before .before .before .before .before .before .before .before .before .before .before .before .before .before .pre .0 .1) (c .before .before .before .before .before .before .before .before .before .before .before .before .before .before .before .before .solve .last .1 .1 .0) (c .before .before .before .before .before .before .before .before .before .before .before .before .before .before .before .before .solve .last .1 .1 .1 .0) (c .before .before .before .before .before .before .before .before .before .before .before .before .before .before .before .before .solve .last .1 .1 .1 .1 .0) (c .before .before .before .before .before .before .before .before .before .before .before .before .before .before .before .before .solve .last .1 .1 .1 .1 .1 .1 .1 .0) (c .before .before .before .before .before .before .before .before .before .before .before .before .before .before .before .before .solve .last .1 .1 .1 .1 .1 .1 .1 .1 .0) (c .before .before .before .before .before .before .before .before .before .before .before .before .before .before .before .before .solve .last .1 .1 .1 .1 .1 .1 .1 .1 .1 .0) (c .before .before .before .before .before .before .before .before .before .before .before .before .before .before .before .before .solve .result) (refused-told (c .before .answer .given .1) (c .before .before .before .before .before .before .before .before .before .before .before .before .before .before .before .before .solve .ensures)) _ (c .before .answer .given .1)
+returns-2 c = let at-solve = c .before .before .before .before .before .before .before .before .before .before .before .before .before .before .before .before in let start = at-solve .before .before .before .before .before .before .before .before .before .before .before .before .before .before .before .before .before .before in rounds-refuse (start .args .m .now) (start .args .n) (start .args .words .now) (start .args .kept) (rule-in (start .args .items .now) (start .args .place) (start .args .priority) (start .args .count)) _ (rule-written (start .args .items .now) (start .args .place) (start .args .priority) (start .args .count)) (start .pre .0 .1) (at-solve .solve .last .1 .1 .0) (at-solve .solve .last .1 .1 .1 .0) (at-solve .solve .last .1 .1 .1 .1 .0) (at-solve .solve .last .1 .1 .1 .1 .1 .1 .1 .0) (at-solve .solve .last .1 .1 .1 .1 .1 .1 .1 .1 .0) (at-solve .solve .last .1 .1 .1 .1 .1 .1 .1 .1 .1 .0) (at-solve .solve .result) (refused-told (c .before .answer .given .1) (at-solve .solve .ensures)) _ (c .before .answer .given .1)
 
 same-length-13 : tie.Need-same-length-13
 same-length-13 c = search needs
@@ -110,7 +110,7 @@ same-length-19 c = search needs
 
 returns-3 : tie.Need-returns-3
 unfolding Tries
-returns-3 c = finished (c .before .before .before .before .before .before .before .before .before .before .before .before .before .before .before .before .before .before .before .before .before .before .before .before .before .before .before .before .before .before .before .before .before .before .before .before .before .before .before .before .before .before .before .before .before .before .args .m .now) (c .before .before .before .before .before .before .before .before .before .before .before .before .before .before .before .before .before .before .before .before .before .before .before .before .before .before .before .before .before .before .before .before .before .before .before .before .before .before .before .before .before .before .before .before .before .before .args .n) (c .before .before .before .before .before .before .before .before .before .before .before .before .before .before .before .before .before .before .before .before .before .before .before .before .before .before .before .before .before .before .before .before .before .before .before .before .before .before .before .before .before .before .before .before .before .before .args .words .now) (c .before .before .before .before .before .before .before .before .before .before .before .before .before .before .before .before .before .before .before .before .before .before .before .before .before .before .before .before .before .before .before .before .before .before .before .before .before .before .before .before .before .before .before .before .before .before .args .kept) (rule-in (c .before .before .before .before .before .before .before .before .before .before .before .before .before .before .before .before .before .before .before .before .before .before .before .before .before .before .before .before .before .before .before .before .before .before .before .before .before .before .before .before .before .before .before .before .before .before .args .items .now) (c .before .before .before .before .before .before .before .before .before .before .before .before .before .before .before .before .before .before .before .before .before .before .before .before .before .before .before .before .before .before .before .before .before .before .before .before .before .before .before .before .before .before .before .before .before .before .args .place) (c .before .before .before .before .before .before .before .before .before .before .before .before .before .before .before .before .before .before .before .before .before .before .before .before .before .before .before .before .before .before .before .before .before .before .before .before .before .before .before .before .before .before .before .before .before .before .args .priority) (c .before .before .before .before .before .before .before .before .before .before .before .before .before .before .before .before .before .before .before .before .before .before .before .before .before .before .before .before .before .before .before .before .before .before .before .before .before .before .before .before .before .before .before .before .before .before .args .count)) _ (rule-written (c .before .before .before .before .before .before .before .before .before .before .before .before .before .before .before .before .before .before .before .before .before .before .before .before .before .before .before .before .before .before .before .before .before .before .before .before .before .before .before .before .before .before .before .before .before .before .args .items .now) (c .before .before .before .before .before .before .before .before .before .before .before .before .before .before .before .before .before .before .before .before .before .before .before .before .before .before .before .before .before .before .before .before .before .before .before .before .before .before .before .before .before .before .before .before .before .before .args .place) (c .before .before .before .before .before .before .before .before .before .before .before .before .before .before .before .before .before .before .before .before .before .before .before .before .before .before .before .before .before .before .before .before .before .before .before .before .before .before .before .before .before .before .before .before .before .before .args .priority) (c .before .before .before .before .before .before .before .before .before .before .before .before .before .before .before .before .before .before .before .before .before .before .before .before .before .before .before .before .before .before .before .before .before .before .before .before .before .before .before .before .before .before .before .before .before .before .args .count)) (c .before .before .before .before .before .before .before .before .before .before .before .before .before .before .before .before .before .before .before .before .before .before .before .before .before .before .before .before .before .before .before .before .before .before .before .before .before .before .before .before .before .before .before .before .before .before .pre .0 .1) (c .before .before .before .before .before .before .before .before .before .before .before .before .before .before .before .before .before .before .before .before .before .before .before .before .before .before .before .before .solve .last .1 .1 .0) (c .before .before .before .before .before .before .before .before .before .before .before .before .before .before .before .before .before .before .before .before .before .before .before .before .before .before .before .before .solve .last .1 .1 .1 .0) (c .before .before .before .before .before .before .before .before .before .before .before .before .before .before .before .before .before .before .before .before .before .before .before .before .before .before .before .before .solve .last .1 .1 .1 .1 .0) (c .before .before .before .before .before .before .before .before .before .before .before .before .before .before .before .before .before .before .before .before .before .before .before .before .before .before .before .before .solve .last .1 .1 .1 .1 .1 .1 .1 .0) (c .before .before .before .before .before .before .before .before .before .before .before .before .before .before .before .before .before .before .before .before .before .before .before .before .before .before .before .before .solve .last .1 .1 .1 .1 .1 .1 .1 .1 .0) (c .before .before .before .before .before .before .before .before .before .before .before .before .before .before .before .before .before .before .before .before .before .before .before .before .before .before .before .before .solve .last .1 .1 .1 .1 .1 .1 .1 .1 .1 .0) (c .before .before .before .before .before .before .before .before .before .before .before .before .before .before .before .before .before .before .before .before .before .before .before .before .before .before .before .before .solve .result) (fine-told (c .before .before .before .before .before .before .before .before .before .before .before .before .before .enum-told2 .given .1) (c .before .before .before .before .before .before .before .before .before .before .before .before .before .before .before .before .before .before .before .before .before .before .before .before .before .before .before .before .solve .ensures)) (c .before .before .before .before .before .before .before .before .before .before .before .before .before .enum-told2 .given .1) (let z = array-long (c .before .before .before .before .before .before .before .before .before .before .before .before .before .before .before .before .before .before .before .before .before .before .before .before .before .before .before .before .solve .last .1 .1 .1 .1 .1 .1 .1 .1 .0) 32 (c .before .before .before .before .before .before .before .before .before .before .before .before .before .before .before .before .before .before .before .before .before .before .before .before .before .before .before .before .solve .kept .1 .1 .1 .1 .1 .1 .1 .1 .0) in omega arith) (let z = array-long (c .before .before .before .before .before .before .before .before .before .before .before .before .before .before .before .before .before .before .before .before .before .before .before .before .before .before .before .before .solve .last .1 .1 .1 .1 .1 .1 .1 .1 .1 .0) 32 (c .before .before .before .before .before .before .before .before .before .before .before .before .before .before .before .before .before .before .before .before .before .before .before .before .before .before .before .before .solve .kept .1 .1 .1 .1 .1 .1 .1 .1 .1 .0) in omega arith) _ _ _ (c .before .before .before .before .finish .ensures)
+returns-3 c = let at-enum-told2 = c .before .before .before .before .before .before .before .before .before .before .before .before .before in let at-solve = at-enum-told2 .before .before .before .before .before .before .before .before .before .before .before .before .before .before .before in let start = at-solve .before .before .before .before .before .before .before .before .before .before .before .before .before .before .before .before .before .before in finished (start .args .m .now) (start .args .n) (start .args .words .now) (start .args .kept) (rule-in (start .args .items .now) (start .args .place) (start .args .priority) (start .args .count)) _ (rule-written (start .args .items .now) (start .args .place) (start .args .priority) (start .args .count)) (start .pre .0 .1) (at-solve .solve .last .1 .1 .0) (at-solve .solve .last .1 .1 .1 .0) (at-solve .solve .last .1 .1 .1 .1 .0) (at-solve .solve .last .1 .1 .1 .1 .1 .1 .1 .0) (at-solve .solve .last .1 .1 .1 .1 .1 .1 .1 .1 .0) (at-solve .solve .last .1 .1 .1 .1 .1 .1 .1 .1 .1 .0) (at-solve .solve .result) (fine-told (at-enum-told2 .enum-told2 .given .1) (at-solve .solve .ensures)) (at-enum-told2 .enum-told2 .given .1) (let z = array-long (at-solve .solve .last .1 .1 .1 .1 .1 .1 .1 .1 .0) 32 (at-solve .solve .kept .1 .1 .1 .1 .1 .1 .1 .1 .0) in omega arith) (let z = array-long (at-solve .solve .last .1 .1 .1 .1 .1 .1 .1 .1 .1 .0) 32 (at-solve .solve .kept .1 .1 .1 .1 .1 .1 .1 .1 .1 .0) in omega arith) _ _ _ (c .before .before .before .before .finish .ensures)
 
 pub attempt-spec : {M : Type 1} → statement M
 attempt-spec =

@@ -20,26 +20,26 @@ loop-holds c = (omega arith, gathered-none _ _, refl)
 mul-loop : tie.Need-mul-loop Inv-loop μ-loop
 mul-loop c = omega arith
 
-mul-size : tie.Need-mul-size Inv-loop μ-loop
-mul-size c = omega arith
+mul-size16 : tie.Need-mul-size16 Inv-loop μ-loop
+mul-size16 c = omega arith
 
-shared-slice-read-size : tie.Need-shared-slice-read-size Inv-loop μ-loop
-shared-slice-read-size c = omega (arith, third-below (c .before .before .loop .k) (c .before .before .before .before .before .before .args .held) (c .before .loop-test .taken))
+shared-slice-read-size16 : tie.Need-shared-slice-read-size16 Inv-loop μ-loop
+shared-slice-read-size16 c = omega (arith, third-below (c .before .before .loop .k) (c .before .before .before .before .before .before .args .held) (c .before .loop-test .taken))
 
-size-requires : tie.Need-size-requires Inv-loop μ-loop
-size-requires c κs = tt
+size16-requires : tie.Need-size16-requires Inv-loop μ-loop
+size16-requires c κs = tt
 
 mul-out : tie.Need-mul-out Inv-loop μ-loop
-mul-out c = omega arith
+mul-out c = let z = c .before .before .before .before .before .before .before .pre .4 (c .before .before .before .loop .k / 3) (third-below (c .before .before .before .loop .k) (c .before .before .before .before .before .before .before .args .held) (c .before .before .loop-test .taken)) in omega (arith, c .size16 .ensures)
 
 add-out : tie.Need-add-out Inv-loop μ-loop
-add-out c = omega arith
+add-out c = let z = c .before .before .before .before .before .before .before .pre .4 (c .before .before .before .loop .k / 3) (third-below (c .before .before .before .loop .k) (c .before .before .before .before .before .before .before .args .held) (c .before .before .loop-test .taken)) in omega (arith, c .size16 .ensures)
 
 mul-out-2 : tie.Need-mul-out-2 Inv-loop μ-loop
-mul-out-2 c = omega arith
+mul-out-2 c = let z = c .before .before .before .before .before .before .before .pre .4 (c .before .before .before .loop .k / 3) (third-below (c .before .before .before .loop .k) (c .before .before .before .before .before .before .before .args .held) (c .before .before .loop-test .taken)) in omega (arith, c .size16 .ensures)
 
 shared-slice-read-out : tie.Need-shared-slice-read-out Inv-loop μ-loop
-shared-slice-read-out c = let z = c .before .before .before .before .before .before .before .before .pre .4 (c .before .before .before .before .loop .k / 3) (third-below (c .before .before .before .before .loop .k) (c .before .before .before .before .before .before .before .before .args .held) (c .before .before .before .loop-test .taken)) in omega (arith, c .before .size .ensures .0)
+shared-slice-read-out c = let z = c .before .before .before .before .before .before .before .before .pre .4 (c .before .before .before .before .loop .k / 3) (third-below (c .before .before .before .before .loop .k) (c .before .before .before .before .before .before .before .before .args .held) (c .before .before .before .loop-test .taken)) in omega (arith, c .before .size16 .ensures)
 
 mul-out-3 : tie.Need-mul-out-3 Inv-loop μ-loop
 mul-out-3 c = omega arith
@@ -54,7 +54,7 @@ loop-less : tie.Need-loop-less Inv-loop μ-loop
 loop-less c = omega arith
 
 loop-again : tie.Need-loop-again Inv-loop μ-loop
-loop-again c = (omega arith, gathered-turn (c .before .before .before .before .before .before .before .before .args .rows .now) (c .before .before .before .before .before .before .before .before .args .shapes .now) (c .before .before .before .before .loop .out) (c .before .before .before .before .loop .k) (c .before .size .result) (omega (arith, c .before .before .before .before .loop .inv .2)) (c .before .size .ensures .0) (c .before .before .before .before .loop .inv .1), length-set (c .before .before .before .before .loop .out) (c .before .before .before .before .loop .k) _ ∙ c .before .before .before .before .loop .inv .2)
+loop-again c = (omega arith, gathered-turn (c .before .before .before .before .before .before .before .before .args .rows .now) (c .before .before .before .before .before .before .before .before .args .shapes .now) (c .before .before .before .before .loop .out) (c .before .before .before .before .loop .k) (c .before .size16 .result) (omega (arith, c .before .before .before .before .loop .inv .2)) (c .before .size16 .ensures) (c .before .before .before .before .loop .inv .1), length-set (c .before .before .before .before .loop .out) (c .before .before .before .before .loop .k) _ ∙ c .before .before .before .before .loop .inv .2)
 
 same-length : tie.Need-same-length Inv-loop μ-loop
 same-length c = c .before .loop .inv .2
@@ -70,9 +70,9 @@ gather-spec =
     μ-loop
     loop-holds
     mul-loop
-    mul-size
-    shared-slice-read-size
-    size-requires
+    mul-size16
+    shared-slice-read-size16
+    size16-requires
     mul-out
     add-out
     mul-out-2

@@ -43,7 +43,7 @@ loop-less : tie.Need-loop-less Inv-loop μ-loop
 loop-less c = omega (arith, c .before .before .before .before .before .before .loop-test .taken)
 
 loop-again : tie.Need-loop-again Inv-loop μ-loop
-loop-again c = (omega (arith, c .before .before .before .before .before .before .loop-test .taken), (let a = c .before .before .before .before .before .before .before .loop .inv .2 in let b = c .before .before .before .before .before .if1 .left in omega arith), c .before .before .before .before .before .before .before .loop .inv .2, c .before .out .given ∙ c .before .before .before .before .before .before .before .loop .inv .3, hold-more (c .before .before .before .before .before .before .before .before .before .args .t1) _ _ _ _ _ (c .before .before .before .before .before .before .before .loop .inv .4) (let a = rule-long (c .before .before .before .before .before .before .before .before .before .args .t1) _ (c .before .before .before .before .before .before .before .before .before .good .0) in let b = c .before .before .before .before .before .before .loop-test .taken in omega arith) (let a = c .before .before .before .before .before .before .before .before .before .pre in let b = c .before .before .before .before .before .before .loop-test .taken in let d = c .before .before .before .before .before .before .before .loop .inv .3 in omega arith) refl (c .before .before .hold-item .ensures .1) (c .before .before .hold-item .ensures .0))
+loop-again c = let start = c .before .before .before .before .before .before .before .before .before in (omega (arith, c .before .before .before .before .before .before .loop-test .taken), (let a = c .before .before .before .before .before .before .before .loop .inv .2 in let b = c .before .before .before .before .before .if1 .left in omega arith), c .before .before .before .before .before .before .before .loop .inv .2, c .before .out .given ∙ c .before .before .before .before .before .before .before .loop .inv .3, hold-more (start .args .t1) _ _ _ _ _ (c .before .before .before .before .before .before .before .loop .inv .4) (let a = rule-long (start .args .t1) _ (start .good .0) in let b = c .before .before .before .before .before .before .loop-test .taken in omega arith) (let a = start .pre in let b = c .before .before .before .before .before .before .loop-test .taken in let d = c .before .before .before .before .before .before .before .loop .inv .3 in omega arith) refl (c .before .before .hold-item .ensures .1) (c .before .before .hold-item .ensures .0))
 
 same-length-2 : tie.Need-same-length-2 Inv-loop μ-loop
 same-length-2 c = c .before .loop .inv .3

@@ -21,19 +21,19 @@ write-children-requires : tie.Need-write-children-requires
 write-children-requires c κs = search needs
 
 slice-aggregate-write : tie.Need-slice-aggregate-write
-slice-aggregate-write c = sym (length-take-le _ _ (c .before .before .before .before .before .before .before .before .before .before .before .before .before .before .before .before .before .pre .long-sites))
+slice-aggregate-write c = let start = c .before .before .before .before .before .before .before .before .before .before .before .before .before .before .before .before .before in sym (length-take-le _ _ (start .pre .long-sites))
 
 array-share-prefix-out : tie.Need-array-share-prefix-out
 array-share-prefix-out c = search needs
 
 slice-aggregate-write-2 : tie.Need-slice-aggregate-write-2
-slice-aggregate-write-2 c = sym (length-take-le _ _ (omega (arith, c .before .before .before .before .before .before .before .before .gather .kept .1 .1 .1 .0, c .before .before .before .before .before .before .before .before .before .before .before .before .before .before .before .before .before .before .pre .few)))
+slice-aggregate-write-2 c = let start = c .before .before .before .before .before .before .before .before .before .before .before .before .before .before .before .before .before .before in sym (length-take-le _ _ (omega (arith, c .before .before .before .before .before .before .before .before .gather .kept .1 .1 .1 .0, start .pre .few)))
 
 slice-aggregate-write-3 : tie.Need-slice-aggregate-write-3
-slice-aggregate-write-3 c = sym (length-take-le _ _ (c .before .before .before .before .before .before .before .before .before .before .before .before .before .before .before .before .before .before .before .pre .long-equal))
+slice-aggregate-write-3 c = let start = c .before .before .before .before .before .before .before .before .before .before .before .before .before .before .before .before .before .before .before in sym (length-take-le _ _ (start .pre .long-equal))
 
 slice-aggregate-write-4 : tie.Need-slice-aggregate-write-4
-slice-aggregate-write-4 c = sym (length-take-le _ _ (c .before .before .before .before .before .before .before .before .before .before .before .before .before .before .before .before .before .before .before .before .pre .long-low))
+slice-aggregate-write-4 c = let start = c .before .before .before .before .before .before .before .before .before .before .before .before .before .before .before .before .before .before .before .before in sym (length-take-le _ _ (start .pre .long-low))
 
 write-requires : tie.Need-write-requires
 write-requires c κs = search needs
@@ -45,7 +45,7 @@ same-length-2 : tie.Need-same-length-2
 same-length-2 c = search needs
 
 returns : tie.Need-returns
-returns c = (c .before .before .before .before .before .before .before .before .before .before .write-children .ensures, wrote-as _ _ _ _ _ _ _ _ _ _ (c .before .before .write .ensures .1) (c .before .before .before .before .before .before .before .before .before .before .before .before .before .gather .ensures))
+returns c = let at-write-children = c .before .before .before .before .before .before .before .before .before .before in let at-gather = at-write-children .before .before .before in (at-write-children .write-children .ensures, wrote-as _ _ _ _ _ _ _ _ _ _ (c .before .before .write .ensures .1) (at-gather .gather .ensures))
 
 pub keep-spec : {M : Type 1} → statement M
 keep-spec =

@@ -26,7 +26,7 @@ same-length-2 : tie.Need-same-length-2
 same-length-2 c = search needs
 
 returns : tie.Need-returns
-returns c = answers-same _ _ _ _ _ _ _ _ _ (same-loading _ _ _ _ (c .before .before .before .before .before .before .before .before .before .before .before .before .before .args .rule) _ (hold-same (c .before .before .before .before .before .before .before .before .before .before .before .before .before .args .rule) _ (c .before .before .before .before .before .before .before .before .before .hold .ensures))) (c .before .before .before .before .load-handed .ensures)
+returns c = let at-hold = c .before .before .before .before .before .before .before .before .before in let start = at-hold .before .before .before .before in answers-same _ _ _ _ _ _ _ _ _ (same-loading _ _ _ _ (start .args .rule) _ (hold-same (start .args .rule) _ (at-hold .hold .ensures))) (c .before .before .before .before .load-handed .ensures)
 
 pub load-spec : {M : Type 1} → statement M
 load-spec =

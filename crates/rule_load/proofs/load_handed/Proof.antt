@@ -38,7 +38,7 @@ slice-aggregate-attempt-5 : tie.Need-slice-aggregate-attempt-5
 slice-aggregate-attempt-5 c = search needs
 
 attempt-requires : tie.Need-attempt-requires
-attempt-requires c κs = ((lent-few, (admits-so _ _ _ _ _ _ (c .before .before .before .before .before .before .before .before .before .admit .ensures) (c .before .before .before .before .before .before .before .enum-told .given .1))), (omega arith, omega arith))
+attempt-requires c κs = let at-admit = c .before .before .before .before .before .before .before .before .before in ((lent-few, (admits-so _ _ _ _ _ _ (at-admit .admit .ensures) (c .before .before .before .before .before .before .before .enum-told .given .1))), (omega arith, omega arith))
 
 enum-known-a : tie.Need-enum-known-a
 enum-known-a c = search needs
@@ -47,7 +47,7 @@ enum-told-2 : tie.Need-enum-told-2
 enum-told-2 c = search needs
 
 at-large-requires : tie.Need-at-large-requires
-at-large-requires c κs = still-admitted _ _ _ _ _ _ _ _ _ _ (c .before .before .before .before .before .before .before .before .before .before .before .before .before .attempt .ensures) _ _ (c .before .before .enum-told2 .given .1) (admits-so _ _ _ _ _ _ (c .before .before .before .before .before .before .before .before .before .before .before .before .before .before .before .before .before .before .before .before .before .before .before .admit .ensures) (c .before .before .before .before .before .before .before .before .before .before .before .before .before .before .before .before .before .before .before .before .before .enum-told .given .1))
+at-large-requires c κs = let at-attempt = c .before .before .before .before .before .before .before .before .before .before .before .before .before in let at-enum-told = at-attempt .before .before .before .before .before .before .before .before in let at-admit = at-enum-told .before .before in still-admitted _ _ _ _ _ _ _ _ _ _ (at-attempt .attempt .ensures) _ _ (c .before .before .enum-told2 .given .1) (admits-so _ _ _ _ _ _ (at-admit .admit .ensures) (at-enum-told .enum-told .given .1))
 
 same-length-2 : tie.Need-same-length-2
 same-length-2 c = search needs
@@ -56,7 +56,7 @@ same-length-3 : tie.Need-same-length-3
 same-length-3 c = search needs
 
 returns-2 : tie.Need-returns-2
-returns-2 c = then-large _ _ _ _ _ _ _ _ _ _ (c .before .before .before .before .before .before .before .before .before .before .before .before .before .before .before .before .before .before .attempt .ensures) (c .before .before .before .before .before .before .before .enum-told2 .given .1) _ _ _ (c .before .before .before .before .at-large .ensures)
+returns-2 c = let at-attempt = c .before .before .before .before .before .before .before .before .before .before .before .before .before .before .before .before .before .before in then-large _ _ _ _ _ _ _ _ _ _ (at-attempt .attempt .ensures) (c .before .before .before .before .before .before .before .enum-told2 .given .1) _ _ _ (c .before .before .before .before .at-large .ensures)
 
 same-length-4 : tie.Need-same-length-4
 same-length-4 c = search needs
@@ -65,7 +65,7 @@ same-length-5 : tie.Need-same-length-5
 same-length-5 c = search needs
 
 returns-3 : tie.Need-returns-3
-returns-3 c = tried-done _ _ _ _ _ _ _ _ _ _ (c .before .before .before .before .before .before .before .before .before .before .before .before .attempt .ensures) _ (c .before .a .given .1)
+returns-3 c = let at-attempt = c .before .before .before .before .before .before .before .before .before .before .before .before in tried-done _ _ _ _ _ _ _ _ _ _ (at-attempt .attempt .ensures) _ (c .before .a .given .1)
 
 pub load-handed-spec : {M : Type 1} → statement M
 load-handed-spec =
