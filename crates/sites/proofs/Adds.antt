@@ -18,15 +18,15 @@ use Rattle.paper.specs.Numbers.{max-sites, max-sources, Outcome, done, refused,
 use Rattle.paper.specs.Layout.{whole, site-read}
 use Rattle.paper.specs.Sites.{Site, Sites, iterator, body, sources, term-of, known, number-of, missing-source, term-fits, Added, or-next, add}
 use Rattle.paper.proofs.Laws.{number-some, at-inside, first-here}
-use Rattle.sites.specs.Kinds.{Laid}
-use Rattle.sites.specs.Shape.{is-there, is-body}
-use Rattle.sites.specs.Back.{Bytes}
-use Rattle.sites.specs.declared.Verdict.{Verdict}
-use Rattle.sites.specs.declared.Verdict.the-variants as verdict
+use Rattle.site_body.specs.Body.{admits, admits-body, found-as, is-body, is-there, missing, no-site, site-of, verdict-as}
+use Rattle.site_body.proofs.Tables.{Laid}
+use Rattle.site_body.proofs.Back.{Bytes}
+use Rattle.paper.specs.declared.Verdict.{Verdict}
+use Rattle.paper.specs.declared.Verdict.the-variants as verdict
 use Rattle.sites.specs.declared.Numbered.{Numbered}
 use Rattle.sites.specs.declared.Numbered.the-variants as numbered
-use Rattle.sites.specs.Slots.{slot, no-site, site-of, sites-in, Findable, found-as, missing, admits, admits-body, verdict-as, held-by, add-body, added-in, numbered-as, put, store, after-add}
-use Rattle.sites.proofs.Bodies.{laid-in, read-some, found-some, found-none}
+use Rattle.sites.specs.Slots.{slot, sites-in, Findable, held-by, add-body, added-in, numbered-as, put, store, after-add}
+use Rattle.site_body.proofs.Bodies.{laid-in, read-some, found-some, found-none}
 use Rattle.sites.proofs.Places.{sites-length}
 
 -- three questions, and then what follows
