@@ -1,27 +1,27 @@
 -- What adding the children answers, place by place.
 use mathlib.Core.Path.{_≡_, refl, sym, ap, _∙_}
 use mathlib.Core.Bool.{Bool, true, false}
-use mathlib.Core.Option.{Option, none, some}
+use mathlib.Core.Option.{some}
 use mathlib.Core.List.{List, [], _∷_, _++_, map, append-nil}
 use Prim.Native.Nat.{ℕ, zero, suc, _+_, _-_, _*_, _<_, _≤_, min}
 use native.Mathlib.Omega.{arith}
 use lib.ListN.{length, getD, drop, replicate, length-append, List·getD-append}
 use lib.Seq.{sets, ext-getD, drop-at, getD-at}
-use lib.Dec.{ltb, leb}
+use lib.Dec.{ltb}
 use borrow.Author.Tests.{lt-ltb, le-ltb, le-leb, lt-leb, ltb-true, ltb-false}
 use Rattle.paper.specs.declared.Constraint.{Constraint}
 use Rattle.paper.specs.declared.Refusal.{Refusal}
 use Rattle.paper.specs.declared.Refusal.the-variants.{Unknown, TooManySites, TooManyFields}
 use Rattle.paper.specs.Words.{if_then_else_, or-else, below}
-use Rattle.paper.specs.Numbers.{max-sites, max-fields, Outcome, done, refused}
+use Rattle.paper.specs.Numbers.{max-sites, max-fields, done, refused}
 use Rattle.paper.specs.Sites.{Site, Sites, child-count, child, children, number-of, child-number, add-all}
 use Rattle.rule_children.specs.Tail.{children-as}
 use Rattle.rule_children.specs.declared.Children.{Children}
 use Rattle.rule_children.specs.declared.Given.the-variants as given
 use Rattle.sites.specs.Slots.{length-below}
-use Rattle.rule_children.specs.Tail.{word-of, table, grown, after-grown, refused-as, holds, holes, Numbers, Sees, news, Ready, Placed}
+use Rattle.rule_children.specs.Tail.{word-of, table, grown, after-grown, refused-as, holds, Sees, news, Ready, Placed}
 use Rattle.rule_children.proofs.ScanLaws.{table-length}
-use Rattle.rule_children.proofs.GrowLaws.{all-length, news-holes, all-fit, all-full, all-unknown, all-none}
+use Rattle.rule_children.proofs.GrowLaws.{news-holes, all-fit, all-full, all-unknown, all-none}
 use Rattle.rule_children.specs.declared.Seen.{Seen}
 
 getD-below : (n : ℕ) (f : ℕ → ℕ) (i : ℕ) → i < n → getD (below n f) i 0 ≡ f i
@@ -90,9 +90,6 @@ module _ (m : List ℕ) (n : ℕ) (tail : List ℕ) (k at s : ℕ) (c : Constrai
         pub grown-adds : grown m n tail k at s c ≡ add-all t at (children s c)
         unfolding grown
         grown-adds = rw (le-leb (min max-sites (k + max-fields)) (length tail) l, lt-ltb (n + k) 65536 h, le-leb (child-count c) max-fields f)
-
-        pub grown-length : (u : Sites) → grown m n tail k at s c ≡ done u → (n + k ≤ length u) × (length u < 65536)
-        grown-length u e = let z = all-length t s c at u (sym grown-adds ∙ e) in let a = z .0 in let b = z .1 in (omega (arith, size), omega (arith, size))
 
         no-numbers : child-count c ≡ 0 → replicate 8 0 ≡ below max-fields (λ i. if ltb i (child-count c) then child-number t s c i else 0)
         unfolding below

@@ -6,23 +6,21 @@ use mathlib.Core.List.{List, [], _∷_, _++_, map, append-assoc, append-nil}
 use Prim.Native.Nat.{ℕ, zero, suc, _+_, _-_, _*_, _<_, _≤_}
 use native.Mathlib.Numerals.{add-one}
 use native.Mathlib.Omega.{arith}
-use lib.ListN.{length, getD, set, drop, replicate, length-append, length-set, getD-replicate, List·getD-append}
+use lib.ListN.{length, getD, set, replicate, length-append, length-set, getD-replicate}
 use lib.Seq.{getD-set-same, getD-set-other, sets, length-sets}
 use lib.Dec.{eqb, ltb, leb}
-use borrow.Author.Tests.{lt-ltb, le-ltb, le-leb, lt-leb, ne-eqb, eqb-true, eqb-false, ltb-true, ltb-false, leb-true, leb-false}
+use borrow.Author.Tests.{lt-ltb, le-ltb, le-leb, lt-leb, eqb-true, eqb-false, ltb-true, ltb-false, leb-true, leb-false}
 use Rattle.paper.specs.declared.Constraint.{Constraint}
 use Rattle.paper.specs.declared.Constraint.the-variants.{Variant, Struct, ConstBool, ConstInt, ConstPrim, Some}
-use Rattle.paper.specs.declared.Refusal.{Refusal}
-use Rattle.paper.specs.declared.Refusal.the-variants.{Unknown, TooManySites, TooManyFields}
-use Rattle.paper.specs.Words.{if_then_else_, or-else, first, below}
-use Rattle.paper.specs.Numbers.{max-sites, max-sources, max-fields, Outcome, done, refused, _>>=_, demand}
-use Rattle.paper.specs.Sites.{Site, Sites, sources, term-of, child-count, child, children, number-of, child-number, known, missing-source, term-fits, Added, or-next, add, add-all}
+use Rattle.paper.specs.declared.Refusal.the-variants.{Unknown, TooManySites}
+use Rattle.paper.specs.Words.{if_then_else_, first, below}
+use Rattle.paper.specs.Numbers.{max-sites, Outcome, done, refused, _>>=_}
+use Rattle.paper.specs.Sites.{Site, Sites, sources, term-of, child-count, child, children, number-of, known, Added, or-next, add, add-all}
 use Rattle.paper.proofs.Laws.{number-front, number-on, plus, first-here, first-next}
 use Rattle.paper.proofs.Outcomes.{not-refused, done-once}
-use Rattle.sites.specs.Slots.{length-below}
-use Rattle.rule_children.specs.Tail.{word-of, site-of-word, Spelt, table, grown, after-grown, holes, Numbers, Sees, news, Ready, Placed}
+use Rattle.rule_children.specs.Tail.{word-of, site-of-word, Spelt, table, holes, Numbers, news, Ready, Placed}
 use Rattle.rule_children.proofs.WordLaws.{child-apart, child-positive}
-use Rattle.rule_children.proofs.ScanLaws.{table-length, table-more, number-other, number-new, number-inside, is-none, is-some}
+use Rattle.rule_children.proofs.ScanLaws.{table-more, number-other, number-new, is-none, is-some}
 
 -- ---- adding one by one
 

@@ -8,22 +8,21 @@ use Prim.Native.Nat.{ℕ, zero, suc, _+_, _-_, _*_, _<_, _≤_}
 use native.Mathlib.Nat.{eq-or-lt-of-le}
 use native.Mathlib.Numerals.{add-one}
 use native.Mathlib.Omega.{arith}
-use lib.ListN.{length, getD, set, replicate, length-append, length-set, getD-replicate}
+use lib.ListN.{length, getD, set, replicate, length-set, getD-replicate}
 use lib.Seq.{getD-set-same, getD-set-other}
-use lib.Dec.{eqb, ltb, leb}
-use borrow.Author.Tests.{lt-ltb, le-ltb, ne-eqb, eq-eqb, eqb-true, eqb-false, ltb-true, ltb-false}
+use lib.Dec.{eqb, ltb}
+use borrow.Author.Tests.{lt-ltb, le-ltb, ne-eqb, eqb-true, eqb-false, ltb-true, ltb-false}
 use Rattle.paper.specs.declared.Constraint.{Constraint}
 use Rattle.paper.specs.Words.{if_then_else_, or-else, below}
 use Rattle.paper.specs.Numbers.{max-fields}
 use Rattle.paper.specs.Sites.{Site, Sites, child-count, child, number-of}
-use Rattle.paper.proofs.Laws.{same-site-refl, number-here, number-there, number-front, number-on, number-some, at-inside, plus, one-more}
+use Rattle.paper.proofs.Laws.{same-site-refl, number-here, number-there, number-front, number-on, number-some, at-inside, plus}
 use Rattle.site_body.proofs.Back.{Bytes}
 use Rattle.sites.specs.Slots.{site-in, sites-in, length-below}
 use Rattle.sites.proofs.Places.{below-split, below-same, same-site-false}
-use Rattle.rule_children.specs.Tail.{word-of, site-of-word, Spelt, site-there, table, Field, Wants, Onward, holes, Notes, Numbers, Sees}
+use Rattle.rule_children.specs.Tail.{site-of-word, Spelt, site-there, table, Field, Wants, Onward, holes, Notes, Numbers}
 use Rattle.rule_children.proofs.WordLaws.{child-apart, site-is, site-none}
 use Rattle.rule_children.proofs.NextLaws.{no-child}
-use Rattle.rule_children.specs.declared.Seen.{Seen}
 use Rattle.rule_children.specs.declared.Wanted.{Wanted}
 
 -- ---- the table, site by site

@@ -1,19 +1,19 @@
 -- Words and the sites that they tell.
 use mathlib.Core.Path.{_≡_, refl, sym, ap, _∙_}
 use mathlib.Core.Bool.{Bool, true, false, _||_}
-use mathlib.Core.Option.{Option, none, some}
-use mathlib.Core.List.{List, [], _∷_, _++_, map}
+use mathlib.Core.Option.{none, some}
+use mathlib.Core.List.{List, [], _∷_, _++_}
 use Prim.Native.Nat.{ℕ, zero, suc, _+_, _-_, _*_, _/_, _%_, _<_, _≤_}
 use native.Mathlib.Omega.{arith}
 use lib.ListN.{length, getD, List·getD-eq-default}
-use lib.Dec.{eqb, ltb, leb}
+use lib.Dec.{eqb, ltb}
 use borrow.Author.Tests.{lt-ltb, le-ltb, ne-eqb, eqb-true, eqb-false, ltb-true, ltb-false}
 use Rattle.paper.specs.declared.Constraint.{Constraint}
 use Rattle.paper.specs.declared.Constraint.the-variants.{Variant, Struct, ConstBool, ConstInt, ConstPrim, Some}
 use Rattle.paper.specs.Words.{if_then_else_, or-else, below, any}
 use Rattle.paper.specs.Sites.{Site, constBool, constInt, constPrim, argument, extractor, constructor, iterator, makeVariant, matchVariant, makeStruct, extractStruct, makeSome, matchSome, matchTuple, parent, child-count, child, children, same-site}
-use Rattle.paper.proofs.Laws.{same-site-true, same-site-refl}
-use Rattle.sites.specs.Slots.{site-of, slot-body, site-in, no-site}
+use Rattle.paper.proofs.Laws.{same-site-refl}
+use Rattle.sites.specs.Slots.{site-of, slot-body, site-in}
 use Rattle.site_body.specs.Body.{link-of}
 use Rattle.sites.proofs.Places.{same-site-false}
 use Rattle.site_body.specs.declared.Link.{Link}

@@ -6,14 +6,14 @@ use mathlib.Core.List.{List, [], _∷_, _++_}
 use Prim.Native.Nat.{ℕ, zero, suc, _+_, _-_, _*_, _≤_, _<_}
 use native.Mathlib.Omega.{arith}
 use lib.ListN.{length, getD, take, drop, length-drop}
-use lib.Dec.{eqb, ltb, leb}
-use borrow.Author.Tests.{le-leb, lt-leb, lt-ltb, le-ltb, eq-eqb, ne-eqb}
+use lib.Dec.{eqb, ltb}
+use borrow.Author.Tests.{lt-ltb, le-ltb}
 use Rattle.paper.specs.declared.Constraint.{Constraint}
 use Rattle.paper.specs.declared.Constraint.the-variants.{Variant, Struct, ConstBool, ConstInt, ConstPrim, Some}
 use Rattle.paper.specs.declared.Item.the-variants.{Is, Equal}
 use Rattle.paper.specs.Sites.{Site}
 use Rattle.paper.specs.Layout as layout
-use Rattle.paper.specs.Layout.{Reads, then-read, give, _&_, refuse, byte, number-from, two-bytes, four-bytes, eight-bytes, bool-byte, site-read, constraint-readers, constraint-read, flags-byte, frame-readers, frame-read, whole, begin-set, a-site, a-rule, an-item, end-set}
+use Rattle.paper.specs.Layout.{Reads, then-read, give, _&_, refuse, byte, number-from, bool-byte, site-read, constraint-readers, constraint-read, flags-byte, frame-readers, frame-read, whole, begin-set, a-site, a-rule, an-item, end-set}
 use Rattle.sheet_frames.specs.declared.Frame.{Frame}
 use Rattle.sheet_frames.specs.declared.Frame.the-variants as said
 use Rattle.sheet_frames.specs.declared.layout.Shape.{Shape}

@@ -1,14 +1,11 @@
 -- What the needs of the layout's code ask, over plain variables.
-use mathlib.Core.Path.{_≡_, refl, sym, ap, _∙_}
-use mathlib.Core.Bool.{Bool, true, false, _&&_}
+use mathlib.Core.Path.{_≡_, refl, ap, _∙_}
+use mathlib.Core.Bool.{_&&_}
 use mathlib.Core.List.{List, [], _∷_, _++_}
-use Prim.Native.Nat.{ℕ, zero, suc, _+_, _-_, _*_, _≤_, _<_}
+use Prim.Native.Nat.{ℕ, suc, _+_, _-_, _*_, _≤_, _<_}
 use native.Mathlib.Omega.{arith}
-use lib.ListN.{length, getD, take, drop, set, length-take}
-use lib.Dec.{eqb, ltb, leb}
-use borrow.Author.Tests.{le-leb, lt-leb, lt-ltb, le-ltb, eq-eqb, ne-eqb, ltb-true}
+use lib.ListN.{getD}
 use Rattle.sheet_frames.specs.Said.{number-at}
-use native.Mathlib.Numerals.{add-one}
 
 -- ---- numbers
 pub two-law : (s : List ℕ) (at r : ℕ) → r ≡ getD s at 0 * 256 + getD s (at + 1) 0 → r ≡ number-at s 0 2 at

@@ -1,6 +1,6 @@
 // The layout of frames: the length is tested first, then the fields are read where they lie.
 ghost use mathlib.Core.Path.{_≡_};
-ghost use Prim.Native.Nat.{ℕ, _+_, _≤_, _<_};
+ghost use Prim.Native.Nat.{_+_, _≤_, _<_};
 ghost use lib.ListN.{length, getD};
 ghost use Rattle.sheet_frames.specs.Said.{number-at, shape-in, frame-in};
 use crate::Frame;

@@ -1,17 +1,17 @@
 -- A body in bytes and the site that it is: what the readers cite.
 use mathlib.Core.Path.{_≡_, refl, sym, ap, _∙_}
-use mathlib.Core.Bool.{Bool, true, false, _&&_, not}
+use mathlib.Core.Bool.{true, false, _&&_}
 use mathlib.Core.Option.{Option, none, some}
 use mathlib.Core.List.{List, [], _∷_, _++_}
 use Prim.Native.Nat.{ℕ, zero, suc, _+_, _-_, _*_, _/_, _%_, _≤_, _<_}
 use native.Mathlib.Omega.{arith}
-use lib.ListN.{length, getD, getElem?, take, drop}
-use lib.Dec.{eqb, ltb, leb}
-use borrow.Author.Tests.{lt-ltb, le-ltb, le-leb, lt-leb, eq-eqb, ne-eqb, not-true, not-false}
-use Rattle.paper.specs.Words.{if_then_else_, or-else, two, four, eight}
-use Rattle.paper.specs.Numbers.{max-sources, max-term, done, refused, Outcome, demand}
+use lib.ListN.{length, getD, getElem?, drop}
+use lib.Dec.{eqb}
+use borrow.Author.Tests.{le-leb, lt-leb, ne-eqb}
+use Rattle.paper.specs.Words.{if_then_else_, or-else, two}
+use Rattle.paper.specs.Numbers.{max-sources, max-term}
 use Rattle.paper.specs.Layout.{whole, site-read}
-use Rattle.paper.specs.Sites.{Site, constBool, constInt, constPrim, argument, extractor, constructor, iterator, makeVariant, matchVariant, makeStruct, extractStruct, makeSome, matchSome, matchTuple, body, body-by, sources, term-of, parent, missing-source, term-fits}
+use Rattle.paper.specs.Sites.{Site, constBool, constInt, constPrim, argument, extractor, constructor, iterator, makeVariant, matchVariant, makeStruct, extractStruct, makeSome, matchSome, matchTuple, body, body-by, sources, term-of, parent, term-fits}
 use Rattle.paper.proofs.Laws.{read-body}
 use Rattle.paper.specs.declared.Found.{Found}
 use Rattle.paper.specs.declared.Found.the-variants.{At, Nothing}
@@ -19,7 +19,7 @@ use Rattle.paper.specs.declared.Refusal.the-variants.{Layout, Unknown, TooManyS
 use Rattle.site_body.specs.declared.Link.{Link}
 use Rattle.site_body.specs.declared.Link.the-variants as link
 use Rattle.paper.specs.declared.Verdict.the-variants as verdict
-use Rattle.site_body.specs.Body.{admits, admits-body, count-by, found-as, is-body, is-there, kind, link-of, many-of, missing, no-site, off-of, offs, site-of, tail-of, tails, verdict-as, ways, words}
+use Rattle.site_body.specs.Body.{admits, admits-body, found-as, is-body, is-there, kind, link-of, many-of, missing, no-site, off-of, site-of, verdict-as, words}
 use Rattle.site_body.proofs.Tables.{Laid, laid}
 use Rattle.site_body.proofs.Back.{Bytes, back}
 use Rattle.site_body.proofs.Turns.{words-cons}
@@ -59,11 +59,6 @@ pub body-there : (s : Site) → is-body (body s) ≡ true
 unfolding is-body is-there
 body-there s = rw (read-body s)
 
--- the size of a body of the kind k
-pub size-at : (b : List ℕ) → Laid (site-of b) b → (k : ℕ) → getD b 0 0 ≡ k → length b ≡ getD offs k 0 + 2 * count-by (getD ways k 0) (getD b (getD offs k 0 - 1) 0) + getD tails k 0
-unfolding off-of many-of tail-of
-size-at b l k e = rw (← e) (l .size)
-
 -- ---- readers
 module _ (b : List ℕ) (e : is-body b ≡ false) where
   pub kind-none : 6 ≡ kind (site-of b)
@@ -91,9 +86,6 @@ module _ (b : List ℕ) (e : is-body b ≡ false) where
   unfolding link-of
   link-none = rw (site-none b e)
 
-word-of : ℕ → List ℕ → ℕ
-word-of at b = getD b at 0 * 256 + getD b (at + 1) 0
-
 -- the source j of k
 words-at : (k : ℕ) (b : List ℕ) (at j : ℕ) → at + 2 * k ≤ length b → j < k → getElem? (words k (drop at b)) j ≡ some (getD b (at + 2 * j) 0 * 256 + getD b (at + 2 * j + 1) 0)
 words-at zero b at j h l = absurd (omega arith)
@@ -106,9 +98,6 @@ past-none (x ∷ l) zero h = absurd (omega arith)
 past-none (x ∷ l) (suc j) h = past-none l j (omega arith)
 
 module _ (b : List ℕ) (f : Bytes b) (e : is-body b ≡ true) where
-  pub sized : (0 < length b) × (getD b 0 0 < 14) × (off-of b ≤ length b)
-  sized = let l = laid-in b f e in (l .some, l .low, omega (arith, l .size))
-
   pub kind-some : getD b 0 0 ≡ kind (site-of b)
   kind-some = laid-in b f e .kind-is
 
@@ -117,9 +106,6 @@ module _ (b : List ℕ) (f : Bytes b) (e : is-body b ≡ true) where
 
   pub source-over : (n j : ℕ) → n ≡ many-of b → n ≤ j → Found.Nothing ≡ found-as (getElem? (sources (site-of b)) j)
   source-over n j q h = let l = laid-in b f e in let m = l .many in sym (ap found-as (past-none (sources (site-of b)) j (omega arith)))
-
-  pub source-fits : (n j o : ℕ) → n ≡ many-of b → j < n → o ≡ off-of b → o + 2 * j + 2 ≤ length b
-  source-fits n j o q h p = let l = laid-in b f e in omega (arith, l .size)
 
   pub source-some : (n j o r : ℕ) → n ≡ many-of b → j < n → o ≡ off-of b → r ≡ getD b (o + 2 * j) 0 * 256 + getD b (o + 2 * j + 1) 0 → Found.At r ≡ found-as (getElem? (sources (site-of b)) j)
   source-some n j o r q h p w =
@@ -171,9 +157,6 @@ link-is (matchSome s) = let e : s ≡ s / 256 * 256 + s % 256 = omega arith in c
 link-is (matchTuple s f) = refl
 
 module _ (b : List ℕ) (f : Bytes b) (e : is-body b ≡ true) where
-  pub long-at : (k : ℕ) → getD b 0 0 ≡ k → getD offs k 0 + 2 * count-by (getD ways k 0) (getD b (getD offs k 0 - 1) 0) + getD tails k 0 ≤ length b
-  long-at k q = let w = size-at b (laid-in b f e) k q in omega arith
-
   term-here : (k : ℕ) → getD b 0 0 ≡ k → term-of (site-of b) ≡ term-at k b
   term-here k q = let l = laid-in b f e in term-is (site-of b) ∙ rw (← l .kind-is, l .is, q)
 

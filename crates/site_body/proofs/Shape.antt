@@ -8,9 +8,9 @@ use native.Mathlib.Omega.{arith}
 use lib.ListN.{length, getD, drop, length-drop, List·getD-eq-default}
 use lib.Seq.{getD-drop, drop-drop}
 use lib.Dec.{eqb, ltb, leb}
-use borrow.Author.Tests.{lt-ltb, le-ltb, le-leb, lt-leb, eq-eqb, ne-eqb, eqb-true, eqb-false}
+use borrow.Author.Tests.{le-leb, lt-leb, eq-eqb, ne-eqb, eqb-true, eqb-false}
 use Rattle.paper.specs.Sites.{Site, constBool, constInt, constPrim, argument, extractor, constructor, iterator, makeVariant, matchVariant, makeStruct, extractStruct, makeSome, matchSome, matchTuple}
-use Rattle.paper.specs.Layout.{Reads, then-read, give, _&_, refuse, byte, number-from, two-bytes, four-bytes, eight-bytes, bool-byte, sites-read, source-list, site-readers, site-read, whole}
+use Rattle.paper.specs.Layout.{Reads, then-read, give, _&_, refuse, byte, number-from, two-bytes, bool-byte, sites-read, source-list, site-readers, site-read, whole}
 use Rattle.site_body.specs.Body.{offs, ways, tails, count-by, off-of, many-of, tail-of, is-there, is-body}
 
 -- ---- a reader that takes k bytes exactly

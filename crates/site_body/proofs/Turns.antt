@@ -1,21 +1,18 @@
 -- What the needs ask, over plain variables.
 use mathlib.Core.Path.{_≡_, refl, sym, ap, _∙_}
-use mathlib.Core.Bool.{Bool, true, false, _&&_, not}
-use mathlib.Core.Option.{Option, none, some}
+use mathlib.Core.Bool.{true, false, _&&_, not}
+use mathlib.Core.Option.{none, some}
 use mathlib.Core.List.{List, [], _∷_, _++_}
 use Prim.Native.Nat.{ℕ, zero, suc, _+_, _-_, _*_, _≤_, _<_}
-use native.Mathlib.Numerals.{add-one}
 use native.Mathlib.Omega.{arith}
-use lib.ListN.{length, getD, take, drop, List·getD-eq-default}
+use lib.ListN.{length, getD, drop, List·getD-eq-default}
 use lib.Seq.{drop-cons}
-use lib.Dec.{T, eqb, ltb, leb, ltb→lt}
-use borrow.Author.Tests.{lt-ltb, le-ltb, le-leb, lt-leb, eq-eqb, ne-eqb, eqb-true, eqb-false}
+use lib.Dec.{ltb}
+use borrow.Author.Tests.{lt-ltb, le-ltb}
 use Rattle.paper.specs.Words.{first}
 use Rattle.paper.proofs.Laws.{first-here, first-next}
-use Rattle.site_body.specs.Body.{count-by, found-as, is-body, many-of, missing, off-of, offs, tail-of, tails, ways, words}
+use Rattle.site_body.specs.Body.{count-by, is-body, many-of, missing, off-of, offs, tail-of, tails, ways, words}
 use Rattle.site_body.proofs.Shape.{is-past, is-wrong, is-bool, is-right}
-use Rattle.paper.specs.declared.Found.{Found}
-use Rattle.paper.specs.declared.Found.the-variants.{At, Nothing}
 
 -- ---- the tables
 

@@ -2,9 +2,9 @@
 // passing over slots, so that goes by eight.
 ghost use mathlib.Core.Path.{_≡_};
 ghost use Prim.Native.Nat.{ℕ, _+_, _-_, _*_, _≤_, _<_};
-ghost use lib.ListN.{length, getD};
+ghost use lib.ListN.{length};
 ghost use mathlib.Core.List.{_∷_};
-ghost use Rattle.site_slots.specs.Seeking.{slot, quad, four-at, Held, Finds, Same, Tells, Skips, Passed, Reach, Onward, Seeks};
+ghost use Rattle.site_slots.specs.Seeking.{slot, quad, four-at, Finds, Same, Tells, Skips, Passed, Reach, Onward, Seeks};
 use widths::half8;
 use widths::size16;
 

@@ -1,16 +1,15 @@
 -- "Two sites unfold alike exactly when they are one site."
 use mathlib.Core.Path.{_≡_, refl, sym, ap, _∙_}
-use mathlib.Core.Option.{Option, none, some}
-use mathlib.Core.List.{List, [], _∷_, _++_, map, append-assoc, append-nil, List·Memᴰ, List·Memᴰ·head, List·Memᴰ·tail}
+use mathlib.Core.Option.{some}
+use mathlib.Core.List.{List, [], _∷_, _++_, map, append-assoc, List·Memᴰ, List·Memᴰ·head, List·Memᴰ·tail}
 use Prim.Native.Nat.{ℕ, zero, suc, _+_, _-_, _*_, _<_, _≤_}
 use native.Mathlib.Omega.{arith}
 use lib.ListN.{length, getD, getElem?}
-use lib.Seq.{getD-append-add}
 use lib.ListN.{List·getD-append}
 use Rattle.paper.specs.Words.{two, joined}
-use Rattle.paper.specs.Sites.{Site, argument, body, body-by, sources, Sites, site-at, Sound, lower-only, unfolded, same-site}
+use Rattle.paper.specs.Sites.{Site, body, body-by, sources, Sites, site-at, Sound, lower-only, unfolded, same-site}
 use Rattle.paper.proofs.Laws.{same-site-true, same-list-refl, lower-true, unfolded-is}
-use Rattle.site_body.specs.Body.{count-by, kind, offs, tails, ways}
+use Rattle.site_body.specs.Body.{kind, offs, tails}
 use Rattle.site_body.proofs.Tables.{head, tail, split, row}
 
 append-inj : (p q x y : List ℕ) → length p ≡ length q → p ++ x ≡ q ++ y → (p ≡ q) × (x ≡ y)

@@ -7,7 +7,7 @@ use mathlib.Core.Logic.{⊎-elim}
 use Prim.Native.Nat.{ℕ, zero, suc, _+_, _-_, _*_, _≤_, _<_}
 use native.Mathlib.Nat.{eq-or-lt-of-le}
 use native.Mathlib.Omega.{arith}
-use lib.ListN.{length, getD, take, drop, length-append}
+use lib.ListN.{length, getD, take, drop}
 use Rattle.paper.specs.Words.{below}
 use Rattle.paper.specs.Sites.{Site, Sites, body, number-of, same-site}
 use Rattle.paper.proofs.Laws.{same-site-true, same-site-refl, number-here, number-there, number-front, number-on}

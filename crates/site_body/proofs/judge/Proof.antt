@@ -3,7 +3,7 @@ use Prim.Native.Nat.{ℕ, _+_, _-_, _*_, _≤_, _<_}
 use native.Mathlib.Omega.{arith}
 use borrow.Author.Tests.{not-true, not-false}
 use denote.Ref.{now}
-use Rattle.site_body.proofs.Bodies.{judge-none, judge-fits, judge-unknown, judge-sources, judge-no-term, judge-high, judge-term, sized}
+use Rattle.site_body.proofs.Bodies.{judge-none, judge-fits, judge-unknown, judge-sources, judge-no-term, judge-high, judge-term}
 use borrow.Author.Needs.{needs}
 use Rattle.site_body.proofs.judge.Statement.{statement}
 use Rattle.site_body.proofs.judge.Tie as tie

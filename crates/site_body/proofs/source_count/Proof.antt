@@ -3,7 +3,7 @@ use Prim.Native.Nat.{ℕ, _+_, _-_, _*_, _≤_, _<_}
 use native.Mathlib.Omega.{arith}
 use borrow.Author.Tests.{not-true, not-false}
 use denote.Ref.{now}
-use Rattle.site_body.proofs.Bodies.{count-none, count-some, sized}
+use Rattle.site_body.proofs.Bodies.{count-none, count-some}
 use borrow.Author.Needs.{needs}
 use Rattle.site_body.proofs.source_count.Statement.{statement}
 use Rattle.site_body.proofs.source_count.Tie as tie
