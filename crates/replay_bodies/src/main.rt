@@ -3,8 +3,14 @@ ghost use Prim.Native.Nat.{_<_};
 use libc::STDIN_FILENO;
 use libc::STDOUT_FILENO;
 use paper::Refusal;
+use paper::SITES;
+use paper::UNFOLDING;
 use sites::Numbered;
+use sites::SLOT;
 use sites::Unfolded;
+
+// A full set.
+const MEMORY: usize = SITES * SLOT;
 
 // How many sites there are, and how many digits the line has so far.
 struct State {
@@ -136,8 +142,8 @@ fn feed(m: &mut [u8], room: &mut [u8], text: &mut [u8], s: State, c: u8) -> Stat
 fn main() {
     let mut input = io::buffer();
     let got = io::read_full(STDIN_FILENO, &mut input);
-    let mut m = [0u8; 32768];
-    let mut room = [0u8; 4096];
+    let mut m = [0u8; MEMORY];
+    let mut room = [0u8; UNFOLDING];
     let mut text = [0u8; 64];
     let mut s = State {
         count: 0,

@@ -1,6 +1,1 @@
 pub mod Tail
-pub mod WordLaws
-pub mod NextLaws
-pub mod ScanLaws
-pub mod GrowLaws
-pub mod AnswerLaws

@@ -1,7 +1,7 @@
 -- A set's table on its way through one rule: the sites in lent memory, then the children that the rule adds, each as one word of a tail.
 use mathlib.Core.Path.{_≡_}
-use mathlib.Core.Bool.{Bool, true, false, _&&_}
-use mathlib.Core.Option.{Option, none, some}
+use mathlib.Core.Bool.{_&&_}
+use mathlib.Core.Option.{none, some}
 use mathlib.Core.List.{List, [], _∷_, _++_, map}
 use Prim.Native.Nat.{ℕ, zero, suc, _+_, _-_, _*_, _/_, _%_, _<_, _≤_, min}
 use lib.ListN.{length, getD, drop, set}
@@ -12,11 +12,11 @@ use Rattle.paper.specs.declared.Refusal.{Refusal}
 use Rattle.paper.specs.declared.Refusal.the-variants.{TooManySites, TooManyFields}
 use Rattle.paper.specs.Words.{if_then_else_, or-else, below}
 use Rattle.paper.specs.Numbers.{max-sites, max-fields, Outcome, done, refused, _>>=_, demand}
-use Rattle.paper.specs.Sites.{Site, constBool, constInt, constPrim, argument, extractor, constructor, iterator, makeVariant, matchVariant, makeStruct, extractStruct, makeSome, matchSome, matchTuple, body, Sites, child-count, child, children, number-of, add-all}
+use Rattle.paper.specs.Sites.{Site, constBool, constInt, constPrim, argument, extractor, constructor, iterator, makeVariant, matchVariant, makeStruct, extractStruct, makeSome, matchSome, matchTuple, body, Sites, child-count, child, children, number-of, child-number, add-all}
 use Rattle.site_slots.specs.Seeking.{four-at}
 use Rattle.sites.specs.Slots.{slot, site-in, sites-in, no-site}
-use Rattle.sites.specs.declared.Children.{Children}
-use Rattle.sites.specs.declared.Given.the-variants as given
+use Rattle.rule_children.specs.declared.Children.{Children}
+use Rattle.rule_children.specs.declared.Given.the-variants as given
 use Rattle.rule_children.specs.declared.Seen.{Seen}
 use Rattle.rule_children.specs.declared.Wanted.{Wanted}
 
@@ -75,6 +75,14 @@ after-grown n tail k (refused r) = tail
 abbrev pub holds : List ℕ → ℕ → List ℕ → Outcome Sites → Type 0
 holds m n tail (done t) = table m n tail (length t - n) ≡ t
 holds m n tail (refused r) = Unit {0}
+
+-- the answer: the count of sites afterwards, and the children's numbers by field
+abbrev pub children-as : ℕ → Constraint → Outcome Sites → Children
+children-as s c (done t) = record {
+  outcome = given.To (length t);
+  numbers = below max-fields (λ i. if ltb i (child-count c) then child-number t s c i else 0);
+}
+children-as s c (refused r) = record { outcome = given.Refused r; numbers = below max-fields (λ i. 0) }
 
 -- a refusal as the answer
 abbrev pub refused-as : Refusal → Children

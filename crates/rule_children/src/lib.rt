@@ -8,18 +8,31 @@ ghost use lib.Seq.{sets};
 ghost use Rattle.paper.specs.Words.{any, or-else};
 ghost use Rattle.paper.specs.Numbers.{max-sites, max-fields};
 ghost use Rattle.paper.specs.Sites.{parent, child, children, child-count, same-site, matchVariant, extractStruct, matchSome};
-ghost use Rattle.sites.specs.Slots.{site-in, children-as};
-ghost use Rattle.rule_children.specs.Tail.{word-of, refused-as, site-of-word, Spelt, site-there, table, grown, after-grown, holds, Field, begins, Wants, SeeksWord, Onward, Notes, Sees, news, Ready, Growing, Placed};
+ghost use Rattle.sites.specs.Slots.{site-in};
+ghost use Rattle.rule_children.specs.Tail.{word-of, children-as, refused-as, site-of-word, Spelt, site-there, table, grown, after-grown, holds, Field, begins, Wants, SeeksWord, Onward, Notes, Sees, news, Ready, Growing, Placed};
 use paper::Constraint;
 use paper::FIELDS;
 use paper::Refusal;
 use paper::SITES;
-use sites::Children;
-use sites::Given;
-use sites::Link;
+use site_body::Link;
+use widths::size16;
+use widths::word8;
+use widths::word16;
 
 // No site: a number that no site has.
 const NONE: u16 = 65535;
+
+// The count of sites after the children were added.
+pub enum Given {
+    To(u16),
+    Refused(Refusal),
+}
+
+// And the children's numbers by field, 0 past them.
+pub struct Children {
+    pub outcome: Given,
+    pub numbers: [u16; FIELDS],
+}
 
 // What the children of a site under a constraint have in common: the four bytes with which their slots begin, the word of the first, how many there are.
 pub struct Wanted {
@@ -34,47 +47,50 @@ pub struct Seen {
     pub missing: usize,
 }
 
-fn wide(x: u16) -> u64
-    ensures { λ r. ⌜ (r ≡ x) × (r < 65536) ⌝ }
+fn child_count(c: Constraint) -> u8
+    ensures { λ r. ⌜ r ≡ child-count c ⌝ }
 {
-    x as u64
-}
-
-fn wide8(x: u8) -> u64
-    ensures { λ r. ⌜ (r ≡ x) × (r < 256) ⌝ }
-{
-    x as u64
-}
-
-fn size(x: u16) -> usize
-    ensures { λ r. ⌜ (r ≡ x) × (r < 65536) ⌝ }
-{
-    x as usize
+    match c {
+        Constraint::Variant {
+            ty: _,
+            variant: _,
+            fields,
+        } => fields,
+        Constraint::Struct { ty: _, fields } => fields,
+        Constraint::ConstBool { ty: _, val: _ } => 0,
+        Constraint::ConstInt {
+            ty: _,
+            high: _,
+            low: _,
+        } => 0,
+        Constraint::ConstPrim { val: _ } => 0,
+        Constraint::Some => 1,
+    }
 }
 
 // How many children a site has under c.
 pub fn arity(c: Constraint) -> usize
     ensures { λ r. ⌜ (r ≡ child-count c) × (r < 256) ⌝ }
 {
-    sites::child_count(c) as usize
+    child_count(c) as usize
 }
 
 fn variant_word(s: u16, v: u16, f: u8) -> u64
     ensures { λ r. ⌜ Spelt (matchVariant s v f) r ⌝ }
 {
-    8 + 256 * (wide8(f) + 256 * (wide(v) + 65536 * wide(s)))
+    8 + 256 * (word8(f) + 256 * (word16(v) + 65536 * word16(s)))
 }
 
 fn struct_word(s: u16, f: u8) -> u64
     ensures { λ r. ⌜ Spelt (extractStruct s f) r ⌝ }
 {
-    10 + 256 * (wide8(f) + 256 * wide(s))
+    10 + 256 * (word8(f) + 256 * word16(s))
 }
 
 fn some_word(s: u16) -> u64
     ensures { λ r. ⌜ Spelt (matchSome s) r ⌝ }
 {
-    12 + 256 * wide(s)
+    12 + 256 * word16(s)
 }
 
 // Child f of the site s under c as a word: the kind lowest, then the field, the variant and the source, as the kind has them.
@@ -104,7 +120,7 @@ pub fn word_in(m: &[u8], i: u16) -> u64
     ensures { λ r. ⌜ Spelt (site-in (now (m .entry)) i) r ⌝ }
 {
     let b = sites::body(m, i);
-    match sites::link_of(b) {
+    match site_body::link_of(b) {
         Link::Variant {
             source,
             variant,
@@ -157,7 +173,7 @@ pub fn word_of(m: &[u8], n: u16, tail: &[u64], x: u16) -> u64
     if x < n {
         return word_in(m, x);
     }
-    let j = size(x - n);
+    let j = size16(x - n);
     if tail.len() <= j {
         return 0;
     }
@@ -246,7 +262,7 @@ fn seek_word(tail: &[u64], from: u16, to: u16, first: u64, count: usize) -> u16
 {
     let mut j = from;
     while j < to {
-        let y = size(j);
+        let y = size16(j);
         if tail.len() <= y {
             return to;
         }
@@ -306,13 +322,15 @@ fn place(
     of: [u16; FIELDS],
 ) -> [u16; FIELDS]
     requires { ⌜ Ready (table (now m) n (now tail) k) n k s c of (now tail) ⌝ }
-    ensures { λ r. ⌜ (Placed (table (now (m .entry)) n (now (tail .entry)) k) s c (child-count c) r)
-        × (now (tail .exit) ≡ sets (now (tail .entry)) k (map word-of (news (table (now (m .entry)) n (now (tail .entry)) k) s c (child-count c))))
-        × (table (now (m .entry)) n (now (tail .exit)) (k + length (news (table (now (m .entry)) n (now (tail .entry)) k) s c (child-count c))) ≡ table (now (m .entry)) n (now (tail .entry)) k ++ news (table (now (m .entry)) n (now (tail .entry)) k) s c (child-count c)) ⌝ }
+    ensures { λ r. ⌜ (let t = table (now (m .entry)) n (now (tail .entry)) k in
+        let new = news t s c (child-count c) in
+        (Placed t s c (child-count c) r)
+        × (now (tail .exit) ≡ sets (now (tail .entry)) k (map word-of new))
+        × (table (now (m .entry)) n (now (tail .exit)) (k + length new) ≡ t ++ new)) ⌝ }
 {
     let count = arity(c);
     let mut numbers = [0u16; FIELDS];
-    let mut j = size(k);
+    let mut j = size16(k);
     let mut f = 0;
     while f < count {
         let old = of[f];
@@ -340,11 +358,12 @@ fn refuse(r: Refusal) -> Children
 // The same where the numbers are in order: searched, then written if there is room.
 fn grow(m: &[u8], n: u16, tail: &mut [u64], k: u16, at: u32, s: u16, c: Constraint) -> Children
     requires { ⌜ Growing n k s c (now tail) ⌝ }
-    ensures { λ r. ⌜ (r ≡ children-as s c (grown (now (m .entry)) n (now (tail .entry)) k at s c))
-        × (now (tail .exit) ≡ after-grown n (now (tail .entry)) k (grown (now (m .entry)) n (now (tail .entry)) k at s c))
-        × (holds (now (m .entry)) n (now (tail .exit)) (grown (now (m .entry)) n (now (tail .entry)) k at s c)) ⌝ }
+    ensures { λ r. ⌜ (let o = grown (now (m .entry)) n (now (tail .entry)) k at s c in
+        (r ≡ children-as s c o)
+        × (now (tail .exit) ≡ after-grown n (now (tail .entry)) k o)
+        × (holds (now (m .entry)) n (now (tail .exit)) o)) ⌝ }
 {
-    let total = size(n) + size(k);
+    let total = size16(n) + size16(k);
     let seen = scan(m, n, tail, k, s, c);
     let room = left_of(total);
     let missing = seen.missing;
@@ -372,11 +391,12 @@ pub fn add_children(
     s: u16,
     c: Constraint,
 ) -> Children
-    ensures { λ r. ⌜ (r ≡ children-as s c (grown (now (m .entry)) n (now (tail .entry)) k at s c))
-        × (now (tail .exit) ≡ after-grown n (now (tail .entry)) k (grown (now (m .entry)) n (now (tail .entry)) k at s c))
-        × (holds (now (m .entry)) n (now (tail .exit)) (grown (now (m .entry)) n (now (tail .entry)) k at s c)) ⌝ }
+    ensures { λ r. ⌜ (let o = grown (now (m .entry)) n (now (tail .entry)) k at s c in
+        (r ≡ children-as s c o)
+        × (now (tail .exit) ≡ after-grown n (now (tail .entry)) k o)
+        × (holds (now (m .entry)) n (now (tail .exit)) o)) ⌝ }
 {
-    let total = size(n) + size(k);
+    let total = size16(n) + size16(k);
     if tail.len() < needed(k) {
         return refuse(Refusal::TooManySites {
             asked: total as u32,
@@ -402,7 +422,7 @@ pub fn add_children(
             numbers: [0; FIELDS],
         };
     }
-    if total <= size(s) {
+    if total <= size16(s) {
         return refuse(Refusal::Unknown { site: s });
     }
     grow(m, n, tail, k, at, s, c)
@@ -412,7 +432,7 @@ pub fn add_children(
 fn needed(k: u16) -> usize
     ensures { λ r. ⌜ r ≡ min max-sites (k + max-fields) ⌝ }
 {
-    let room = size(k) + FIELDS;
+    let room = size16(k) + FIELDS;
     if SITES < room {
         return SITES;
     }

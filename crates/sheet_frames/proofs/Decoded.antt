@@ -6,11 +6,11 @@ use mathlib.Core.List.{List, [], _∷_, _++_, append-assoc, append-nil}
 use Prim.Native.Nat.{ℕ, zero, suc, _+_, _-_, _*_, _/_, _%_, _≤_, _<_}
 use native.Mathlib.Omega.{arith}
 use native.Mathlib.Numerals.{add-one}
-use lib.ListN.{length, getD, take, drop, set, replicate, length-set, length-take, length-drop, length-replicate, take-append-drop}
+use lib.ListN.{length, getD, take, drop, set, replicate, length-set, length-take, length-replicate, take-append-drop}
 use lib.Seq.{drop-cons, drop-drop}
-use lib.Dec.{ltb, leb}
+use lib.Dec.{ltb}
 use borrow.Author.Tests.{lt-ltb, le-ltb, le-leb, lt-leb, ltb-true}
-use Rattle.paper.specs.Words.{if_then_else_, or-else}
+use Rattle.paper.specs.Words.{if_then_else_}
 use Rattle.paper.specs.Numbers.{max-digits}
 use Rattle.paper.specs.Layout.{digit, with-byte, bytes, line-bytes}
 use Rattle.sheet_frames.specs.declared.Bytes.{Bytes}

@@ -6,19 +6,20 @@ use mathlib.Core.List.{List, [], _∷_, _++_}
 use Prim.Native.Nat.{ℕ, zero, suc, _+_, _-_, _*_, _≤_, _<_}
 use native.Mathlib.Omega.{arith}
 use lib.ListN.{length, getD, take, drop, length-drop}
-use lib.Dec.{eqb, ltb, leb}
-use borrow.Author.Tests.{le-leb, lt-leb, lt-ltb, le-ltb, eq-eqb, ne-eqb}
+use lib.Dec.{eqb, ltb}
+use borrow.Author.Tests.{lt-ltb, le-ltb}
 use Rattle.paper.specs.declared.Constraint.{Constraint}
 use Rattle.paper.specs.declared.Constraint.the-variants.{Variant, Struct, ConstBool, ConstInt, ConstPrim, Some}
 use Rattle.paper.specs.declared.Item.the-variants.{Is, Equal}
 use Rattle.paper.specs.Sites.{Site}
 use Rattle.paper.specs.Layout as layout
-use Rattle.paper.specs.Layout.{Reads, then-read, give, _&_, refuse, byte, number-from, two-bytes, four-bytes, eight-bytes, bool-byte, site-read, constraint-readers, constraint-read, flags-byte, frame-readers, frame-read, whole, begin-set, a-site, a-rule, an-item, end-set}
+use Rattle.paper.specs.Layout.{Reads, then-read, give, _&_, refuse, byte, number-from, bool-byte, site-read, constraint-readers, constraint-read, flags-byte, frame-readers, frame-read, whole, begin-set, a-site, a-rule, an-item, end-set}
 use Rattle.sheet_frames.specs.declared.Frame.{Frame}
 use Rattle.sheet_frames.specs.declared.Frame.the-variants as said
 use Rattle.sheet_frames.specs.declared.layout.Shape.{Shape}
 use Rattle.sheet_frames.specs.declared.layout.Shape.the-variants.{Are, NoShape}
-use Rattle.sheet_frames.specs.Said.{code, is-there, shape-code, number-at, site-there, shape-in, frame-in}
+use Rattle.sheet_frames.specs.Said.{code, shape-code, number-at, shape-in, frame-in}
+use Rattle.site_body.specs.Body.{is-there, is-body}
 
 -- ---- what is read has k bytes
 abbrev Taken : {A : Type 0} → ℕ → List ℕ → Option (A × List ℕ) → Type 0
@@ -258,8 +259,8 @@ there-frame none = refl
 there-frame (some (a, [])) = refl
 there-frame (some (a, b ∷ t)) = refl
 
-pub frame-site : (s : List ℕ) (t : Bool) → 0 < length s → getD s 0 0 ≡ 2 → t ≡ site-there (drop 1 s) → frame-in s ≡ elim t as (λ _. Frame) [ true ↦ said.Site | false ↦ said.Wrong ]
-unfolding frame-in frame-read frame-readers site-there
+pub frame-site : (s : List ℕ) (t : Bool) → 0 < length s → getD s 0 0 ≡ 2 → t ≡ is-body (drop 1 s) → frame-in s ≡ elim t as (λ _. Frame) [ true ↦ said.Site | false ↦ said.Wrong ]
+unfolding frame-in frame-read frame-readers is-body
 frame-site [] t h k e = absurd (omega arith)
 frame-site (b ∷ s) t h k e = rw (k, e) (there-frame (site-read s))
 
@@ -324,8 +325,8 @@ take-all (x ∷ t) (suc m) h = ap (λ u. x ∷ u) (take-all t m (omega arith))
 pub rest-of : (s : List ℕ) (n : ℕ) → take (length s - n) (drop n s) ≡ drop n s
 rest-of s n = take-all (drop n s) (length s - n) (let e = length-drop n s in omega arith)
 
-pub site-there-is : (s : List ℕ) (r t : Bool) → 0 < length s → getD s 0 0 ≡ 2 → r ≡ site-there (take (length s - 1) (drop 1 s)) → r ≡ t → frame-in s ≡ elim t as (λ _. Frame) [ true ↦ said.Site | false ↦ said.Wrong ]
-site-there-is s r t h k f e = frame-site s t h k (sym e ∙ (f ∙ ap site-there (rest-of s 1)))
+pub site-body-is : (s : List ℕ) (r t : Bool) → 0 < length s → getD s 0 0 ≡ 2 → r ≡ is-body (take (length s - 1) (drop 1 s)) → r ≡ t → frame-in s ≡ elim t as (λ _. Frame) [ true ↦ said.Site | false ↦ said.Wrong ]
+site-body-is s r t h k f e = frame-site s t h k (sym e ∙ (f ∙ ap is-body (rest-of s 1)))
 
 pub item-is : (s : List ℕ) (r t : Shape) → 3 ≤ length s → getD s 0 0 ≡ 4 → r ≡ shape-in (take (length s - 3) (drop 3 s)) → r ≡ t → frame-in s ≡ elim t [ Are c ↦ said.Item (Is (number-at s 0 2 1) c) | NoShape ↦ said.Wrong ]
 item-is s r t h k f e = frame-is s t h k (sym e ∙ (f ∙ ap shape-in (rest-of s 3)))

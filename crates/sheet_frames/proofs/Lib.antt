@@ -1,6 +1,6 @@
 pub mod Decoded
-pub mod Bodies
 pub mod Frames
 pub mod Turns
 pub mod Whole
 pub mod Values
+pub mod Back

@@ -1,6 +1,6 @@
 -- What the code says of a line: the paper's bytes and the paper's frame.
 use mathlib.Core.Path.{_≡_}
-use mathlib.Core.Bool.{Bool, true, false, _&&_}
+use mathlib.Core.Bool.{true, false, _&&_}
 use mathlib.Core.Option.{Option, none, some}
 use mathlib.Core.List.{List, [], _∷_, _++_}
 use Prim.Native.Nat.{ℕ, zero, suc, _+_, _-_, _*_, _/_, _≤_}
@@ -10,8 +10,7 @@ use Rattle.paper.specs.declared.Constraint.{Constraint}
 use Rattle.paper.specs.Words.{if_then_else_, or-else}
 use Rattle.paper.specs.Numbers.{max-digits}
 use Rattle.paper.specs.Layout as paper
-use Rattle.paper.specs.Layout.{digit, line-bytes, whole, site-read, constraint-read, frame-read, frame-of, begin-set, a-site, a-rule, an-item, end-set}
-use Rattle.paper.specs.Sites.{Site}
+use Rattle.paper.specs.Layout.{digit, line-bytes, whole, constraint-read, frame-read, frame-of, begin-set, a-site, a-rule, an-item, end-set}
 use Rattle.sheet_frames.specs.declared.Bytes.{Bytes}
 use Rattle.sheet_frames.specs.declared.digits.Taken.{Taken}
 use Rattle.sheet_frames.specs.declared.Read.{Read}
@@ -61,14 +60,7 @@ reading-of l =
     let b = or-else (line-bytes l) [] in
     record { frame = code (frame-of l); length = length b; bytes = padded b }
 
--- ---- bytes: the body of a site, a constraint, a frame
-
-unfoldable pub is-there : Option Site → Bool
-is-there none = false
-is-there (some s) = true
-
-unfoldable pub site-there : List ℕ → Bool
-site-there s = is-there (whole (site-read s))
+-- ---- bytes: a constraint, a frame
 
 unfoldable pub shape-code : Option Constraint → Shape
 shape-code none = NoShape

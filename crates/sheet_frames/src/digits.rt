@@ -3,7 +3,7 @@ ghost use mathlib.Core.Path.{_≡_};
 ghost use mathlib.Core.Option.{none};
 ghost use Prim.Native.Nat.{_+_, _*_, _≤_, _<_};
 ghost use mathlib.Core.Bool.{false};
-ghost use lib.ListN.{length, getD, replicate};
+ghost use lib.ListN.{length, replicate};
 ghost use Rattle.paper.specs.Layout.{digit, line-bytes};
 ghost use Rattle.sheet_frames.specs.Said.{max-bytes, values-said, bytes-said, pair-value, Takes};
 use crate::BYTES;

@@ -1,11 +1,14 @@
 // The layout of frames: the length is tested first, then the fields are read where they lie.
 ghost use mathlib.Core.Path.{_≡_};
-ghost use Prim.Native.Nat.{ℕ, _+_, _≤_, _<_};
+ghost use Prim.Native.Nat.{_+_, _≤_, _<_};
 ghost use lib.ListN.{length, getD};
-ghost use Rattle.sheet_frames.specs.Said.{number-at, site-there, shape-in, frame-in};
+ghost use Rattle.sheet_frames.specs.Said.{number-at, shape-in, frame-in};
 use crate::Frame;
 use paper::Constraint;
 use paper::Item;
+use site_body::is_body;
+use site_body::word_at;
+use widths::size8;
 
 // A constraint that bytes are, or none.
 pub enum Shape {
@@ -13,33 +16,15 @@ pub enum Shape {
     NoShape,
 }
 
-// The fixed part of a site's body by kind, with the count of its sources.
-const HEADS: [u8; 14] = [4, 19, 3, 2, 5, 8, 3, 6, 6, 4, 4, 3, 3, 4];
-
-// Its sort: 0 of one size, 1 with a list of sources, 2 with a bool.
-const SORTS: [u8; 14] = [2, 0, 0, 0, 0, 1, 0, 1, 0, 1, 0, 0, 0, 0];
-
 // The size of a constraint by kind.
 const SHAPES: [u8; 6] = [6, 4, 4, 19, 3, 1];
-
-fn wide(x: u8) -> u64
-    ensures { λ r. ⌜ (r ≡ x) × (r < 256) ⌝ }
-{
-    x as u64
-}
-
-fn size(x: u8) -> usize
-    ensures { λ r. ⌜ (r ≡ x) × (r < 256) ⌝ }
-{
-    x as usize
-}
 
 // "high byte first"
 fn two_at(s: &[u8], at: usize) -> u16
     requires { ⌜ at + 2 ≤ length (now s) ⌝ }
     ensures { λ r. ⌜ r ≡ number-at (now (s .entry)) 0 2 at ⌝ }
 {
-    (wide(s[at]) * 256 + wide(s[at + 1])) as u16
+    word_at(s, at)
 }
 
 fn four_at(s: &[u8], at: usize) -> u32
@@ -58,34 +43,6 @@ fn eight_at(s: &[u8], at: usize) -> u64
     let a = four_at(s, at);
     let b = four_at(s, at + 4);
     a as u64 * 4294967296 + b as u64
-}
-
-// Is s the body of a site, "kind, body"?
-pub fn site_shaped(s: &[u8]) -> bool
-    ensures { λ r. ⌜ r ≡ site-there (now (s .entry)) ⌝ }
-{
-    if s.len() == 0 {
-        return false;
-    }
-    let k = size(s[0]);
-    if 14 <= k {
-        return false;
-    }
-    let z = size(HEADS[k]);
-    let w = SORTS[k];
-    if w == 0 {
-        return s.len() == z;
-    }
-    if w == 1 {
-        if s.len() < z {
-            return false;
-        }
-        return s.len() == z + 2 * size(s[z - 1]);
-    }
-    if s.len() != 4 {
-        return false;
-    }
-    s[3] < 2
 }
 
 // "Bool one byte 0 or 1"
@@ -122,11 +79,11 @@ pub fn shape_of(s: &[u8]) -> Shape
     if s.len() == 0 {
         return Shape::NoShape;
     }
-    let k = size(s[0]);
+    let k = size8(s[0]);
     if 6 <= k {
         return Shape::NoShape;
     }
-    let z = size(SHAPES[k]);
+    let z = size8(SHAPES[k]);
     if s.len() != z {
         return Shape::NoShape;
     }
@@ -178,7 +135,7 @@ fn site_of(s: &[u8]) -> Frame
     requires { ⌜ (0 < length (now s)) × (getD (now s) 0 0 ≡ 2) ⌝ }
     ensures { λ r. ⌜ r ≡ frame-in (now (s .entry)) ⌝ }
 {
-    if site_shaped(&s[1..]) {
+    if is_body(&s[1..]) {
         return Frame::Site;
     }
     Frame::Wrong

@@ -2,29 +2,19 @@
 // passing over slots, so that goes by eight.
 ghost use mathlib.Core.Path.{_≡_};
 ghost use Prim.Native.Nat.{ℕ, _+_, _-_, _*_, _≤_, _<_};
-ghost use lib.ListN.{length, getD};
+ghost use lib.ListN.{length};
 ghost use mathlib.Core.List.{_∷_};
-ghost use Rattle.site_slots.specs.Seeking.{slot, quad, four-at, Held, Finds, Same, Tells, Skips, Passed, Reach, Onward, Seeks};
+ghost use Rattle.site_slots.specs.Seeking.{slot, quad, four-at, Finds, Same, Tells, Skips, Passed, Reach, Onward, Seeks};
+use widths::half8;
+use widths::size16;
 
 pub const SLOT: usize = 32;
-
-fn wide(x: u8) -> u32
-    ensures { λ r. ⌜ (r ≡ x) × (r < 256) ⌝ }
-{
-    x as u32
-}
-
-fn size(x: u16) -> usize
-    ensures { λ r. ⌜ (r ≡ x) × (r < 65536) ⌝ }
-{
-    x as usize
-}
 
 // Four bytes as one number, as they stand in memory.
 pub fn quad(a: u8, b: u8, c: u8, d: u8) -> u32
     ensures { λ r. ⌜ r ≡ quad a b c d ⌝ }
 {
-    wide(a) + 256 * wide(b) + 65536 * wide(c) + 16777216 * wide(d)
+    half8(a) + 256 * half8(b) + 65536 * half8(c) + 16777216 * half8(d)
 }
 
 // For the machine this is one read.
@@ -104,8 +94,8 @@ pub fn seek(m: &[u8], off: u8, from: u16, to: u16, key: u32) -> u16
     ensures { λ r. ⌜ Seeks (now (m .entry)) off from to key r ⌝ }
 {
     let place = off as usize;
-    let n = reach(m, place, size(to));
-    let mut i = by_eight(m, place, size(from), n, key);
+    let n = reach(m, place, size16(to));
+    let mut i = by_eight(m, place, size16(from), n, key);
     while i < n {
         if four(m, i * SLOT + place) == key {
             return i as u16;
@@ -134,8 +124,8 @@ fn holds(m: &[u8], i: u16, b: &[u8]) -> bool
     requires { ⌜ (i * slot + slot ≤ length (now m)) × (length (now b) < slot) ⌝ }
     ensures { λ r. ⌜ Tells (now (m .entry)) i (now (b .entry)) r ⌝ }
 {
-    let at = size(i) * SLOT;
-    if wide(m[at]) != b.len() as u32 {
+    let at = size16(i) * SLOT;
+    if half8(m[at]) != b.len() as u32 {
         return false;
     }
     same_from(m, at + 1, b)
@@ -146,7 +136,7 @@ fn whole_slots(m: &[u8], count: u16) -> u16
     ensures { λ r. ⌜ (r ≤ count) × (r * slot ≤ length (now (m .entry))) × (r < count → length (now (m .entry)) < r * slot + slot) ⌝ }
 {
     let n = m.len() / SLOT;
-    if n < size(count) {
+    if n < size16(count) {
         return n as u16;
     }
     count

@@ -2,31 +2,29 @@
 use mathlib.Core.Path.{_≡_, refl, sym, ap, _∙_}
 use mathlib.Core.Bool.{Bool, true, false, _&&_, not}
 use mathlib.Core.Option.{Option, none, some}
-use mathlib.Core.List.{List, [], _∷_, _++_, append-assoc, append-nil}
-use Prim.Native.Nat.{ℕ, zero, suc, _+_, _-_, _*_, _≤_, _<_}
+use mathlib.Core.List.{List, [], _∷_, _++_}
+use Prim.Native.Nat.{ℕ, suc, _+_, _-_, _*_, _≤_, _<_}
 use native.Mathlib.Omega.{arith}
-use lib.ListN.{length, getD, getElem?, take, drop, length-append}
+use lib.ListN.{length, drop, length-append}
 use lib.Seq.{drop-at, drop-length}
-use lib.Dec.{eqb, ltb, leb}
+use lib.Dec.{ltb, leb}
 use borrow.Author.Tests.{lt-ltb, le-ltb, le-leb, lt-leb, leb-true}
 use Rattle.paper.specs.declared.Found.{Found}
 use Rattle.paper.specs.declared.Found.the-variants.{At, Nothing}
 use Rattle.paper.specs.declared.Refusal.{Refusal}
-use Rattle.paper.specs.declared.Refusal.the-variants.{Layout, Unknown, TooManySites, TooManySources, TermTooHigh}
+use Rattle.paper.specs.declared.Refusal.the-variants.{Layout, TooManySites, TooManySources}
 use Rattle.paper.specs.Words.{if_then_else_, first}
 use Rattle.paper.specs.Numbers.{max-sites, max-sources, Outcome, done, refused, _>>=_, demand}
 use Rattle.paper.specs.Layout.{whole, site-read}
-use Rattle.paper.specs.Sites.{Site, Sites, iterator, body, sources, term-of, known, number-of, missing-source, term-fits, Added, or-next, add}
+use Rattle.paper.specs.Sites.{Site, Sites, body, sources, term-of, known, number-of, missing-source, term-fits, or-next, add}
 use Rattle.paper.proofs.Laws.{number-some, at-inside, first-here}
-use Rattle.sites.specs.Kinds.{Laid}
-use Rattle.sites.specs.Shape.{is-there, is-body}
-use Rattle.sites.specs.Back.{Bytes}
-use Rattle.sites.specs.declared.Verdict.{Verdict}
-use Rattle.sites.specs.declared.Verdict.the-variants as verdict
-use Rattle.sites.specs.declared.Numbered.{Numbered}
+use Rattle.site_body.specs.Body.{admits, admits-body, found-as, is-body, is-there, missing, site-of, verdict-as}
+use Rattle.site_body.proofs.Back.{Bytes}
+use Rattle.paper.specs.declared.Verdict.{Verdict}
+use Rattle.paper.specs.declared.Verdict.the-variants as verdict
 use Rattle.sites.specs.declared.Numbered.the-variants as numbered
-use Rattle.sites.specs.Slots.{slot, no-site, site-of, sites-in, Findable, found-as, missing, admits, admits-body, verdict-as, held-by, add-body, added-in, numbered-as, put, store, after-add}
-use Rattle.sites.proofs.Bodies.{laid-in, read-some, found-some, found-none}
+use Rattle.sites.specs.Slots.{slot, sites-in, Findable, held-by, add-body, added-in, numbered-as, put, store, after-add}
+use Rattle.site_body.proofs.Bodies.{laid-in, read-some, found-some, found-none}
 use Rattle.sites.proofs.Places.{sites-length}
 
 -- three questions, and then what follows

@@ -4,28 +4,27 @@ use mathlib.Core.Bool.{Bool, true, false}
 use mathlib.Core.Option.{Option, none, some}
 use mathlib.Core.List.{List, [], _∷_, _++_, append-assoc, append-nil, List·Memᴰ, List·Memᴰ·head}
 use mathlib.Core.Logic.{⊎-elim}
-use Prim.Native.Nat.{ℕ, zero, suc, _+_, _-_, _*_, _≤_, _<_}
+use Prim.Native.Nat.{ℕ, suc, _+_, _-_, _*_, _≤_, _<_}
 use native.Mathlib.Nat.{eq-or-lt-of-le}
 use native.Mathlib.Omega.{arith}
 use lib.ListN.{length, getD, take, drop, length-append, length-drop, take-append-drop, List·getD-append}
 use lib.Seq.{length-take-le, take-append-le, drop-append-le, drop-append-add, drop-at, getD-at, take-append-seam, append-snoc}
 use lib.Dec.{ltb, leb}
 use borrow.Author.Tests.{ltb-true, ltb-false, leb-true}
-use Rattle.paper.specs.declared.Constraint.{Constraint}
 use Rattle.paper.specs.declared.Refusal.{Refusal}
-use Rattle.paper.specs.declared.Refusal.the-variants.{Unknown, TooManySites, TooManyFields}
+use Rattle.paper.specs.declared.Refusal.the-variants.{TooManySites}
 use Rattle.paper.specs.Words.{below}
-use Rattle.paper.specs.Numbers.{max-sources, max-fields, Outcome, done, refused, _>>=_, demand}
+use Rattle.paper.specs.Numbers.{max-sources, Outcome, done, refused, _>>=_, demand}
 use Rattle.paper.specs.Layout.{whole, site-read}
-use Rattle.paper.specs.Sites.{Site, Sites, body, sources, child-count, children, Added, add, add-all, Sound, unfolded}
+use Rattle.paper.specs.Sites.{Site, Sites, body, sources, Added, add, Sound, unfolded}
 use Rattle.paper.proofs.Laws.{taken, next-is, There, Fresh, sound-empty, sound-add}
-use Rattle.sites.specs.Kinds.{laid}
-use Rattle.sites.specs.Shape.{is-body}
-use Rattle.sites.specs.Slots.{slot, no-site, site-of, slot-body, site-in, sites-in, held-by, add-body, added-in, put, store, after-add, held-all, children-in, after-all, unfolded-in}
-use Rattle.sites.specs.Held.{slot-is, slot-over}
-use Rattle.sites.proofs.Places.{sites-length}
+use Rattle.site_body.specs.Body.{is-body, no-site, site-of}
+use Rattle.site_body.proofs.Tables.{laid}
+use Rattle.sites.specs.Slots.{slot, slot-body, site-in, sites-in, held-by, add-body, added-in, put, store, after-add, unfolded-in}
+use Rattle.sites.proofs.Held.{slot-is, slot-over}
+use Rattle.sites.proofs.Places.{sites-length, below-same}
 use Rattle.sites.proofs.Put.{length-put}
-use Rattle.sites.proofs.Kids.{site-body, body-there}
+use Rattle.site_body.proofs.Bodies.{site-body, body-there}
 
 -- ---- one slot
 front-part : (p q : List ℕ) (j k : ℕ) → j + k ≤ length p → take k (drop j (p ++ q)) ≡ take k (drop j p)
@@ -115,11 +114,6 @@ pub sound-none : (m : List ℕ) → Sound (sites-in m 0)
 unfolding sites-in below
 sound-none m = sound-empty
 
-below-same : {A : Type 0} (n : ℕ) (f g : ℕ → A) → ((i : ℕ) → i < n → f i ≡ g i) → below n f ≡ below n g
-unfolding below
-below-same zero f g h = refl
-below-same (suc n) f g h = let x = below-same n f g (λ i l. h i (omega arith)) in let y = h n (omega arith) in rw (x, y)
-
 -- the older slots decide the older sites
 pub sites-same : (m m′ : List ℕ) (n : ℕ) → ((i : ℕ) → i < n → slot-body m′ i ≡ slot-body m i) → sites-in m′ n ≡ sites-in m n
 unfolding sites-in site-in
@@ -196,10 +190,6 @@ pub record Grows (t u : Sites) : Type 0 where
   pub is : u ≡ t ++ more
   pub kept : All-storable more
 
-both-storable : (x y : List Site) → All-storable x → All-storable y → All-storable (x ++ y)
-both-storable [] y k l = l
-both-storable (s ∷ x) y k l = (k .0, both-storable x y (k .1) l)
-
 few-fits : (s : Site) → length (sources s) ≤ max-sources → length (body s) < slot
 few-fits s h = let d = laid s in let e = d .many in let f = d .fits (omega arith) in omega arith
 
@@ -223,26 +213,6 @@ bind-done (refused r) f b e = let z : _≡_ {A = ℕ} 0 1 = cc in absurd (omega 
 demand-held : (b : Bool) (r : Refusal) (u : Unit {0}) → demand b r ≡ done u → b ≡ true
 demand-held true r u e = refl
 demand-held false r u e = let z : _≡_ {A = ℕ} 0 1 = cc in absurd (omega arith)
-
-pub add-all-grows : (t : Sites) (at : ℕ) (ss : List Site) (u : Sites) → add-all t at ss ≡ done u → Grows t u
-unfolding add-all
-add-all-grows t at [] u e = let q : t ≡ u = cc in record { more = []; is = sym q ∙ sym (append-nil t); kept = tt }
-add-all-grows t at (s ∷ ss) u e =
-    let d = bind-done (add t at s) (λ a. add-all (a .sites) at ss) u e in
-    let g = add-grows t at s (d .0) (d .1) in
-    let k = add-all-grows (d .0 .sites) at ss u (d .2) in
-    record {
-      more = g .more ++ k .more;
-      is = k .is ∙ ap (λ x. x ++ k .more) (g .is) ∙ append-assoc t (g .more) (k .more);
-      kept = both-storable (g .more) (k .more) (g .kept) (k .kept);
-    }
-
-all-sound : (t : Sites) (at : ℕ) (ss : List Site) (u : Sites) → Sound t → add-all t at ss ≡ done u → Sound u
-unfolding add-all
-all-sound t at [] u o e = let q : t ≡ u = cc in rw q at o
-all-sound t at (s ∷ ss) u o e =
-    let d = bind-done (add t at s) (λ a. add-all (a .sites) at ss) u e in
-    all-sound (d .0 .sites) at ss u (sound-add t at s (d .0) o (d .1)) (d .2)
 
 -- ---- the memory with a longer table
 module _ (m : List ℕ) (n : ℕ) (u : Sites) (g : Grows (sites-in m n) u) (h : length u * slot ≤ length m) where
@@ -273,9 +243,6 @@ module _ (m : List ℕ) (n : ℕ) (u : Sites) (g : Grows (sites-in m n) u) (h : 
 -- ---- adding a body. On a refusal the memory is as it was.
 pub refused-add : (m : List ℕ) (n : ℕ) (r : Refusal) → after-add m n (refused r) ≡ m
 refused-add m n r = refl
-
-pub refused-all : (m : List ℕ) (n : ℕ) (r : Refusal) → after-all m n (refused r) ≡ m
-refused-all m n r = refl
 
 module _ (m : List ℕ) (n at : ℕ) where
   body-added : (o : Option Site) (a : Added) → add-body m n at o ≡ done a → (s : Site) × (add (sites-in m n) at s ≡ done a) × (length (a .sites) * slot ≤ length m)
@@ -310,37 +277,6 @@ module _ (m : List ℕ) (n at : ℕ) (b : List ℕ) (a : Added) (e : added-in m 
   pub after-add-sound : Sound (sites-in m n) → Sound (sites-in (after-add m n (added-in m n at b)) (length (a .sites)))
   after-add-sound k = rw after-add-is (sound-add (sites-in m n) at (added .0) a k (added .1))
 
--- ---- children
-module _ (m : List ℕ) (n at s : ℕ) (c : Constraint) (t : Sites) (e : children-in m n at s c ≡ done t) where
-  all-added : (add-all (sites-in m n) at (children s c) ≡ done t) × (length t * slot ≤ length m)
-  unfolding children-in
-  all-added =
-      let x = bind-done (demand (ltb s n) (Unknown s)) _ t e in
-      let y = bind-done (demand (leb (child-count c) max-fields) (TooManyFields (child-count c) at)) _ t (x .2) in
-      let d = bind-done (add-all (sites-in m n) at (children s c)) (held-all m at) t (y .2) in
-      let r : Refusal = TooManySites (length (d .0)) at in
-      let f = bind-done (demand (leb (length (d .0) * slot) (length m)) r) (λ _. done (d .0)) t (d .2) in
-      let q : d .0 ≡ t = cc (f .2) in
-      (d .1 ∙ ap done q, rw q at (leb-true (length (d .0) * slot) (length m) (demand-held _ r (f .0) (f .1))))
-
-  all-grown : Grows (sites-in m n) t
-  all-grown = add-all-grows (sites-in m n) at (children s c) t (all-added .0)
-
-  pub after-all-is : sites-in (after-all m n (done t)) (length t) ≡ t
-  after-all-is = grown-in m n t all-grown (all-added .1)
-
-  pub after-all-older : (i : ℕ) → i < n → slot-body (after-all m n (done t)) i ≡ slot-body m i
-  after-all-older i l = grown-older m n t all-grown (all-added .1) i l
-
-  pub after-all-unfolded : (i : ℕ) → i < n → unfolded-in (after-all m n (done t)) i ≡ unfolded-in m i
-  after-all-unfolded i l = grown-unfolded m n t all-grown (all-added .1) i l
-
-  pub after-all-bodies : Bodies m n → Bodies (after-all m n (done t)) (length t)
-  after-all-bodies k = grown-bodies m n t all-grown (all-added .1) k
-
-  pub after-all-sound : Sound (sites-in m n) → Sound (sites-in (after-all m n (done t)) (length t))
-  after-all-sound k = rw after-all-is (all-sound (sites-in m n) at (children s c) t k (all-added .0))
-
 -- ---- memory as the calls make it: a sound table, every slot a body. It begins so, and every call keeps it so, whatever its answer.
 pub record Made (m : List ℕ) (n : ℕ) : Type 0 where
   pub sound : Sound (sites-in m n)
@@ -353,20 +289,9 @@ abbrev pub count-add : ℕ → Outcome Added → ℕ
 count-add n (done a) = length (a .sites)
 count-add n (refused r) = n
 
-abbrev pub count-all : ℕ → Outcome Sites → ℕ
-count-all n (done t) = length t
-count-all n (refused r) = n
-
 pub made-add : (m : List ℕ) (n at : ℕ) (b : List ℕ) → Made m n → Made (after-add m n (added-in m n at b)) (count-add n (added-in m n at b))
 made-add m n at b k = go (added-in m n at b) refl
   where
     go : (o : Outcome Added) → added-in m n at b ≡ o → Made (after-add m n o) (count-add n o)
     go (done a) e = record { sound = rw e at (after-add-sound m n at b a e (k .sound)); bodies = rw e at (after-add-bodies m n at b a e (k .bodies)) }
-    go (refused r) e = k
-
-pub made-children : (m : List ℕ) (n at s : ℕ) (c : Constraint) → Made m n → Made (after-all m n (children-in m n at s c)) (count-all n (children-in m n at s c))
-made-children m n at s c k = go (children-in m n at s c) refl
-  where
-    go : (o : Outcome Sites) → children-in m n at s c ≡ o → Made (after-all m n o) (count-all n o)
-    go (done t) e = record { sound = after-all-sound m n at s c t e (k .sound); bodies = after-all-bodies m n at s c t e (k .bodies) }
     go (refused r) e = k

@@ -1,9 +1,7 @@
-pub mod Turns
-pub mod Bodies
+pub mod Held
 pub mod Places
 pub mod Put
-pub mod Kids
 pub mod Unfolds
+pub mod Alike
 pub mod Adds
-pub mod Families
 pub mod After

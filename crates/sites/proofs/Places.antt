@@ -7,16 +7,16 @@ use mathlib.Core.Logic.{⊎-elim}
 use Prim.Native.Nat.{ℕ, zero, suc, _+_, _-_, _*_, _≤_, _<_}
 use native.Mathlib.Nat.{eq-or-lt-of-le}
 use native.Mathlib.Omega.{arith}
-use lib.ListN.{length, getD, take, drop, length-append}
+use lib.ListN.{length, getD, take, drop}
 use Rattle.paper.specs.Words.{below}
 use Rattle.paper.specs.Sites.{Site, Sites, body, number-of, same-site}
 use Rattle.paper.proofs.Laws.{same-site-true, same-site-refl, number-here, number-there, number-front, number-on}
 use Rattle.site_slots.specs.Seeking.{Held, Finds}
-use Rattle.sites.specs.Shape.{is-body}
-use Rattle.sites.specs.Back.{Bytes}
-use Rattle.sites.specs.Slots.{slot, site-of, slot-body, site-in, sites-in, Findable, store}
-use Rattle.sites.specs.Held.{slot-is, slot-bytes, held, held-body}
-use Rattle.sites.proofs.Bodies.{laid-in, site-none}
+use Rattle.site_body.specs.Body.{is-body, site-of}
+use Rattle.site_body.proofs.Back.{Bytes}
+use Rattle.sites.specs.Slots.{slot, slot-body, site-in, sites-in, Findable, store, length-below}
+use Rattle.sites.proofs.Held.{slot-is, slot-bytes, held, held-body}
+use Rattle.site_body.proofs.Bodies.{laid-in, site-none}
 
 -- ---- what stands in a slot
 pub slot-part : (m : List ℕ) (i n at : ℕ) → at ≡ i * slot → at + slot ≤ length m → n ≡ getD m at 0 → n < slot → take (at + 1 + n - (at + 1)) (drop (at + 1) m) ≡ slot-body m i
@@ -45,14 +45,14 @@ number-still t x s e q =
     let w : number-of (x ∷ []) s ≡ none = number-there x [] s q in
     number-on t (x ∷ []) s e ∙ rw w
 
-pub length-below : {A : Type 0} (n : ℕ) (f : ℕ → A) → length (below n f) ≡ n
-unfolding below
-length-below zero f = refl
-length-below (suc n) f = length-append (below n f) (f n ∷ []) ∙ (let e = length-below n f in omega arith)
-
 pub sites-length : (m : List ℕ) (n : ℕ) → length (sites-in m n) ≡ n
 unfolding sites-in
 sites-length m n = length-below n (site-in m)
+
+pub below-same : {A : Type 0} (n : ℕ) (f g : ℕ → A) → ((i : ℕ) → i < n → f i ≡ g i) → below n f ≡ below n g
+unfolding below
+below-same zero f g h = refl
+below-same (suc n) f g h = let x = below-same n f g (λ i l. h i (omega arith)) in let y = h n (omega arith) in rw (x, y)
 
 -- the first i of n
 pub below-split : {A : Type 0} (i n : ℕ) (f : ℕ → A) → i ≤ n → (r : List A) × (below n f ≡ below i f ++ r)

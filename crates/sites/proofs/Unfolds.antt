@@ -1,30 +1,28 @@
 -- Unfoldings of a table in memory.
-use mathlib.Core.Path.{_≡_, refl, sym, ap, _∙_}
-use mathlib.Core.Bool.{Bool, true, false, not}
-use mathlib.Core.Option.{Option, none, some}
-use mathlib.Core.List.{List, [], _∷_, _++_, map, append-assoc, append-nil}
-use Prim.Native.Nat.{ℕ, zero, suc, _+_, _-_, _*_, _≤_, _<_}
+use mathlib.Core.Path.{_≡_, sym, ap, _∙_}
+use mathlib.Core.Bool.{true, false}
+use mathlib.Core.List.{List, [], _∷_, _++_, map}
+use Prim.Native.Nat.{ℕ, suc, _+_, _-_, _*_, _≤_, _<_}
 use native.Mathlib.Omega.{arith}
-use lib.ListN.{length, getD, take, drop, length-append, length-take, length-drop}
+use lib.ListN.{length, getD, take, drop}
 use lib.Seq.{getD-at, take-append-seam}
-use lib.Dec.{ltb, leb}
 use borrow.Author.Tests.{lt-ltb, le-ltb, le-leb, lt-leb}
 use Rattle.paper.specs.Words.{joined, below}
-use Rattle.paper.specs.Numbers.{max-unfolding, Outcome, done, refused, demand}
+use Rattle.paper.specs.Numbers.{max-unfolding, Outcome, done, refused}
 use Rattle.paper.specs.declared.Refusal.the-variants.{Unknown, UnfoldingTooLong}
-use Rattle.paper.specs.Sites.{Site, Sites, argument, iterator, body-by, site-at, known, lower-only, unfolded, unfold-answer}
-use Rattle.paper.proofs.Laws.{older-site, older-unfolded, unfolded-is, lower-true, lower-false, same-lower}
-use Rattle.sites.specs.Kinds.{off-of, many-of, words, Laid, split}
-use Rattle.sites.specs.Shape.{is-body}
-use Rattle.sites.specs.Back.{Bytes}
+use Rattle.paper.specs.Sites.{argument, body-by, site-at, known, lower-only, unfolded, unfold-answer}
+use Rattle.paper.proofs.Laws.{older-unfolded, unfolded-is, lower-true, lower-false, same-lower}
+use Rattle.site_body.specs.Body.{is-body, many-of, no-site, off-of, site-of, words}
+use Rattle.site_body.proofs.Tables.{split}
+use Rattle.site_body.proofs.Back.{Bytes}
 use Rattle.sites.specs.declared.Wrote.{Wrote}
 use Rattle.sites.specs.declared.Wrote.the-variants.{To, Full}
 use Rattle.sites.specs.declared.Unfolded.the-variants as unfolding′
-use Rattle.sites.specs.Slots.{no-site, site-of, slot-body, site-in, sites-in, put, Writes, unfolded-in, unfolded-as, after-unfold}
-use Rattle.sites.proofs.Turns.{words-cons}
-use Rattle.sites.proofs.Bodies.{laid-in, site-none}
-use Rattle.sites.specs.Held.{slot-bytes}
-use Rattle.sites.proofs.Places.{length-below, sites-length, below-split}
+use Rattle.sites.specs.Slots.{slot-body, site-in, sites-in, put, Writes, unfolded-in, unfolded-as, after-unfold, length-below}
+use Rattle.site_body.proofs.Turns.{words-cons}
+use Rattle.site_body.proofs.Bodies.{laid-in, site-none}
+use Rattle.sites.proofs.Held.{slot-bytes}
+use Rattle.sites.proofs.Places.{sites-length, below-split}
 use Rattle.sites.proofs.Put.{rest-eq, writes-fits, writes-none, writes-then, writes-stop, end-full}
 
 -- the sites past s make no difference to it

@@ -1,4 +1,4 @@
-use Rattle.rule_children.specs.NextLaws.{begins-as}
+use Rattle.rule_children.proofs.NextLaws.{begins-as}
 use borrow.Author.Needs.{needs}
 use Rattle.rule_children.proofs.beginning.Statement.{statement}
 use Rattle.rule_children.proofs.beginning.Tie as tie

@@ -1,6 +1,6 @@
 use mathlib.Core.Path.{_≡_, refl, sym, ap, _∙_}
 use native.Mathlib.Omega.{arith}
-use Rattle.rule_children.specs.WordLaws.{spelt-as}
+use Rattle.rule_children.proofs.WordLaws.{spelt-as}
 use Rattle.paper.specs.Sites.{child}
 use borrow.Author.Needs.{needs}
 use Rattle.rule_children.proofs.child_word.Statement.{statement}

@@ -1,4 +1,4 @@
-use Rattle.rule_children.specs.WordLaws.{is-child}
+use Rattle.rule_children.proofs.WordLaws.{is-child}
 use borrow.Author.Needs.{needs}
 use Rattle.rule_children.proofs.is_child.Statement.{statement}
 use Rattle.rule_children.proofs.is_child.Tie as tie

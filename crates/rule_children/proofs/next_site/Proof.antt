@@ -1,5 +1,5 @@
 use denote.Ref.{now}
-use Rattle.rule_children.specs.NextLaws.{on-tail, on-slot, on-both}
+use Rattle.rule_children.proofs.NextLaws.{on-tail, on-slot, on-both}
 use borrow.Author.Needs.{needs}
 use Rattle.rule_children.proofs.next_site.Statement.{statement}
 use Rattle.rule_children.proofs.next_site.Tie as tie

@@ -1,6 +1,6 @@
 use mathlib.Core.Path.{_≡_, refl, sym, ap, _∙_}
 use native.Mathlib.Omega.{arith}
-use Rattle.rule_children.specs.GrowLaws.{Placing, place-start, place-room, place-inside, next-new, next-old, place-length, place-end, Whole, whole-start, whole-new, whole-old, whole-end}
+use Rattle.rule_children.proofs.GrowLaws.{Placing, place-start, place-room, place-inside, next-new, next-old, place-length, place-end, Whole, whole-start, whole-new, whole-old, whole-end}
 use denote.Ref.{now}
 use Prim.Native.Nat.{_-_, _≤_}
 use borrow.Author.Needs.{needs}
@@ -12,7 +12,7 @@ use Rattle.rule_children.proofs.place.Reads as reads
 use Rattle.rule_children.proofs.place.Lts as lts
 use Rattle.rule_children.proofs.arity.Reads as arity-reads
 use Rattle.rule_children.proofs.child_word.Reads as child-word-reads
-use Rattle.rule_children.proofs.size.Reads as size-reads
+use Rattle.widths.proofs.size16.Reads as size16-reads
 
 abbrev Inv-loop : tie.InvT-loop
 Inv-loop m n tail₀ k s c of count numbers₀ j₀ f₀ tail numbers j f = Placing (table m n tail₀ k) k s c tail₀ tail numbers j f × Whole m n tail₀ k s c tail j f
@@ -25,12 +25,12 @@ arity-requires : tie.Need-arity-requires Inv-loop μ-loop
 arity-requires c κs = search needs
 
 -- src/lib.rt:215:9
-size-requires : tie.Need-size-requires Inv-loop μ-loop
-size-requires c κs = search needs
+size16-requires : tie.Need-size16-requires Inv-loop μ-loop
+size16-requires c κs = search needs
 
 -- src/lib.rt:217:5
 loop-holds : tie.Need-loop-holds Inv-loop μ-loop
-loop-holds c = (place-start (table (now (c .before .before .before .before .args .m)) (c .before .before .before .before .args .n) (now (c .before .before .before .before .args .tail)) (c .before .before .before .before .args .k)) (c .before .before .before .before .args .n) (c .before .before .before .before .args .k) (c .before .before .before .before .args .s) (c .before .before .before .before .args .c) _ (now (c .before .before .before .before .args .tail)) (c .before .before .before .before .pre) _ (c .size .ensures .0), whole-start (now (c .before .before .before .before .args .m)) (c .before .before .before .before .args .n) (now (c .before .before .before .before .args .tail)) (c .before .before .before .before .args .k) (c .before .before .before .before .args .s) (c .before .before .before .before .args .c) _ (c .size .ensures .0))
+loop-holds c = (place-start (table (now (c .before .before .before .before .args .m)) (c .before .before .before .before .args .n) (now (c .before .before .before .before .args .tail)) (c .before .before .before .before .args .k)) (c .before .before .before .before .args .n) (c .before .before .before .before .args .k) (c .before .before .before .before .args .s) (c .before .before .before .before .args .c) _ (now (c .before .before .before .before .args .tail)) (c .before .before .before .before .pre) _ (c .size16 .ensures), whole-start (now (c .before .before .before .before .args .m)) (c .before .before .before .before .args .n) (now (c .before .before .before .before .args .tail)) (c .before .before .before .before .args .k) (c .before .before .before .before .args .s) (c .before .before .before .before .args .c) _ (c .size16 .ensures))
 
 -- src/lib.rt:218:19
 mul-old : tie.Need-mul-old Inv-loop μ-loop
@@ -111,7 +111,7 @@ place-spec =
     Inv-loop
     μ-loop
     arity-requires
-    size-requires
+    size16-requires
     loop-holds
     mul-old
     array-read-old

@@ -1,4 +1,4 @@
-use Rattle.rule_children.specs.AnswerLaws.{refuse-is}
+use Rattle.rule_children.proofs.AnswerLaws.{refuse-is}
 use Rattle.rule_children.proofs.refuse.Statement.{statement}
 use Rattle.rule_children.proofs.refuse.Tie as tie
 use Rattle.rule_children.proofs.refuse.Reads as reads

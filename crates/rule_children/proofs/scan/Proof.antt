@@ -2,7 +2,7 @@ use Prim.Native.Nat.{_+_, _-_, _≤_}
 use native.Mathlib.Omega.{arith}
 use denote.Ref.{now}
 use borrow.Author.Needs.{needs}
-use Rattle.rule_children.specs.ScanLaws.{walk-early, walk-end, Walking, walking-start, walking-on, walking-less, walking-turn}
+use Rattle.rule_children.proofs.ScanLaws.{walk-early, walk-end, Walking, walking-start, walking-on, walking-less, walking-turn}
 use Rattle.rule_children.proofs.scan.Statement.{statement}
 use Rattle.rule_children.proofs.scan.Tie as tie
 use Rattle.rule_children.proofs.scan.Reads as reads

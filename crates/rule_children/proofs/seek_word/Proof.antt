@@ -2,13 +2,13 @@ use Prim.Native.Nat.{_-_, _≤_}
 use native.Mathlib.Omega.{arith}
 use denote.Ref.{now}
 use borrow.Author.Needs.{needs}
-use Rattle.rule_children.specs.NextLaws.{Past, past-start, past-more, word-here, word-none, word-out}
+use Rattle.rule_children.proofs.NextLaws.{Past, past-start, past-more, word-here, word-none, word-out}
 use Rattle.rule_children.proofs.seek_word.Statement.{statement}
 use Rattle.rule_children.proofs.seek_word.Tie as tie
 use Rattle.rule_children.proofs.seek_word.Reads as reads
 use Rattle.rule_children.proofs.seek_word.Lts as lts
 use Rattle.rule_children.proofs.field_of.Reads as field-of-reads
-use Rattle.rule_children.proofs.size.Reads as size-reads
+use Rattle.widths.proofs.size16.Reads as size16-reads
 
 abbrev Inv-loop : tie.InvT-loop
 Inv-loop tail from to first count j₀ j = (from ≤ j) × Past tail from first count j
@@ -21,12 +21,12 @@ loop-holds : tie.Need-loop-holds Inv-loop μ-loop
 loop-holds c = (omega arith, past-start (now (c .before .args .tail)) (c .before .args .from) (c .before .args .first) (c .before .args .count))
 
 -- src/lib.rt:249:13
-size-requires : tie.Need-size-requires Inv-loop μ-loop
-size-requires c κs = search needs
+size16-requires : tie.Need-size16-requires Inv-loop μ-loop
+size16-requires c κs = search needs
 
 -- src/lib.rt:251:13
 returns : tie.Need-returns Inv-loop μ-loop
-returns c = word-out (now (c .before .before .before .before .before .args .tail)) (c .before .before .before .before .before .args .from) (c .before .before .before .before .before .args .first) (c .before .before .before .before .before .args .count) (c .before .before .before .before .before .args .to) (c .before .before .before .loop .j) (c .before .before .before .loop .inv .0) (c .before .before .before .loop .inv .1) _ (c .before .size .ensures .0) (c .if1 .taken)
+returns c = word-out (now (c .before .before .before .before .before .args .tail)) (c .before .before .before .before .before .args .from) (c .before .before .before .before .before .args .first) (c .before .before .before .before .before .args .count) (c .before .before .before .before .before .args .to) (c .before .before .before .loop .j) (c .before .before .before .loop .inv .0) (c .before .before .before .loop .inv .1) _ (c .before .size16 .ensures) (c .if1 .taken)
 
 -- src/lib.rt:253:21
 mul-field-of : tie.Need-mul-field-of Inv-loop μ-loop
@@ -54,7 +54,7 @@ loop-less c = omega (arith, c .before .before .before .before .before .loop-test
 
 -- src/lib.rt:248:5
 loop-again : tie.Need-loop-again Inv-loop μ-loop
-loop-again c = (omega (arith, c .before .before .before .before .before .before .loop .inv .0), past-more (now (c .before .before .before .before .before .before .before .before .args .tail)) (c .before .before .before .before .before .before .before .before .args .from) (c .before .before .before .before .before .before .before .before .args .first) (c .before .before .before .before .before .before .before .before .args .count) (c .before .before .before .before .before .before .loop .j) _ _ (c .before .before .before .before .size .ensures .0) (c .before .before .before .before .before .before .loop .inv .1) (c .before .field-of .ensures) (c .if2 .left))
+loop-again c = (omega (arith, c .before .before .before .before .before .before .loop .inv .0), past-more (now (c .before .before .before .before .before .before .before .before .args .tail)) (c .before .before .before .before .before .before .before .before .args .from) (c .before .before .before .before .before .before .before .before .args .first) (c .before .before .before .before .before .before .before .before .args .count) (c .before .before .before .before .before .before .loop .j) _ _ (c .before .before .before .before .size16 .ensures) (c .before .before .before .before .before .before .loop .inv .1) (c .before .field-of .ensures) (c .if2 .left))
 
 -- src/lib.rt:244:1
 returns-3 : tie.Need-returns-3 Inv-loop μ-loop
@@ -67,7 +67,7 @@ seek-word-spec =
     Inv-loop
     μ-loop
     loop-holds
-    size-requires
+    size16-requires
     returns
     mul-field-of
     shared-slice-read-field-of

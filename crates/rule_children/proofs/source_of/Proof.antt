@@ -1,4 +1,4 @@
-use Rattle.rule_children.specs.WordLaws.{source-variant, source-struct, source-some, source-none}
+use Rattle.rule_children.proofs.WordLaws.{source-variant, source-struct, source-some, source-none}
 use Rattle.rule_children.proofs.source_of.Statement.{statement}
 use Rattle.rule_children.proofs.source_of.Tie as tie
 use Rattle.rule_children.proofs.source_of.Reads as reads

@@ -1,21 +1,21 @@
 use mathlib.Core.Path.{_≡_, refl, sym, ap, _∙_}
 use native.Mathlib.Omega.{arith}
-use Rattle.rule_children.specs.WordLaws.{spelt-struct}
+use Rattle.rule_children.proofs.WordLaws.{spelt-struct}
 use borrow.Author.Needs.{needs}
 use Rattle.rule_children.proofs.struct_word.Statement.{statement}
 use Rattle.rule_children.proofs.struct_word.Tie as tie
 use Rattle.rule_children.proofs.struct_word.Reads as reads
 use Rattle.rule_children.proofs.struct_word.Lts as lts
-use Rattle.rule_children.proofs.wide.Reads as wide-reads
-use Rattle.rule_children.proofs.wide8.Reads as wide8-reads
+use Rattle.widths.proofs.word16.Reads as word16-reads
+use Rattle.widths.proofs.word8.Reads as word8-reads
 
 -- src/lib.rt:64:17
-wide8-requires : tie.Need-wide8-requires
-wide8-requires c κs = search needs
+word8-requires : tie.Need-word8-requires
+word8-requires c κs = search needs
 
 -- src/lib.rt:64:34
-wide-requires : tie.Need-wide-requires
-wide-requires c κs = search needs
+word16-requires : tie.Need-word16-requires
+word16-requires c κs = search needs
 
 -- src/lib.rt:64:28
 mul-result : tie.Need-mul-result
@@ -40,4 +40,4 @@ returns c = spelt-struct (c .before .before .args .s) (c .before .before .args .
 pub struct-word-spec : {M : Type 1} → statement M
 struct-word-spec =
     tie.close
-    (tie.spec wide8-requires wide-requires mul-result add-result mul-result-2 add-result-2 returns)
+    (tie.spec word8-requires word16-requires mul-result add-result mul-result-2 add-result-2 returns)

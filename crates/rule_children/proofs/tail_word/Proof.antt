@@ -1,4 +1,4 @@
-use Rattle.rule_children.specs.WordLaws.{tail-variant, tail-struct, tail-some, tail-none}
+use Rattle.rule_children.proofs.WordLaws.{tail-variant, tail-struct, tail-some, tail-none}
 use Rattle.rule_children.proofs.tail_word.Statement.{statement}
 use Rattle.rule_children.proofs.tail_word.Tie as tie
 use Rattle.rule_children.proofs.tail_word.Reads as reads

@@ -1,25 +1,25 @@
 use mathlib.Core.Path.{_≡_, refl, sym, ap, _∙_}
 use native.Mathlib.Omega.{arith}
-use Rattle.rule_children.specs.WordLaws.{spelt-variant}
+use Rattle.rule_children.proofs.WordLaws.{spelt-variant}
 use borrow.Author.Needs.{needs}
 use Rattle.rule_children.proofs.variant_word.Statement.{statement}
 use Rattle.rule_children.proofs.variant_word.Tie as tie
 use Rattle.rule_children.proofs.variant_word.Reads as reads
 use Rattle.rule_children.proofs.variant_word.Lts as lts
-use Rattle.rule_children.proofs.wide.Reads as wide-reads
-use Rattle.rule_children.proofs.wide8.Reads as wide8-reads
+use Rattle.widths.proofs.word16.Reads as word16-reads
+use Rattle.widths.proofs.word8.Reads as word8-reads
 
 -- src/lib.rt:58:16
-wide8-requires : tie.Need-wide8-requires
-wide8-requires c κs = search needs
+word8-requires : tie.Need-word8-requires
+word8-requires c κs = search needs
 
 -- src/lib.rt:58:34
-wide-requires : tie.Need-wide-requires
-wide-requires c κs = search needs
+word16-requires : tie.Need-word16-requires
+word16-requires c κs = search needs
 
 -- src/lib.rt:58:52
-wide-requires-2 : tie.Need-wide-requires-2
-wide-requires-2 c κs = search needs
+word16-requires-2 : tie.Need-word16-requires-2
+word16-requires-2 c κs = search needs
 
 -- src/lib.rt:58:44
 mul-result : tie.Need-mul-result
@@ -53,9 +53,9 @@ pub variant-word-spec : {M : Type 1} → statement M
 variant-word-spec =
     tie.close
     (tie.spec
-    wide8-requires
-    wide-requires
-    wide-requires-2
+    word8-requires
+    word16-requires
+    word16-requires-2
     mul-result
     add-result
     mul-result-2

@@ -1,6 +1,6 @@
 use mathlib.Core.Path.{_≡_, refl, sym, ap, _∙_}
 use native.Mathlib.Omega.{arith}
-use Rattle.rule_children.specs.WordLaws.{spelt-as, spelt-none, told-as, told-in}
+use Rattle.rule_children.proofs.WordLaws.{spelt-as, spelt-none, told-as, told-in}
 use denote.Ref.{now}
 use Rattle.sites.specs.Slots.{site-in}
 use borrow.Author.Needs.{needs}
@@ -12,7 +12,7 @@ use Rattle.rule_children.proofs.some_word.Reads as some-word-reads
 use Rattle.rule_children.proofs.struct_word.Reads as struct-word-reads
 use Rattle.rule_children.proofs.variant_word.Reads as variant-word-reads
 use Rattle.sites.proofs.body.Reads as body-reads
-use Rattle.sites.proofs.link_of.Reads as link-of-reads
+use Rattle.site_body.proofs.link_of.Reads as link-of-reads
 
 -- src/lib.rt:99:9
 body-requires : tie.Need-body-requires

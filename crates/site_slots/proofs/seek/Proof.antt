@@ -11,7 +11,7 @@ use Rattle.site_slots.proofs.seek.Lts as lts
 use Rattle.site_slots.proofs.by_eight.Reads as by-eight-reads
 use Rattle.site_slots.proofs.four.Reads as four-reads
 use Rattle.site_slots.proofs.reach.Reads as reach-reads
-use Rattle.site_slots.proofs.size.Reads as size-reads
+use Rattle.widths.proofs.size16.Reads as size16-reads
 
 abbrev Inv-loop : tie.InvT-loop
 Inv-loop m off from to key place n i₀ i = Onward m off from n key i
@@ -20,32 +20,32 @@ abbrev μ-loop : tie.MeasureT-loop
 μ-loop m off from to key place n i₀ i = n - i
 
 -- src/lib.rt:105:29
-size-requires : tie.Need-size-requires Inv-loop μ-loop
-size-requires c κs = search needs
+size16-requires : tie.Need-size16-requires Inv-loop μ-loop
+size16-requires c κs = search needs
 
 -- src/lib.rt:105:9
 reach-requires : tie.Need-reach-requires Inv-loop μ-loop
 reach-requires c κs = search needs
 
 -- src/lib.rt:106:36
-size-requires-2 : tie.Need-size-requires-2 Inv-loop μ-loop
-size-requires-2 c κs = search needs
+size16-requires-2 : tie.Need-size16-requires-2 Inv-loop μ-loop
+size16-requires-2 c κs = search needs
 
 -- src/lib.rt:106:9
 by-eight-requires : tie.Need-by-eight-requires Inv-loop μ-loop
-by-eight-requires c κs = let l = c .before .reach .ensures .few in let k = c .before .before .size .ensures .1 in (c .size2 .ensures .1, omega arith, omega arith, c .before .reach .ensures .inside)
+by-eight-requires c κs = let l = c .before .reach .ensures .few in let k : c .before .before .size16 .result < 65536 = omega (arith, c .before .before .size16 .ensures, c .before .before .before .before .good) in (omega (arith, c .size162 .ensures, c .before .before .before .before .good), omega arith, omega arith, c .before .reach .ensures .inside)
 
 -- src/lib.rt:107:5
 loop-holds : tie.Need-loop-holds Inv-loop μ-loop
-loop-holds c = seek-start (now (c .before .before .before .before .before .args .m)) (c .before .before .before .before .before .args .off) (c .before .before .before .before .before .args .from) (c .before .before .before .before .before .args .to) (c .before .before .before .before .before .args .key) _ _ _ (c .before .size2 .ensures .0) (c .by-eight .ensures)
+loop-holds c = seek-start (now (c .before .before .before .before .before .args .m)) (c .before .before .before .before .before .args .off) (c .before .before .before .before .before .args .from) (c .before .before .before .before .before .args .to) (c .before .before .before .before .before .args .key) _ _ _ (c .before .size162 .ensures) (c .by-eight .ensures)
 
 -- src/lib.rt:108:20
 mul-four : tie.Need-mul-four Inv-loop μ-loop
-mul-four c = let l = c .before .before .before .before .reach .ensures .few in let k = c .before .before .before .before .before .size .ensures .1 in omega (arith, c .loop-test .taken)
+mul-four c = let l = c .before .before .before .before .reach .ensures .few in let k : c .before .before .before .before .before .size16 .result < 65536 = omega (arith, c .before .before .before .before .before .size16 .ensures, c .before .before .before .before .before .before .before .good) in omega (arith, c .loop-test .taken)
 
 -- src/lib.rt:108:20
 add-four : tie.Need-add-four Inv-loop μ-loop
-add-four c = let l = c .before .before .before .before .reach .ensures .few in let k = c .before .before .before .before .before .size .ensures .1 in omega (arith, c .loop-test .taken)
+add-four c = let l = c .before .before .before .before .reach .ensures .few in let k : c .before .before .before .before .before .size16 .result < 65536 = omega (arith, c .before .before .before .before .before .size16 .ensures, c .before .before .before .before .before .before .before .good) in omega (arith, c .loop-test .taken)
 
 -- src/lib.rt:108:12
 four-requires : tie.Need-four-requires Inv-loop μ-loop
@@ -53,15 +53,15 @@ four-requires c κs = c .before .before .before .before .reach .ensures .inside 
 
 -- src/lib.rt:109:20
 cast-result : tie.Need-cast-result Inv-loop μ-loop
-cast-result c = let l = c .before .before .before .before .before .before .reach .ensures .few in let k = c .before .before .before .before .before .before .before .size .ensures .1 in omega (arith, c .before .before .loop-test .taken)
+cast-result c = let l = c .before .before .before .before .before .before .reach .ensures .few in let k : c .before .before .before .before .before .before .before .size16 .result < 65536 = omega (arith, c .before .before .before .before .before .before .before .size16 .ensures, c .before .before .before .before .before .before .before .before .before .good) in omega (arith, c .before .before .loop-test .taken)
 
 -- src/lib.rt:109:13
 returns : tie.Need-returns Inv-loop μ-loop
-returns c = seek-found (now (c .before .before .before .before .before .before .before .before .before .args .m)) (c .before .before .before .before .before .before .before .before .before .args .off) (c .before .before .before .before .before .before .before .before .before .args .from) (c .before .before .before .before .before .before .before .before .before .args .to) (c .before .before .before .before .before .before .before .before .before .args .key) _ _ (c .before .before .before .before .before .before .before .size .ensures .0) (c .before .before .before .before .before .before .reach .ensures) (c .before .before .before .loop .i) (c .before .before .before .loop .inv) _ (c .before .before .loop-test .taken) (c .before .four .ensures) (c .if1 .taken)
+returns c = seek-found (now (c .before .before .before .before .before .before .before .before .before .args .m)) (c .before .before .before .before .before .before .before .before .before .args .off) (c .before .before .before .before .before .before .before .before .before .args .from) (c .before .before .before .before .before .before .before .before .before .args .to) (c .before .before .before .before .before .before .before .before .before .args .key) _ _ (c .before .before .before .before .before .before .before .size16 .ensures) (c .before .before .before .before .before .before .reach .ensures) (c .before .before .before .loop .i) (c .before .before .before .loop .inv) _ (c .before .before .loop-test .taken) (c .before .four .ensures) (c .if1 .taken)
 
 -- src/lib.rt:111:9
 add-i : tie.Need-add-i Inv-loop μ-loop
-add-i c = let l = c .before .before .before .before .before .before .reach .ensures .few in let k = c .before .before .before .before .before .before .before .size .ensures .1 in omega (arith, c .before .before .loop-test .taken)
+add-i c = let l = c .before .before .before .before .before .before .reach .ensures .few in let k : c .before .before .before .before .before .before .before .size16 .result < 65536 = omega (arith, c .before .before .before .before .before .before .before .size16 .ensures, c .before .before .before .before .before .before .before .before .before .good) in omega (arith, c .before .before .loop-test .taken)
 
 -- src/lib.rt:107:5
 loop-less : tie.Need-loop-less Inv-loop μ-loop
@@ -69,11 +69,11 @@ loop-less c = omega (arith, c .before .before .loop-test .taken)
 
 -- src/lib.rt:107:5
 loop-again : tie.Need-loop-again Inv-loop μ-loop
-loop-again c = seek-next (now (c .before .before .before .before .before .before .before .before .before .args .m)) (c .before .before .before .before .before .before .before .before .before .args .off) (c .before .before .before .before .before .before .before .before .before .args .from) (c .before .before .before .before .before .before .before .before .before .args .to) (c .before .before .before .before .before .before .before .before .before .args .key) _ _ (c .before .before .before .before .before .before .before .size .ensures .0) (c .before .before .before .before .before .before .reach .ensures) (c .before .before .before .loop .i) (c .before .before .before .loop .inv) _ (c .before .before .loop-test .taken) (c .before .four .ensures) (c .if1 .left)
+loop-again c = seek-next (now (c .before .before .before .before .before .before .before .before .before .args .m)) (c .before .before .before .before .before .before .before .before .before .args .off) (c .before .before .before .before .before .before .before .before .before .args .from) (c .before .before .before .before .before .before .before .before .before .args .to) (c .before .before .before .before .before .before .before .before .before .args .key) _ _ (c .before .before .before .before .before .before .before .size16 .ensures) (c .before .before .before .before .before .before .reach .ensures) (c .before .before .before .loop .i) (c .before .before .before .loop .inv) _ (c .before .before .loop-test .taken) (c .before .four .ensures) (c .if1 .left)
 
 -- src/lib.rt:101:1
 returns-2 : tie.Need-returns-2 Inv-loop μ-loop
-returns-2 c = seek-none (now (c .before .before .before .before .before .before .before .args .m)) (c .before .before .before .before .before .before .before .args .off) (c .before .before .before .before .before .before .before .args .from) (c .before .before .before .before .before .before .before .args .to) (c .before .before .before .before .before .before .before .args .key) _ _ (c .before .before .before .before .before .size .ensures .0) (c .before .before .before .before .reach .ensures) (c .before .loop .i) (c .before .loop .inv) (c .loop-test .left)
+returns-2 c = seek-none (now (c .before .before .before .before .before .before .before .args .m)) (c .before .before .before .before .before .before .before .args .off) (c .before .before .before .before .before .before .before .args .from) (c .before .before .before .before .before .before .before .args .to) (c .before .before .before .before .before .before .before .args .key) _ _ (c .before .before .before .before .before .size16 .ensures) (c .before .before .before .before .reach .ensures) (c .before .loop .i) (c .before .loop .inv) (c .loop-test .left)
 
 pub seek-spec : {M : Type 1} → statement M
 seek-spec =
@@ -81,9 +81,9 @@ seek-spec =
     (tie.spec
     Inv-loop
     μ-loop
-    size-requires
+    size16-requires
     reach-requires
-    size-requires-2
+    size16-requires-2
     by-eight-requires
     loop-holds
     mul-four

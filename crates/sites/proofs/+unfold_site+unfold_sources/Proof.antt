@@ -6,10 +6,9 @@ use denote.Ref.{now}
 use borrow.Author.Needs.{needs}
 use borrow.Author.Tests.{not-true, not-false}
 use lib.ListN.{length}
+use Rattle.site_body.proofs.Back.{Bytes}
 use Rattle.sites.specs.Slots.{Writes, unfolded-in}
-use Rattle.sites.specs.Back.{Bytes}
-use Rattle.sites.proofs.Bodies.{sized}
-use Rattle.sites.specs.Held.{slot-bytes}
+use Rattle.sites.proofs.Held.{slot-bytes}
 use Rattle.sites.proofs.Unfolds.{unfolded-alone, head-fits, stop-head, stop-sources, all-three, end-inside, bytes-as, none-left, skip-source, stop-source, go-on}
 use Prim.Native.Nat.{ℕ, _+_, _*_, _<_}
 use borrow.Fn.Kinds.{In}
@@ -21,10 +20,10 @@ use Rattle.sites.proofs.unfold_sources.Reads as unfold-sources
 use Rattle.sites.proofs.unfold_sources.Kinds as unfold-sources-kinds
 use Rattle.sites.proofs.+unfold_site+unfold_sources.Lts-unfold_sources as unfold-sources-lts
 use Rattle.sites.proofs.body.Reads as body-reads
-use Rattle.sites.proofs.is_body.Reads as is-body-reads
-use Rattle.sites.proofs.many_of.Reads as many-of-reads
-use Rattle.sites.proofs.off_of.Reads as off-of-reads
-use Rattle.sites.proofs.word_at.Reads as word-at-reads
+use Rattle.site_body.proofs.is_body.Reads as is-body-reads
+use Rattle.site_body.proofs.many_of.Reads as many-of-reads
+use Rattle.site_body.proofs.off_of.Reads as off-of-reads
+use Rattle.site_body.proofs.word_at.Reads as word-at-reads
 use Rattle.sites.proofs.write.Reads as write-reads
 use Rattle.sites.proofs.+unfold_site+unfold_sources.{statement}
 use Rattle.sites.proofs.+unfold_site+unfold_sources.Tie.{close}
@@ -92,11 +91,11 @@ unfold-site-returns t c = rw (unfolded-alone (now (c .before .before .before .be
 
 -- src/lib.rt:514:9
 unfold-site-off-of-requires : (t : ℕ) → unfold-site-lts.Need-off-of-requires (site-claims t) (unfold-site-at t) unfold-site.Post
-unfold-site-off-of-requires t c κs = let z = sized (now (c .before .before .body .result)) (λ i. bytes-as (now (c .before .before .before .before .before .args .m)) (c .before .before .before .before .before .args .s) (now (c .before .before .body .result)) (c .before .before .body .ensures) (λ i. omega (arith, c .before .before .before .before .shared-slice-known .given i)) i) (sym (c .before .is-body .ensures) ∙ not-false _ (c .if1 .left)) in (z .0, z .1)
+unfold-site-off-of-requires t c κs = search needs
 
 -- src/lib.rt:515:9
 unfold-site-many-of-requires : (t : ℕ) → unfold-site-lts.Need-many-of-requires (site-claims t) (unfold-site-at t) unfold-site.Post
-unfold-site-many-of-requires t c κs = sized (now (c .before .before .before .body .result)) (λ i. bytes-as (now (c .before .before .before .before .before .before .args .m)) (c .before .before .before .before .before .before .args .s) (now (c .before .before .before .body .result)) (c .before .before .before .body .ensures) (λ i. omega (arith, c .before .before .before .before .before .shared-slice-known .given i)) i) (sym (c .before .before .is-body .ensures) ∙ not-false _ (c .before .if1 .left))
+unfold-site-many-of-requires t c κs = search needs
 
 -- src/lib.rt:516:28
 unfold-site-slice-aggregate-write-2 : (t : ℕ) → unfold-site-lts.Need-slice-aggregate-write-2 (site-claims t) (unfold-site-at t) unfold-site.Post
@@ -180,7 +179,7 @@ unfold-sources-returns t c = none-left (now (c .before .before .before .before .
 
 -- src/lib.rt:543:9
 unfold-sources-word-at-requires : (t : ℕ) → unfold-sources-lts.Need-word-at-requires (sources-claims t) (unfold-sources-at t) unfold-sources.Post
-unfold-sources-word-at-requires t c κs = omega (arith, c .before .before .before .before .pre .1 .1, c .if1 .left)
+unfold-sources-word-at-requires t c κs = search needs
 
 -- src/lib.rt:545:40
 unfold-sources-add-unfold-sources : (t : ℕ) → unfold-sources-lts.Need-add-unfold-sources (sources-claims t) (unfold-sources-at t) unfold-sources.Post

@@ -9,7 +9,7 @@ use Rattle.sites.proofs.add.Tie as tie
 use Rattle.sites.proofs.add.Reads as reads
 use Rattle.sites.proofs.add.Lts as lts
 use Rattle.sites.proofs.find.Reads as find-reads
-use Rattle.sites.proofs.judge.Reads as judge-reads
+use Rattle.site_body.proofs.judge.Reads as judge-reads
 use Rattle.sites.proofs.store.Reads as store-reads
 
 -- src/lib.rt:391:9

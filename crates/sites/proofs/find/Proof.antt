@@ -1,7 +1,7 @@
 use mathlib.Core.Path.{sym, ap}
 use native.Mathlib.Omega.{arith}
 use denote.Ref.{now}
-use Rattle.sites.specs.Slots.{found-as}
+use Rattle.site_body.specs.Body.{found-as}
 use Rattle.sites.proofs.Places.{find-here, find-none}
 use borrow.Author.Needs.{needs}
 use Rattle.sites.proofs.find.Statement.{statement}

@@ -4,43 +4,11 @@ use borrow.Author.Needs.{needs}
 use Rattle.sheet_frames.proofs.layout.two_at.Statement.{statement}
 use Rattle.sheet_frames.proofs.layout.two_at.Tie as tie
 
-shared-slice-read-wide : tie.Need-shared-slice-read-wide
-shared-slice-read-wide c = search needs
-
-wide-requires : tie.Need-wide-requires
-wide-requires c κs = search needs
-
-mul-result : tie.Need-mul-result
-mul-result c = search needs
-
-add-wide : tie.Need-add-wide
-add-wide c = search needs
-
-shared-slice-read-wide-2 : tie.Need-shared-slice-read-wide-2
-shared-slice-read-wide-2 c = search needs
-
-wide-requires-2 : tie.Need-wide-requires-2
-wide-requires-2 c κs = search needs
-
-add-result : tie.Need-add-result
-add-result c = search needs
-
-cast-result : tie.Need-cast-result
-cast-result c = search needs
+word-at-requires : tie.Need-word-at-requires
+word-at-requires c κs = search needs
 
 returns : tie.Need-returns
-returns c = two-law (now (c .before .before .before .before .before .args .s)) (c .before .before .before .before .before .args .at) _ _ (c .before .before .wide .ensures .0) (c .wide2 .ensures .0)
+returns c = two-law (now (c .before .before .args .s)) (c .before .before .args .at) _ (c .word-at .ensures)
 
 pub two-at-spec : {M : Type 1} → statement M
-two-at-spec =
-    tie.close
-    (tie.spec
-    shared-slice-read-wide
-    wide-requires
-    mul-result
-    add-wide
-    shared-slice-read-wide-2
-    wide-requires-2
-    add-result
-    cast-result
-    returns)
+two-at-spec = tie.close (tie.spec word-at-requires returns)

@@ -1,0 +1,5 @@
+pub mod WordLaws
+pub mod NextLaws
+pub mod ScanLaws
+pub mod GrowLaws
+pub mod AnswerLaws

@@ -1,0 +1,5 @@
+pub mod Tables
+pub mod Shape
+pub mod Back
+pub mod Turns
+pub mod Bodies
