@@ -8,28 +8,28 @@ use Rattle.rule_items.proofs.equal_item.Statement.{statement}
 use Rattle.rule_items.proofs.equal_item.Tie as tie
 
 size16-requires : tie.Need-size16-requires
-size16-requires c κs = search needs
+size16-requires c κs = tt
 
 size16-requires-2 : tie.Need-size16-requires-2
-size16-requires-2 c κs = search needs
+size16-requires-2 c κs = tt
 
 add-total : tie.Need-add-total
 add-total c = search needs
 
 size16-requires-3 : tie.Need-size16-requires-3
-size16-requires-3 c κs = search needs
+size16-requires-3 c κs = tt
 
 refuse-requires : tie.Need-refuse-requires
-refuse-requires c κs = search needs
+refuse-requires c κs = tt
 
 returns : tie.Need-returns
 returns c = λ m tail sites rows words kids l W. equal-first _ _ _ _ _ _ _ _ _ _ _ _ _ W _ _ _ (let x = c .before .if1 .taken in let a = c .before .before .before .before .size16 .ensures in let b = c .before .before .before .size162 .ensures in let d = c .before .before .size163 .ensures in omega arith) (c .refuse .ensures) _
 
 size16-requires-4 : tie.Need-size16-requires-4
-size16-requires-4 c κs = search needs
+size16-requires-4 c κs = tt
 
 refuse-requires-2 : tie.Need-refuse-requires-2
-refuse-requires-2 c κs = search needs
+refuse-requires-2 c κs = tt
 
 returns-2 : tie.Need-returns-2
 returns-2 c = λ m tail sites rows words kids l W. equal-second _ _ _ _ _ _ _ _ _ _ _ _ _ W _ _ _ (let x = c .before .before .before .if1 .left in let a = c .before .before .before .before .before .before .size16 .ensures in let b = c .before .before .before .before .before .size162 .ensures in let d = c .before .before .before .before .size163 .ensures in omega arith) (let x = c .before .if2 .taken in let a = c .before .before .before .before .before .before .size16 .ensures in let b = c .before .before .before .before .before .size162 .ensures in let d = c .before .before .size164 .ensures in omega arith) (c .refuse2 .ensures) _

@@ -8,25 +8,25 @@ use Rattle.rule_items.proofs.is_item.Statement.{statement}
 use Rattle.rule_items.proofs.is_item.Tie as tie
 
 size16-requires : tie.Need-size16-requires
-size16-requires c κs = search needs
+size16-requires c κs = tt
 
 size16-requires-2 : tie.Need-size16-requires-2
-size16-requires-2 c κs = search needs
+size16-requires-2 c κs = tt
 
 add-if1 : tie.Need-add-if1
 add-if1 c = search needs
 
 size16-requires-3 : tie.Need-size16-requires-3
-size16-requires-3 c κs = search needs
+size16-requires-3 c κs = tt
 
 refuse-requires : tie.Need-refuse-requires
-refuse-requires c κs = search needs
+refuse-requires c κs = tt
 
 returns : tie.Need-returns
 returns c = ((λ eqs l W. is-unknown _ _ _ _ _ _ _ _ _ _ _ _ _ W _ _ _ (let x = c .before .if1 .taken in let a = c .before .before .before .before .size16 .ensures in let b = c .before .before .before .size162 .ensures in let d = c .before .before .size163 .ensures in omega arith) (c .refuse .ensures) _ _ _ _ _), λ I. I)
 
 field-count-requires : tie.Need-field-count-requires
-field-count-requires c κs = search needs
+field-count-requires c κs = tt
 
 cast-t23 : tie.Need-cast-t23
 cast-t23 c = search needs
@@ -35,13 +35,13 @@ cast-t24 : tie.Need-cast-t24
 cast-t24 c = search needs
 
 refuse-requires-2 : tie.Need-refuse-requires-2
-refuse-requires-2 c κs = search needs
+refuse-requires-2 c κs = tt
 
 returns-2 : tie.Need-returns-2
 returns-2 c = ((λ eqs l W. is-wide _ _ _ _ _ _ _ _ _ _ _ _ _ W _ _ _ (let x = c .before .before .before .if1 .left in let a = c .before .before .before .before .before .before .size16 .ensures in let b = c .before .before .before .before .before .size162 .ensures in let d = c .before .before .before .before .size163 .ensures in omega arith) _ (c .before .before .field-count .ensures .0) (let a = c .before .if2 .taken in omega arith) (c .refuse2 .ensures) _ _ _ _ _), λ I. I)
 
 look-requires : tie.Need-look-requires
-look-requires c κs = search needs
+look-requires c κs = tt
 
 enum-told : tie.Need-enum-told
 enum-told c = search needs
@@ -53,7 +53,7 @@ enum-known-there : tie.Need-enum-known-there
 enum-known-there c = search needs
 
 same-row-requires : tie.Need-same-row-requires
-same-row-requires c κs = search needs
+same-row-requires c κs = tt
 
 same-length : tie.Need-same-length
 same-length c = search needs
@@ -68,7 +68,7 @@ returns-3 : tie.Need-returns-3
 returns-3 c = ((λ eqs l W. is-same _ _ _ _ _ _ _ _ _ _ _ _ _ W _ (c .before .before .before .before .before .before .before .before .before .before .before .before .before .before .before .before .before .before .before .before .before .args .c) _ (let x = c .before .before .before .before .before .before .before .before .before .before .before .if1 .left in let a = c .before .before .before .before .before .before .before .before .before .before .before .before .before .before .size16 .ensures in let b = c .before .before .before .before .before .before .before .before .before .before .before .before .before .size162 .ensures in let d = c .before .before .before .before .before .before .before .before .before .before .before .before .size163 .ensures in omega arith) (let x = c .before .before .before .before .before .before .before .before .before .if2 .left in let y = c .before .before .before .before .before .before .before .before .before .before .field-count .ensures .0 in omega arith) _ _ _ (c .before .before .before .before .before .before .look .ensures) (c .before .before .before .before .there .given .1) (c .before .same-row .ensures) (c .if3 .taken) (c .before .before .before .before .before .before .before .before .before .before .before .before .before .before .before .before .before .before .before .before .before .pre .item) refl refl refl refl), λ I. I)
 
 refuse-requires-3 : tie.Need-refuse-requires-3
-refuse-requires-3 c κs = search needs
+refuse-requires-3 c κs = tt
 
 same-length-4 : tie.Need-same-length-4
 same-length-4 c = search needs
