@@ -1,78 +1,31 @@
--- What the code finds over roots is what paper says over labels: checks 4 and 6.
-use mathlib.Core.Path.{_≡_, refl, sym, ap, _∙_, subst, subst⁻¹}
-use mathlib.Core.Bool.{Bool, true, false, not}
+-- What the code finds over roots is what paper says over labels: check 6.
+use mathlib.Core.Path.{_≡_, refl, sym, ap, _∙_, subst}
+use mathlib.Core.Bool.{Bool, true, false}
 use mathlib.Core.Option.{Option, none, some}
-use mathlib.Core.Logic.{_↔_, _⊎_, inl, inr}
-use mathlib.Core.List.{List, [], _∷_, _++_, map, List·Memᴰ, List·Memᴰ·head, List·Memᴰ·tail, List·Memᴰ·append-cases, Memᴰ·append-left, Memᴰ·append-right, Memᴰ·map, Memᴰ·of-map}
-use Prim.Native.Nat.{ℕ, zero, suc, _+_, _/_, _≤_, _<_, min}
+use mathlib.Core.Logic.{_⊎_, inl, inr}
+use mathlib.Core.List.{List, [], _∷_, map, List·Memᴰ, List·Memᴰ·head, List·Memᴰ·tail, List·Memᴰ·append-cases, Memᴰ·append-left, Memᴰ·append-right, Memᴰ·map, Memᴰ·of-map}
+use Prim.Native.Nat.{ℕ, _≤_, _<_, min}
 use native.Mathlib.Omega.{arith}
-use native.Mathlib.Nat.{not-suc-le-zero}
-use native.Mathlib.Decide.{ℕ-discrete, decLt}
-use lib.ListN.{length, getD}
-use lib.Dec.{eqb}
-use borrow.Author.Tests.{eqb-true, eq-eqb, ne-eqb}
-use Rattle.paper.specs.declared.Refusal.the-variants.{Unreachable, Endless}
+use native.Mathlib.Decide.{decLt}
+use lib.ListN.{getD}
 use Rattle.paper.specs.Words.{below, first, keep, least, joined, Edges, Walk, one, more, returns}
 use Rattle.paper.proofs.Walks.{returns-is}
-use Rattle.paper.specs.Numbers.{max-sites, Outcome, done, refused, _>>=_}
+use Rattle.paper.specs.Numbers.{max-sites}
 use Rattle.paper.specs.Sites.{same-constraint}
 use Rattle.paper.proofs.Laws.{same-constraint-true}
-use Rattle.paper.proofs.Labels.{Sound}
-use Rattle.paper.specs.Loading.{Holder, Labels, Together, lowest, closure-of, first-holder, differs, conflict, told-4, check-4, steps, endless, no-endless}
-use Rattle.paper.proofs.Closure.{in-below, of-below, closure-of-is, closure-sound}
+use Rattle.paper.specs.Loading.{Holder, Labels, lowest, steps, endless, no-endless}
+use Rattle.paper.proofs.Closure.{in-below, of-below}
 use Rattle.classes.specs.Answers.{rep}
-use Rattle.rule_check.specs.declared.Clash.{Clash}
-use Rattle.rule_check.specs.declared.Clash.the-variants.{At, Nothing}
-use Rattle.rule_check.specs.declared.Verdict.{Verdict}
-use Rattle.rule_check.specs.declared.Verdict.the-variants.{Passes, Refused}
-use Rattle.rule_check.specs.Holding.{Held, held, bare, chart, kid-count, kid-in, site-of, row-of, shape-of, count-of, kid-of, holder-in, holders-to, eqs-in, class-check, verdict-of}
-use Rattle.rule_check.specs.Growing.{One, Inside, Rest}
-use Rattle.rule_check.specs.Meeting.{Reps, FirstOf, Like, Unlike, ClashAt, ClashIs, BossTo, Seated}
-use Rattle.rule_check.specs.Search.{Edge, Path, edge, then, Ready, Lowest, Of, WalksIs, none-of, none-at, from}
-use Rattle.rule_check.proofs.Reading.{kid-inside}
-use Rattle.rule_check.proofs.Turning.{in-holders, of-holders, same-count, kids-joined}
+use Rattle.paper.specs.declared.Verdict.{Verdict}
+use Rattle.rule_rows.specs.Holding.{Held, bare, site-of, shape-of, count-of, kid-of, holder-in, holders-to, class-check, verdict-of, Inside}
+use Rattle.rule_classes.specs.Growing.{Rest}
+use Rattle.rule_classes.specs.Meeting.{Reps, Like, Seated}
+use Rattle.rule_check.specs.Search.{Edge, Path, edge, then, Of, WalksIs, none-of, none-at, from}
+use Rattle.rule_rows.proofs.Holders.{in-holders, of-holders, same-count}
+use Rattle.rule_classes.proofs.Turning.{kids-joined}
+use Rattle.rule_classes.proofs.Clashing.{labels, Agree, no-clash}
 
 -- ---- lists
-
-first-more : {A : Type 0} (P : A → Bool) (xs ys : List A) (a : A) → first P xs ≡ some a → first P (xs ++ ys) ≡ some a
-unfolding first
-first-more P [] ys a e = let z : _≡_ {A = ℕ} 0 1 = cc in absurd (omega arith)
-first-more {A} P (x ∷ xs) ys a e = go (P x) refl (λ q. first-more P xs ys a q) e
-  where
-    go : (t : Bool) → P x ≡ t → (first P xs ≡ some a → first P (xs ++ ys) ≡ some a) → elim t as (λ _. Option A) [ true ↦ some x | false ↦ first P xs ] ≡ some a → first P (x ∷ (xs ++ ys)) ≡ some a
-    go true p h q = rw (p, first) q
-    go false p h q = rw (p, first) (h q)
-
-first-last : {A : Type 0} (P : A → Bool) (xs : List A) (x : A) (o : Option A) → first P xs ≡ none → first P (x ∷ []) ≡ o → first P (xs ++ (x ∷ [])) ≡ o
-unfolding first
-first-last P [] x o e f = f
-first-last {A} P (y ∷ xs) x o e f = go (P y) refl (λ q. first-last P xs x o q f) e
-  where
-    go : (t : Bool) → P y ≡ t → (first P xs ≡ none → first P (xs ++ (x ∷ [])) ≡ o) → _≡_ {A = Option A} (elim t as (λ _. Option A) [ true ↦ some y | false ↦ first P xs ]) none → first P (y ∷ (xs ++ (x ∷ []))) ≡ o
-    go true p h q = let z : _≡_ {A = ℕ} 0 1 = cc in absurd (omega arith)
-    go false p h q = rw (p, first) (h q)
-
-first-yes : {A : Type 0} (P : A → Bool) (x : A) → P x ≡ true → first P (x ∷ []) ≡ some x
-unfolding first
-first-yes P x e = rw (e, first)
-
-first-no : {A : Type 0} (P : A → Bool) (x : A) → P x ≡ false → first P (x ∷ []) ≡ none
-unfolding first
-first-no P x e = rw (e, first)
-
-first-none : {A : Type 0} (P : A → Bool) (f : ℕ → A) (n : ℕ) → ((g : ℕ) → g < n → P (f g) ≡ false) → first P (below n f) ≡ none
-unfolding below first
-first-none P f zero h = refl
-first-none P f (suc n) h = first-last P (below n f) (f n) none (first-none P f n (λ g l. h g (omega arith))) (first-no P (f n) (h n (omega arith)))
-
-first-below : {A : Type 0} (P : A → Bool) (f : ℕ → A) (n h : ℕ) → h < n → P (f h) ≡ true → ((g : ℕ) → g < h → P (f g) ≡ false) → first P (below n f) ≡ some (f h)
-unfolding below
-first-below P f zero h l e N = absurd (not-suc-le-zero l)
-first-below P f (suc n) h l e N = go (λ k. first-below P f n h k e N) (ℕ-discrete h n)
-  where
-    go : (h < n → first P (below n f) ≡ some (f h)) → Dec (h ≡ n) → first P (below n f ++ (f n ∷ [])) ≡ some (f h)
-    go r (yes q) = first-last P (below n f) (f n) (some (f h)) (first-none P f n (λ g k. N g (omega arith))) (rw q (first-yes P (f n) (rw q at e)))
-    go r (no d) = first-more P (below n f) (f n ∷ []) (f h) (r (omega arith))
 
 in-joined : {A : Type 0} (xss : List (List A)) (xs : List A) (x : A) → List·Memᴰ xs xss → List·Memᴰ x xs → List·Memᴰ x (joined xss)
 unfolding joined
@@ -170,67 +123,14 @@ endless-some es z w h =
     (in-keep (returns es) (map (λ e. e .0) es) z (returns-is es z .1 w) (Memᴰ·map (λ (e : ℕ × ℕ). e .0) (f .1)))
     (λ x m. h x (returns-is es x .0 (of-keep (returns es) (map (λ e. e .0) es) x m)))
 
--- ---- over the classes of q, which are exactly the least equivalence
+-- ---- over the classes of q, which are the labels
 
-module _ (H : Held) (E : List (ℕ × ℕ)) (q : List ℕ) (m : ℕ) (exact : (u v : ℕ) → One q u v ↔ Together E (holders-to H m) u v) (IS : Inside (H .sites)) (IK : Inside (H .kids)) where
+module _ (H : Held) (E : List (ℕ × ℕ)) (q : List ℕ) (m : ℕ) (A : Agree H E q m) (IS : Inside (H .sites)) where
   abbrev hs : List Holder
   hs = holders-to H m
 
-  k : Labels
-  k = closure-of max-sites E hs
-
-  inside : (h : Holder) → List·Memᴰ h hs → (n : ℕ) → List·Memᴰ n (h .kids) → n < max-sites
-  inside h l n b =
-      let w = of-holders H m h l in
-      let b' : List·Memᴰ n (holder-in H (w .0) .kids) = subst (λ (x : Holder). List·Memᴰ n (x .kids)) (w .2) b in
-      let v = of-below (count-of H (w .0)) (kid-of H (w .0)) n b' in
-      rw (v .2) (kid-inside (H .kids) (row-of H (w .0)) (v .0) IK)
-
-  to : (u v : ℕ) → One q u v → lowest k u ≡ lowest k v
-  unfolding k
-  to u v o = closure-of-is max-sites E hs inside u v .1 (exact u v .0 o)
-
-  fro : (u v : ℕ) → lowest k u ≡ lowest k v → One q u v
-  unfolding k
-  fro u v e = exact u v .1 (closure-of-is max-sites E hs inside u v .0 e)
-
-  sound : Sound k
-  unfolding k
-  sound = closure-sound max-sites E hs inside
-
-  -- ---- 4
-
-  first-is : (g h : ℕ) → h < m → FirstOf (bare (H .sites) (H .rows) (H .words)) q g h → first-holder k hs (lowest k (site-of H h)) ≡ some (holder-in H g)
-  unfolding first-holder holders-to
-  first-is g h l F =
-      first-below (λ x. eqb (lowest k (x .site)) (lowest k (site-of H h))) (holder-in H) m g (let b = F .before in omega arith)
-      (eq-eqb _ _ (to (site-of H g) (site-of H h) (F .one)))
-      (λ f i. ne-eqb _ _ (λ e. F .least f i (fro (site-of H f) (site-of H h) e)))
-
-  unlike-is : (h g : ℕ) → h < m → Unlike (bare (H .sites) (H .rows) (H .words)) q h g → differs (holder-in H h) (first-holder k hs (lowest k (site-of H h))) ≡ true
-  unlike-is h g l U = rw (first-is g h l (U .first), U .differ)
-
-  like-is : (h : ℕ) → h < m → Like (bare (H .sites) (H .rows) (H .words)) q h → differs (holder-in H h) (first-holder k hs (lowest k (site-of H h))) ≡ false
-  like-is h l L = rw (first-is (L .boss) h l (L .first), L .same)
-
-  clash-found : (s b : ℕ) (C : ClashAt (bare (H .sites) (H .rows) (H .words)) q m s b) → conflict k hs ≡ some (holder-in H (C .at))
-  unfolding conflict holders-to
-  clash-found s b C =
-      first-below (λ x. differs x (first-holder k hs (lowest k (x .site)))) (holder-in H) m (C .at) (C .among)
-      (unlike-is (C .at) (C .boss) (C .among) (C .unlike))
-      (λ f i. like-is f (let a = C .among in omega arith) (C .likes f i))
-
-  clash : (s b : ℕ) → ClashAt (bare (H .sites) (H .rows) (H .words)) q m s b → check-4 k hs (conflict k hs) ≡ refused (Unreachable s b)
-  clash s b C = ap (check-4 k hs) (clash-found s b C) ∙ (ap (told-4 (site-of H (C .at))) (first-is (C .boss) (C .at) (C .among) (C .unlike .first)) ∙ rw (C .site, C .other))
-
-  none-found : ((h : ℕ) → h < m → Like (bare (H .sites) (H .rows) (H .words)) q h) → conflict k hs ≡ none
-  unfolding conflict holders-to
-  none-found L = first-none (λ x. differs x (first-holder k hs (lowest k (x .site)))) (holder-in H) m (λ h l. like-is h l (L h l))
-
-  no-clash : ((h : ℕ) → h < m → Like (bare (H .sites) (H .rows) (H .words)) q h) → check-4 k hs (conflict k hs) ≡ done tt
-  no-clash L = ap (check-4 k hs) (none-found L)
-
-  -- ---- 6
+  abbrev k : Labels
+  k = labels H E m
 
   in-steps : (h f : ℕ) → h < m → f < count-of H h → List·Memᴰ (lowest k (site-of H h), lowest k (kid-of H h f)) (steps k hs)
   unfolding steps
@@ -276,17 +176,17 @@ module _ (H : Held) (E : List (ℕ × ℕ)) (q : List ℕ) (m : ℕ) (exact : (u
 
   module _ (boss : List ℕ) (R : Reps q) (T : Seated (bare (H .sites) (H .rows) (H .words)) q boss m) (rest : (h : ℕ) → h < m → Rest H q h) where
     low-rep : (x : ℕ) → lowest k (rep q x) ≡ lowest k x
-    low-rep x = to (rep q x) x (R .again x)
+    low-rep x = A .to (rep q x) x (R .again x)
 
     rep-low : (x : ℕ) → rep q (lowest k x) ≡ rep q x
-    rep-low x = fro (lowest k x) x (sound .function .idem x)
+    rep-low x = A .fro (lowest k x) x (A .sound .function .idem x)
 
     -- a step from root to root is a step from label to label
     edge-step : (a b : ℕ) → Edge (Of H) q boss a b → List·Memᴰ (lowest k a, lowest k b) (steps k hs)
     edge-step a b e =
         let g = getD boss a 0 in
         let B = T .bosses in
-        let ea : lowest k a ≡ lowest k (site-of H g) = to a (site-of H g) (sym (ap (rep q) (B .one a (e .root) (e .there))) ∙ R .again (site-of H g)) in
+        let ea : lowest k a ≡ lowest k (site-of H g) = A .to a (site-of H g) (sym (ap (rep q) (B .one a (e .root) (e .there))) ∙ R .again (site-of H g)) in
         let eb : lowest k b ≡ lowest k (kid-of H g (e .place)) = ap (lowest k) (e .to) ∙ low-rep (kid-of H g (e .place)) in
         rw (ea, eb) (in-steps g (e .place) (B .below a (e .root) (e .there)) (e .in-range))
 
@@ -364,15 +264,11 @@ module _ (H : Held) (E : List (ℕ × ℕ)) (q : List ℕ) (m : ℕ) (exact : (u
           where
             go : Dec (lowest k z < z) → lowest k z ≡ z
             go (yes l) = absurd (L .least (lowest k z) l (omega arith) (rw (rep-low z) (L .returns hz)))
-            go (no d) = let h = sound .function .low z in omega arith
+            go (no d) = let h = A .sound .function .low z in omega arith
 
         walk : Walk (steps k hs) z z
         walk = let e : lowest k (rep q z) ≡ z = low-rep z ∙ own in rw e at (path-walk (L .returns hz))
 
     pub answer-walks : (v : Verdict) → WalksIs H q boss m v → verdict-of v ≡ class-check E hs
-    unfolding class-check k
-    answer-walks v W = sym (rw (no-clash (T .likes)) (walks-told v W))
-
-  pub answer-clash : (s b : ℕ) → ClashIs (bare (H .sites) (H .rows) (H .words)) q m (At s b) → verdict-of (Refused (Unreachable s b)) ≡ class-check E hs
-  unfolding class-check k ClashIs
-  answer-clash s b C = sym (rw (clash s b C))
+    unfolding class-check labels
+    answer-walks v W = sym (rw (no-clash H E q m A (T .likes)) (walks-told v W))

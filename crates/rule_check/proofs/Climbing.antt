@@ -10,13 +10,13 @@ use native.Mathlib.Decide.{ℕ-discrete}
 use lib.ListN.{length, getD}
 use lib.Dec.{eqb}
 use borrow.Author.Tests.{eqb-true, ne-eqb}
-use Rattle.paper.specs.Words.{look, below, first, joined, pairs, Edges, Walk, one, more}
+use Rattle.paper.specs.Words.{look, below, first, pairs, Edges, Walk, one, more}
 use Rattle.paper.specs.Numbers.{max-sites, done}
 use Rattle.paper.specs.Loading.{Holder, Labels, lowest, join-all, alike, turn, pass, same-classes, close, closure-of, first-holder, differs, conflict, steps, endless}
 use Rattle.paper.proofs.Closure.{in-pairs, of-below}
 use Rattle.rule_words.proofs.PackLaws.{same-refl}
-use Rattle.rule_check.specs.Holding.{Held, held, kid-count, kid-in, site-of, count-of, kid-of, holder-in, holders-to, how-many, holders-in, eqs-in, class-check}
-use Rattle.rule_check.proofs.Turning.{of-holders}
+use Rattle.rule_rows.specs.Holding.{Held, held, kid-count, kid-in, site-of, count-of, kid-of, holder-in, holders-to, how-many, holders-in, eqs-in, class-check}
+use Rattle.rule_rows.proofs.Holders.{of-holders}
 use Rattle.rule_check.proofs.Answering.{of-joined, endless-none}
 
 -- ---- the law, of any list of holders
@@ -170,9 +170,6 @@ fewer : (H : Held) (m n : ℕ) → n ≤ m → Climbs H m → Climbs H n
 fewer H m n l C = record { ascend = λ g h a b. C .ascend g h a (omega arith); higher = λ h f a. C .higher h f (omega arith) }
 
 -- ---- the loops
-
-pub kid-higher : (kids : List ℕ) (i f k s : ℕ) → k ≡ kid-in kids i f → s < k → s < kid-in kids i f
-kid-higher kids i f k s e h = rw e at h
 
 -- the first h of m climb, and their sites are below next
 pub record ClimbsTo (H : Held) (m next h : ℕ) : Type 0 where

@@ -1,121 +1,58 @@
--- The whole: the classes that the code makes, and what it answers of them.
-use mathlib.Core.Path.{_≡_, refl, sym, ap, _∙_, subst, subst⁻¹}
-use mathlib.Core.Option.{Option, none, some}
-use mathlib.Core.Bool.{Bool, true, false}
-use mathlib.Core.Logic.{_↔_}
-use mathlib.Core.List.{List, [], _++_}
-use Prim.Native.Nat.{ℕ, _/_, _≤_, _<_, min}
-use native.Mathlib.Omega.{arith}
+-- The whole: what is answered of the classes, and where none need be made.
+use mathlib.Core.Path.{_≡_, sym, ap, _∙_, subst}
+use mathlib.Core.Option.{none}
+use mathlib.Core.List.{List, _++_}
+use Prim.Native.Nat.{ℕ, _≤_, _<_, min}
 use lib.ListN.{length, getD}
-use Rattle.paper.specs.declared.Refusal.the-variants.{Unknown, Unreachable}
-use Rattle.paper.specs.Words.{or-else, below, pairs}
-use Rattle.paper.specs.Numbers.{max-sites, Outcome, done, refused, _>>=_}
-use Rattle.paper.specs.Classes.{Classes, classes, no-classes}
-use Rattle.paper.specs.Loading.{Holder, Labels, Together, lowest, join-all, pass, same-classes, close, closure-of}
-use Rattle.paper.proofs.Closure.{closure-of-is}
-use Rattle.classes.specs.Well.{Well}
-use Rattle.classes.proofs.Uniting.{rep-rep, rep-inside}
-use Rattle.rule_check.specs.declared.Clash.{Clash}
-use Rattle.rule_check.specs.declared.Clash.the-variants.{At, Nothing}
-use Rattle.rule_check.specs.declared.Verdict.{Verdict}
-use Rattle.rule_check.specs.declared.Verdict.the-variants.{Passes, Refused}
-use Rattle.rule_check.specs.Holding.{Held, held, bare, how-many, holders-to, holders-in, eqs-in, class-check, stray, checked, verdict-of, merge-each}
-use Rattle.rule_check.specs.Growing.{One, Inside, Closed}
-use Rattle.rule_check.specs.Meeting.{Reps, ClashIs, Seated}
+use Rattle.paper.specs.declared.Refusal.{Refusal}
+use Rattle.paper.specs.declared.Verdict.{Verdict}
+use Rattle.paper.specs.declared.Verdict.the-variants.{Fine, Refused}
+use Rattle.paper.specs.Numbers.{max-sites, done, refused}
+use Rattle.rule_rows.specs.Holding.{Held, how-many, holders-in, eqs-in, Inside, class-check, stray, checked, verdict-of}
+use Rattle.rule_rows.proofs.Reading.{strays-are, low-clean, clean-inside}
+use Rattle.rule_classes.specs.Meeting.{Classed, Grouped}
+use Rattle.rule_classes.proofs.Clashing.{agree}
 use Rattle.rule_check.specs.Search.{Ready, AllNamed, WalksIs}
-use Rattle.rule_check.proofs.Reading.{or-first, stray-append, told-stray, told-clean}
-use Rattle.rule_check.proofs.Joining.{Starts, written-starts}
-use Rattle.rule_check.proofs.Turning.{exactly}
 use Rattle.rule_check.proofs.Naming.{all-named}
-use Rattle.rule_check.proofs.Answering.{answer-clash, answer-walks}
+use Rattle.rule_check.proofs.Answering.{answer-walks}
 
-starts-as : (eqs : List ℕ) (hs : List Holder) (c : Classes) → Inside eqs → c ≡ merge-each no-classes (eqs-in eqs) → Starts eqs hs c (length eqs / 2)
-starts-as eqs hs c I e = subst⁻¹ (λ (d : Classes). Starts eqs hs d (length eqs / 2)) e (written-starts eqs hs I)
+-- ---- where no classes need be made
 
-pub start-well : (eqs p r : List ℕ) (n : ℕ) → Inside eqs → classes p r n ≡ merge-each no-classes (eqs-in eqs) → Well p r n
-start-well eqs p r n I e = starts-as eqs (holders-to (held eqs eqs eqs eqs) 0) (classes p r n) I e .well
+pub low-strays : (xs ys zs : List ℕ) (a b d : ℕ) → ((k : ℕ) → getD xs k 0 ≤ a) → a < max-sites → ((k : ℕ) → getD ys k 0 ≤ b) → b < max-sites → ((k : ℕ) → getD zs k 0 ≤ d) → d < max-sites
+    → stray (xs ++ (ys ++ zs)) ≡ none
+low-strays xs ys zs a b d ha la hb lb hd ld = rw (strays-are xs ys zs, low-clean xs a ha la, low-clean ys b hb lb, low-clean zs d hd ld)
 
--- what `written` makes of no classes: exactly the least equivalence that holds the written equalities
-pub written-exactly : (eqs : List ℕ) → Inside eqs → (u v : ℕ) → One (merge-each no-classes (eqs-in eqs) .parents) u v ↔ Together (eqs-in eqs) [] u v
-unfolding holders-to below
-written-exactly eqs I u v = exactly H eqs c (c .parents) (c .ranks) (c .count) 0 S (record { well = S .well; grows = λ a b o. o; sound = λ E R. R; rest = λ h l. absurd (omega arith) }) u v
-  where
-    H : Held
-    H = held [] [] [] []
+pub no-stray-at : (eqs : List ℕ) (H : Held) (v : Verdict) → stray (eqs ++ (H .sites ++ H .kids)) ≡ none → verdict-of v ≡ class-check (eqs-in eqs) (holders-in H) → verdict-of v ≡ checked eqs H
+unfolding checked
+no-stray-at eqs H v s e = e ∙ sym (rw s)
 
-    c : Classes
-    c = merge-each no-classes (eqs-in eqs)
+-- ---- by the classes
 
-    S : Starts eqs (holders-to H 0) c (length eqs / 2)
-    S = written-starts eqs (holders-to H 0) I
+module _ (eqs : List ℕ) (H : Held) (p boss : List ℕ) (g : Verdict) (G : Grouped eqs H p boss g) where
+  pub judge-refused : (e : Refusal) → g ≡ Refused e → verdict-of (Refused e) ≡ checked eqs H
+  judge-refused e q = let K : checked eqs H ≡ refused e = rw q at G in sym K
 
--- and so the labels that paper's rounds start from
-no-holders : (E : List (ℕ × ℕ)) → closure-of 0 E [] ≡ join-all [] E
-unfolding closure-of close pass pairs
-no-holders E = go (same-classes k k)
-  where
-    k : Labels
-    k = join-all [] E
+  module _ (q : g ≡ Fine) where
+    C : Classed eqs H p boss
+    C = let K : Grouped eqs H p boss Fine = rw q at G in K .1
 
-    go : (t : Bool) → elim t as (λ _. Labels) [ true ↦ k | false ↦ k ] ≡ k
-    go true = refl
-    go false = refl
+    clean : stray (eqs ++ (H .sites ++ H .kids)) ≡ none
+    clean = let K : Grouped eqs H p boss Fine = rw q at G in K .0
 
-pub written-labels : (eqs : List ℕ) → Inside eqs → (u v : ℕ)
-    → One (merge-each no-classes (eqs-in eqs) .parents) u v ↔ (lowest (join-all [] (eqs-in eqs)) u ≡ lowest (join-all [] (eqs-in eqs)) v)
-written-labels eqs I u v =
-    let w = written-exactly eqs I u v in
-    let c : (lowest (join-all [] (eqs-in eqs)) u ≡ lowest (join-all [] (eqs-in eqs)) v) ↔ Together (eqs-in eqs) [] u v = rw no-holders at (closure-of-is 0 (eqs-in eqs) [] (λ h m. elim m [ ]) u v) in
-    (λ o. c .1 (w .0 o), λ e. w .1 (c .0 e))
+    pub inside-sites : Inside (H .sites)
+    inside-sites = clean-inside eqs (H .sites) (H .kids) clean .0
 
-pub reps-of : (H : Held) (p q r : List ℕ) (n m : ℕ) → Closed H p q r n m → Reps q
-reps-of H p q r n m C = record { inside = rep-inside q r n (C .well); again = rep-rep q r n (C .well) }
+    inside-kids : Inside (H .kids)
+    inside-kids = clean-inside eqs (H .sites) (H .kids) clean .1
 
-module _ (H : Held) (eqs p r : List ℕ) (n : ℕ) (I : Inside eqs × (Inside (H .sites) × Inside (H .kids))) (e : classes p r n ≡ merge-each no-classes (eqs-in eqs))
-    (m w : ℕ) (em : m ≡ how-many H) (ew : w ≡ m) (q s : List ℕ) (k : ℕ) (C : Closed H p q s k w) where
-  C' : Closed H p q s k (how-many H)
-  C' = subst (λ (x : ℕ). Closed H p q s k x) (ew ∙ em) C
+    pub judge-ready : Ready p (H .kids)
+    judge-ready = record { reps = C .reps; inside = inside-kids }
 
-  S : Starts eqs (holders-in H) (classes p r n) (length eqs / 2)
-  S = starts-as eqs (holders-in H) (classes p r n) (I .0) e
+    pub judge-named : AllNamed p boss eqs (H .sites) (H .kids)
+    judge-named = all-named H eqs p (how-many H) (C .exact) (C .reps) boss (how-many H) (C .seated)
 
-  pub judge-clash : (x : Clash) (a b : ℕ) → x ≡ At a b → ClashIs (bare (H .sites) (H .rows) (H .words)) q m x → verdict-of (Refused (Unreachable a b)) ≡ class-check (eqs-in eqs) (holders-in H)
-  judge-clash x a b ex K =
-      let K' : ClashIs (bare (H .sites) (H .rows) (H .words)) q (how-many H) (At a b) = rw (ex, em) at K in
-      answer-clash H (eqs-in eqs) q (how-many H) (exactly H eqs (classes p r n) q s k (how-many H) S C') (I .1 .0) (I .1 .1) a b K'
-
-  pub judge-named : (boss : List ℕ) → Seated (bare (H .sites) (H .rows) (H .words)) q boss m → AllNamed q boss eqs (H .sites) (H .kids)
-  judge-named boss T = all-named H eqs q (how-many H) (exactly H eqs (classes p r n) q s k (how-many H) S C') (reps-of H p q s k w C) boss m T
-
-  pub judge-walks : (boss : List ℕ) (y : ℕ) (v : Verdict) → Seated (bare (H .sites) (H .rows) (H .words)) q boss m → y ≡ m → WalksIs H q boss y v → verdict-of v ≡ class-check (eqs-in eqs) (holders-in H)
-  judge-walks boss y v T ey W =
-      answer-walks H (eqs-in eqs) q (how-many H) (exactly H eqs (classes p r n) q s k (how-many H) S C') (I .1 .0) (I .1 .1) boss (reps-of H p q s k w C) (rw em at T) (C' .rest) v
-      (subst (λ (x : ℕ). WalksIs H q boss x v) (ey ∙ em) W)
-
--- ---- 2 before all else
-
-module _ (eqs : List ℕ) (H : Held) (a : ℕ) (ea : a ≡ or-else (stray eqs) 0) where
-  strays-are : stray (eqs ++ (H .sites ++ H .kids)) ≡ or-first (stray eqs) (or-first (stray (H .sites)) (stray (H .kids)))
-  strays-are = stray-append eqs (H .sites ++ H .kids) ∙ ap (or-first (stray eqs)) (stray-append (H .sites) (H .kids))
-
-  pub stray-eqs : (a ≡ 0 → ⊥) → verdict-of (Refused (Unknown a)) ≡ checked eqs H
-  unfolding checked
-  stray-eqs n = sym (rw (strays-are, told-stray eqs a ea n))
-
-  module _ (za : a ≡ 0) (b : ℕ) (eb : b ≡ or-else (stray (H .sites)) 0) where
-    pub stray-sites : (b ≡ 0 → ⊥) → verdict-of (Refused (Unknown b)) ≡ checked eqs H
-    unfolding checked
-    stray-sites n = sym (rw (strays-are, told-clean eqs a ea za .0, told-stray (H .sites) b eb n))
-
-    module _ (zb : b ≡ 0) (d : ℕ) (ed : d ≡ or-else (stray (H .kids)) 0) where
-      pub stray-kids : (d ≡ 0 → ⊥) → verdict-of (Refused (Unknown d)) ≡ checked eqs H
-      unfolding checked
-      stray-kids n = sym (rw (strays-are, told-clean eqs a ea za .0, told-clean (H .sites) b eb zb .0, told-stray (H .kids) d ed n))
-
-      module _ (zd : d ≡ 0) where
-        pub all-inside : Inside eqs × (Inside (H .sites) × Inside (H .kids))
-        all-inside = (told-clean eqs a ea za .1, (told-clean (H .sites) b eb zb .1, told-clean (H .kids) d ed zd .1))
-
-        pub no-stray-at : (v : Verdict) → verdict-of v ≡ class-check (eqs-in eqs) (holders-in H) → verdict-of v ≡ checked eqs H
-        unfolding checked
-        no-stray-at v e = e ∙ sym (rw (strays-are, told-clean eqs a ea za .0, told-clean (H .sites) b eb zb .0, told-clean (H .kids) d ed zd .0))
+    pub judge-walks : (m w : ℕ) (v : Verdict) → m ≡ how-many H → w ≡ m → WalksIs H p boss w v → verdict-of v ≡ checked eqs H
+    judge-walks m w v em ew W =
+        no-stray-at eqs H v clean
+        (answer-walks H (eqs-in eqs) p (how-many H) (agree H (eqs-in eqs) p (how-many H) (C .exact) inside-kids) inside-sites boss (C .reps) (C .seated) (C .rest) v
+        (subst (λ (x : ℕ). WalksIs H p boss x v) (ew ∙ em) W))

@@ -13,11 +13,11 @@ use Rattle.paper.specs.Numbers.{max-sites, max-fields}
 use Rattle.paper.specs.Loading.{Together, written-so, itself, back, through, like}
 use Rattle.paper.proofs.Closure.{of-below}
 use Rattle.classes.specs.Answers.{rep}
-use Rattle.rule_check.specs.Holding.{Held, bare, kid-in, site-of, row-of, shape-of, kid-of, holder-in, holders-to, eq-at, eqs-in}
-use Rattle.rule_check.specs.Growing.{One}
-use Rattle.rule_check.specs.Meeting.{Reps, Seated}
+use Rattle.rule_rows.specs.Holding.{Held, bare, kid-in, site-of, row-of, shape-of, kid-of, holder-in, holders-to, eq-at, eqs-in}
+use Rattle.rule_classes.specs.Growing.{One}
+use Rattle.rule_classes.specs.Meeting.{Reps, Seated}
 use Rattle.rule_check.specs.Search.{Path, edge, then, Ready, Fresh, Searched, Returns, Told, Lower, LowestOf, Among, Named, AllNamed, Lowest}
-use Rattle.rule_check.proofs.Turning.{of-holders, of-zip}
+use Rattle.rule_rows.proofs.Holders.{of-holders, of-zip}
 
 pub zero-inside : (p kids : List ℕ) → Ready p kids → (l : ℕ) → l ≡ rep p 0 → l < max-sites
 zero-inside p kids Q l e = rw e (Q .reps .inside 0 (omega arith))

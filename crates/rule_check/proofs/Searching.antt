@@ -1,23 +1,23 @@
 -- The search of check 6: one root, one class, one start.
-use mathlib.Core.Path.{_≡_, refl, sym, _∙_, ap, subst, subst⁻¹}
+use mathlib.Core.Path.{_≡_, refl, sym, _∙_, ap}
 use mathlib.Core.List.{List}
-use mathlib.Core.Bool.{Bool, true, false, not}
-use mathlib.Core.Logic.{_⊎_, inl, inr, ⊎-elim}
-use Prim.Native.Nat.{ℕ, zero, suc, _+_, _*_, _≤_, _<_}
+use mathlib.Core.Bool.{true, false, not}
+use mathlib.Core.Logic.{_⊎_, inl, inr}
+use Prim.Native.Nat.{ℕ, zero, suc, _+_, _≤_, _<_}
 use native.Mathlib.Omega.{arith}
-use native.Mathlib.Decide.{ℕ-discrete, decLt}
+use native.Mathlib.Decide.{ℕ-discrete}
 use lib.ListN.{getD, set, length, length-set}
 use lib.Seq.{getD-set-same, getD-set-other}
-use lib.Dec.{ltb, eqb}
+use lib.Dec.{eqb}
 use borrow.Author.Count.{below-more}
-use borrow.Author.Tests.{lt-ltb, le-ltb, eq-eqb, ne-eqb, eqb-true, not-false}
+use borrow.Author.Tests.{eq-eqb, ne-eqb, eqb-true, not-false}
 use Rattle.paper.specs.Numbers.{max-sites, max-fields}
 use Rattle.classes.specs.Answers.{rep}
 use Rattle.classes.specs.Well.{cnt, bit}
-use Rattle.classes.proofs.Counting.{cnt-mono, cnt-add, cnt-one, cnt-ext, cnt-le}
-use Rattle.rule_check.specs.Holding.{Held, held, chart, kid-count, kid-in, row-of, count-of, kid-of}
+use Rattle.classes.proofs.Counting.{cnt-mono, cnt-add, cnt-one, cnt-le}
+use Rattle.rule_rows.specs.Holding.{Held, chart, kid-count, kid-in, row-of, count-of, kid-of}
 use Rattle.rule_check.specs.Search.{Edge, Path, edge, then, Ready, Visited, Visit, old, new, Extends, Marks, Listed, Fresh}
-use Rattle.rule_check.proofs.Reading.{few-kids, kid-inside}
+use Rattle.rule_rows.proofs.Reading.{few-kids, kid-inside}
 
 cnt-true : (n : ℕ) → cnt (λ y. true) n ≡ n
 unfolding cnt

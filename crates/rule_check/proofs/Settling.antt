@@ -1,24 +1,21 @@
 -- A class gets its turn after the classes of its children: then no walk from it returns.
-use mathlib.Core.Path.{_≡_, refl, sym, ap, _∙_, subst, subst⁻¹}
+use mathlib.Core.Path.{_≡_, refl, sym, ap, _∙_, subst}
 use mathlib.Core.Bool.{Bool, true, false, not}
 use mathlib.Core.Logic.{_⊎_, inl, inr}
 use mathlib.Core.List.{List}
-use Prim.Native.Nat.{ℕ, suc, _+_, _-_, _≤_, _<_}
+use Prim.Native.Nat.{ℕ, _+_, _-_, _≤_, _<_}
 use native.Mathlib.Omega.{arith}
-use native.Mathlib.Decide.{ℕ-discrete, decLt}
-use lib.ListN.{length, getD, set, length-set, replicate, length-replicate, getD-replicate}
+use native.Mathlib.Decide.{ℕ-discrete}
+use lib.ListN.{getD, set, length-set, replicate, length-replicate, getD-replicate}
 use lib.Seq.{getD-set-same, getD-set-other}
 use lib.Dec.{eqb}
-use borrow.Author.Tests.{eq-eqb, eqb-false, not-true}
-use borrow.Author.Count.{below-more}
+use borrow.Author.Tests.{eq-eqb}
 use Rattle.paper.specs.Numbers.{max-sites}
 use Rattle.classes.specs.Answers.{rep}
-use Rattle.rule_check.specs.Holding.{Held, held, chart, kid-count, kid-in, site-of, row-of, count-of, kid-of}
-use Rattle.rule_check.specs.Growing.{Inside}
-use Rattle.rule_check.specs.Meeting.{Reps}
+use Rattle.rule_rows.specs.Holding.{Held, chart, kid-count, kid-in, count-of, kid-of, Inside}
+use Rattle.rule_classes.specs.Meeting.{Reps}
 use Rattle.rule_check.specs.Search.{Edge, Path, edge, then, Ready, Safe, Over, Keeps}
-use Rattle.rule_check.proofs.Reading.{kid-inside}
-use Rattle.rule_check.proofs.Joining.{no-bool}
+use Rattle.rule_rows.proofs.Reading.{kid-inside, no-bool}
 
 pub rep-inside : (p kids : List ℕ) → Ready p kids → (s w z : ℕ) → s < max-sites → w ≡ rep p s → z ≡ w → z < max-sites
 rep-inside p kids Q s w z h ew ez = let r = Q .reps .inside s h in omega arith

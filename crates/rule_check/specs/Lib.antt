@@ -1,5 +1,2 @@
--- What the contracts of `closing` cite, beside paper's Loading.
-pub mod Holding
-pub mod Growing
-pub mod Meeting
+-- What the contracts of `rule_check` cite, beside paper's Loading.
 pub mod Search

@@ -1,6 +1,5 @@
 -- Check 6 over the classes of parents p: from root to root by the children of each class's first holder.
 use mathlib.Core.Path.{_≡_}
-use mathlib.Core.Bool.{Bool, true, false}
 use mathlib.Core.Logic.{_⊎_}
 use mathlib.Core.List.{List}
 use Prim.Native.Nat.{ℕ, _+_, _≤_, _<_}
@@ -9,13 +8,11 @@ use lib.Dec.{eqb}
 use Rattle.paper.specs.Numbers.{max-sites}
 use Rattle.classes.specs.Answers.{rep}
 use Rattle.classes.specs.Well.{cnt}
-use Rattle.paper.specs.declared.Refusal.{Refusal}
 use Rattle.paper.specs.declared.Refusal.the-variants.{Endless}
-use Rattle.rule_check.specs.declared.Verdict.{Verdict}
-use Rattle.rule_check.specs.declared.Verdict.the-variants.{Passes, Refused}
-use Rattle.rule_check.specs.Holding.{Held, held, chart, site-of, count-of, kid-of}
-use Rattle.rule_check.specs.Growing.{Inside}
-use Rattle.rule_check.specs.Meeting.{Reps}
+use Rattle.paper.specs.declared.Verdict.{Verdict}
+use Rattle.paper.specs.declared.Verdict.the-variants.{Fine, Refused}
+use Rattle.rule_rows.specs.Holding.{Held, chart, site-of, count-of, kid-of, Inside}
+use Rattle.rule_classes.specs.Meeting.{Reps}
 
 pub record Edge (H : Held) (p boss : List ℕ) (a b : ℕ) : Type 0 where
   pub root : a < max-sites
@@ -138,6 +135,6 @@ abbrev pub Of : Held → Held
 Of H = chart (H .rows) (H .words) (H .kids)
 
 pub data WalksIs (H : Held) (p boss : List ℕ) (m : ℕ) : Verdict → Type 0 where
-  none-of : ((h : ℕ) → h < m → Path (Of H) p boss (rep p (site-of H h)) (rep p (site-of H h)) → ⊥) → WalksIs H p boss m Passes
-  none-at : ((z : ℕ) → z < max-sites → Path (Of H) p boss (rep p z) (rep p z) → ⊥) → WalksIs H p boss m Passes
+  none-of : ((h : ℕ) → h < m → Path (Of H) p boss (rep p (site-of H h)) (rep p (site-of H h)) → ⊥) → WalksIs H p boss m Fine
+  none-at : ((z : ℕ) → z < max-sites → Path (Of H) p boss (rep p z) (rep p z) → ⊥) → WalksIs H p boss m Fine
   from : (z : ℕ) → z < max-sites → Lowest (Of H) p boss z → WalksIs H p boss m (Refused (Endless z))

@@ -5,5 +5,4 @@ pub mod Numbering
 pub mod Taking
 pub mod Stepping
 pub mod Walking
-pub mod Childless
 pub mod Telling

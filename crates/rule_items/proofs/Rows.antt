@@ -17,7 +17,7 @@ use Rattle.paper.specs.Sites.{same-constraint}
 use Rattle.rule_words.specs.Packing.{head, second, third, unpack, InRange}
 use Rattle.rule_words.specs.Stored.{constraint-at}
 use Rattle.rule_words.proofs.PackLaws.{unpack-pack, same-words, other-head, other-second, other-third}
-use Rattle.rule_check.specs.Holding.{shape-in}
+use Rattle.rule_rows.specs.Holding.{shape-in}
 use Rattle.rule_items.specs.Way.{Worded, Filled}
 
 -- ---- the constraint of a row

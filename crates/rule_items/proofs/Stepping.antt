@@ -1,7 +1,7 @@
 -- The answers to one item, in the order in which they are asked for.
-use mathlib.Core.Path.{_≡_, refl, sym, _∙_, ap}
+use mathlib.Core.Path.{_≡_, sym, _∙_, ap}
 use mathlib.Core.Bool.{Bool, true, false}
-use mathlib.Core.Option.{Option, none, some}
+use mathlib.Core.Option.{none, some}
 use mathlib.Core.List.{List, [], _∷_, _++_, List·Memᴰ, List·Memᴰ·head, List·Memᴰ·tail}
 use Prim.Native.Nat.{ℕ, suc, _+_, _-_, _*_, _/_, _≤_, _<_}
 use native.Mathlib.Omega.{arith}
@@ -20,13 +20,14 @@ use Rattle.paper.specs.Words.{below, look}
 use Rattle.paper.specs.Numbers.{max-fields, max-items}
 use Rattle.paper.specs.Sites.{fields, same-constraint, child-count, known}
 use Rattle.paper.specs.Loading.{Loading, constrain, load-item}
-use Rattle.rule_check.specs.Holding.{shape-in, eqs-in, eq-at}
+use Rattle.rule_rows.specs.Holding.{shape-in, eqs-in, eq-at}
 use Rattle.rule_lists.specs.Entries.{entries, found-as}
-use Rattle.rule_lists.specs.declared.Answer.the-variants as answer
+use Rattle.paper.specs.declared.Verdict.the-variants as verdict
 use Rattle.rule_lists.proofs.Placing.{below-alike}
-use Rattle.rule_items.specs.Showing.{look-shown, with}
+use Rattle.rule_hanging.proofs.Showing.{look-shown, with}
 use Rattle.rule_items.specs.Way.{Way, Space, Turn}
 use Rattle.rule_items.specs.declared.Progress.{Progress}
+use Rattle.rule_hanging.proofs.Names.{found-nothing, found-there}
 use Rattle.rule_items.proofs.Taking.{way-size, way-again}
 
 pub few-children : (c : Constraint) → fields c ≤ max-fields → child-count c ≤ max-fields
@@ -37,14 +38,6 @@ few-children (ConstInt t x y) h = omega arith
 few-children (ConstPrim v) h = omega arith
 few-children Some h = omega arith
 
-pub found-nothing : (o : Option ℕ) (f : Found) → f ≡ found-as o → f ≡ Nothing → o ≡ none
-found-nothing none f p q = refl
-found-nothing (some k) f p q = let z : _≡_ {A = ℕ} 0 1 = cc in absurd (omega arith)
-
-pub found-there : (o : Option ℕ) (f : Found) (row : ℕ) → f ≡ found-as o → f ≡ At row → o ≡ some row
-found-there none f row p q = let z : _≡_ {A = ℕ} 0 1 = cc in absurd (omega arith)
-found-there (some k) f row p q = let z : k ≡ row = cc in ap some z
-
 module _ (m : List ℕ) (n : ℕ) (tail : List ℕ) (t : ℕ) (sites rows words kids : List ℕ) (held : ℕ) (eqs : List ℕ) (equal i : ℕ) (l : Loading) (W : Way m n tail t sites rows words kids held eqs equal i l) where
   size : length (l .sites) ≡ n + t
   size = way-size m n tail t sites rows words kids held eqs equal i l W
@@ -52,12 +45,12 @@ module _ (m : List ℕ) (n : ℕ) (tail : List ℕ) (t : ℕ) (sites rows words 
   -- ---- a constraint
 
   module _ (s : ℕ) (c : Constraint) (r : Progress) where
-    pub is-unknown : n + t ≤ s → r .answer ≡ answer.Refused (Unknown s) → (tail′ sites′ rows′ words′ kids′ : List ℕ) → Turn m n tail′ sites′ rows′ words′ kids′ eqs r i (load-item l i (Is s c))
+    pub is-unknown : n + t ≤ s → r .answer ≡ verdict.Refused (Unknown s) → (tail′ sites′ rows′ words′ kids′ : List ℕ) → Turn m n tail′ sites′ rows′ words′ kids′ eqs r i (load-item l i (Is s c))
     unfolding load-item known
     is-unknown h e tail′ sites′ rows′ words′ kids′ = let z = size in rw (le-ltb s (length (l .sites)) (omega arith)) e
 
     module _ (h : s < n + t) where
-      pub is-wide : (q : ℕ) → q ≡ fields c → max-fields < q → r .answer ≡ answer.Refused (TooManyFields q i) → (tail′ sites′ rows′ words′ kids′ : List ℕ) → Turn m n tail′ sites′ rows′ words′ kids′ eqs r i (load-item l i (Is s c))
+      pub is-wide : (q : ℕ) → q ≡ fields c → max-fields < q → r .answer ≡ verdict.Refused (TooManyFields q i) → (tail′ sites′ rows′ words′ kids′ : List ℕ) → Turn m n tail′ sites′ rows′ words′ kids′ eqs r i (load-item l i (Is s c))
       unfolding load-item known
       is-wide q f g e tail′ sites′ rows′ words′ kids′ = let z = size in rw (lt-ltb s (length (l .sites)) (omega arith), ← f, lt-leb q max-fields g) e
 
@@ -77,24 +70,24 @@ module _ (m : List ℕ) (n : ℕ) (tail : List ℕ) (t : ℕ) (sites rows words 
         there : (f : Found) (row : ℕ) → f ≡ found-as (look (entries sites rows held) s) → f ≡ At row → load-item l i (Is s c) ≡ constrain l i s c (some (shape-in words row))
         there f row p q = load-is ∙ ap (constrain l i s c) (looked ∙ ap (with (shape-in words)) (found-there (look (entries sites rows held) s) f row p q))
 
-        pub is-same : (f : Found) (row : ℕ) (b : Bool) → f ≡ found-as (look (entries sites rows held) s) → f ≡ At row → b ≡ same-constraint c (shape-in words row) → b ≡ true → i < max-items → r .answer ≡ answer.Fine → r .tail ≡ t → r .held ≡ held → r .equal ≡ equal → Turn m n tail sites rows words kids eqs r i (load-item l i (Is s c))
+        pub is-same : (f : Found) (row : ℕ) (b : Bool) → f ≡ found-as (look (entries sites rows held) s) → f ≡ At row → b ≡ same-constraint c (shape-in words row) → b ≡ true → i < max-items → r .answer ≡ verdict.Fine → r .tail ≡ t → r .held ≡ held → r .equal ≡ equal → Turn m n tail sites rows words kids eqs r i (load-item l i (Is s c))
         is-same f row b p q x y k e1 e2 e3 e4 =
             let z = size in
             let u : same-constraint c (shape-in words row) ≡ true = sym x ∙ y in
             rw (there f row p q, u) (e1, rw (e2, e3, e4) (way-again m n tail t sites rows words kids held eqs equal i l W k s (omega arith)))
 
-        pub is-other : (f : Found) (row : ℕ) (b : Bool) → f ≡ found-as (look (entries sites rows held) s) → f ≡ At row → b ≡ same-constraint c (shape-in words row) → b ≡ false → r .answer ≡ answer.Refused (Unreachable s s) → Turn m n tail sites rows words kids eqs r i (load-item l i (Is s c))
+        pub is-other : (f : Found) (row : ℕ) (b : Bool) → f ≡ found-as (look (entries sites rows held) s) → f ≡ At row → b ≡ same-constraint c (shape-in words row) → b ≡ false → r .answer ≡ verdict.Refused (Unreachable s s) → Turn m n tail sites rows words kids eqs r i (load-item l i (Is s c))
         is-other f row b p q x y e = let u : same-constraint c (shape-in words row) ≡ false = sym x ∙ y in rw (there f row p q, u) e
 
   -- ---- an equality
 
   module _ (a b : ℕ) (r : Progress) where
-    pub equal-first : n + t ≤ a → r .answer ≡ answer.Refused (Unknown a) → (eqs′ : List ℕ) → Turn m n tail sites rows words kids eqs′ r i (load-item l i (Equal a b))
+    pub equal-first : n + t ≤ a → r .answer ≡ verdict.Refused (Unknown a) → (eqs′ : List ℕ) → Turn m n tail sites rows words kids eqs′ r i (load-item l i (Equal a b))
     unfolding load-item known
     equal-first h e eqs′ = let z = size in rw (le-ltb a (length (l .sites)) (omega arith)) e
 
     module _ (ha : a < n + t) where
-      pub equal-second : n + t ≤ b → r .answer ≡ answer.Refused (Unknown b) → (eqs′ : List ℕ) → Turn m n tail sites rows words kids eqs′ r i (load-item l i (Equal a b))
+      pub equal-second : n + t ≤ b → r .answer ≡ verdict.Refused (Unknown b) → (eqs′ : List ℕ) → Turn m n tail sites rows words kids eqs′ r i (load-item l i (Equal a b))
       unfolding load-item known
       equal-second h e eqs′ = let z = size in rw (lt-ltb a (length (l .sites)) (omega arith), le-ltb b (length (l .sites)) (omega arith)) e
 
@@ -155,7 +148,7 @@ module _ (m : List ℕ) (n : ℕ) (tail : List ℕ) (t : ℕ) (sites rows words 
             go (no d) (yes e) = let x = ap (λ q. getD eqs2 q 0) e ∙ b-at in let z = size in omega arith
             go (no d) (no e) = let x = old-at k (omega arith) in let y = W .shown .equal-known k (omega arith) in omega arith
 
-        pub equal-both : r .answer ≡ answer.Fine → r .tail ≡ t → r .held ≡ held → r .equal ≡ equal + 2 → Turn m n tail sites rows words kids eqs2 r i (load-item l i (Equal a b))
+        pub equal-both : r .answer ≡ verdict.Fine → r .tail ≡ t → r .held ≡ held → r .equal ≡ equal + 2 → Turn m n tail sites rows words kids eqs2 r i (load-item l i (Equal a b))
         unfolding load-item known
         equal-both e1 e2 e3 e4 =
             let z = size in

@@ -23,14 +23,14 @@ use Rattle.rule_children.specs.Tail.{table, grown, holds}
 use Rattle.rule_children.specs.ScanLaws.{table-length, length-below, number-inside}
 use Rattle.rule_children.specs.AnswerLaws.{grown-adds}
 use Rattle.rule_children.specs.GrowLaws.{all-length}
-use Rattle.rule_check.specs.Holding.{shape-in, kid-in, eqs-in}
-use Rattle.rule_check.specs.Growing.{Inside}
-use Rattle.rule_check.proofs.Agreeing.{getD-below}
+use Rattle.rule_rows.specs.Holding.{shape-in, kid-in, eqs-in, Inside}
+use Rattle.rule_rows.proofs.Agreeing.{getD-below}
 use Rattle.rule_lists.specs.Entries.{Puts}
-use Rattle.rule_lists.specs.declared.Answer.the-variants as answer
+use Rattle.paper.specs.declared.Verdict.the-variants as verdict
 use Rattle.rule_lists.proofs.Placing.{below-alike}
-use Rattle.rule_items.specs.Shown.{shown, Row}
-use Rattle.rule_items.specs.Showing.{put-shown, puts-entry, puts-few, StandsAt}
+use Rattle.rule_hanging.specs.Seen.{shown}
+use Rattle.rule_items.specs.Shown.{Row}
+use Rattle.rule_hanging.proofs.Showing.{put-shown, puts-entry, puts-few, StandsAt}
 use Rattle.rule_items.specs.Way.{Way, Room, Turn, Worded, Filled}
 use Rattle.rule_items.specs.declared.Progress.{Progress}
 use Rattle.rule_items.proofs.Rows.{worded-shape, worded-older}
@@ -111,7 +111,7 @@ module _ (m : List ℕ) (n : ℕ) (tail : List ℕ) (t : ℕ) (sites rows : List
   adds = let a = R .fits in let b = R .short in let d = R .item in let e = R .tail-long in grown-adds m n tail t i s c (omega arith) (omega arith) few
 
   -- refused: a table that can't grow
-  pub constrain-refused : (g : Children) (why : Refusal) (r : Progress) → g ≡ children-as s c (grown m n tail t i s c) → g .outcome ≡ given.Refused why → r .answer ≡ answer.Refused why
+  pub constrain-refused : (g : Children) (why : Refusal) (r : Progress) → g ≡ children-as s c (grown m n tail t i s c) → g .outcome ≡ given.Refused why → r .answer ≡ verdict.Refused why
       → (eqs : List ℕ) (l : Loading) → Way m n tail t sites rows words kids held eqs equal i l → (tail′ sites′ rows′ words′ kids′ : List ℕ) → Turn m n tail′ sites′ rows′ words′ kids′ eqs r i (constrain l i s c none)
   constrain-refused g why r eg eo ea eqs l W tail′ sites′ rows′ words′ kids′ =
       let x : grown m n tail t i s c ≡ refused why = children-refused s c (grown m n tail t i s c) why (ap (λ y. y .outcome) (sym eg) ∙ eo) in
@@ -203,7 +203,7 @@ module _ (m : List ℕ) (n : ℕ) (tail : List ℕ) (t : ℕ) (sites rows : List
       unfolding shown
       old-shown eqs l W = below-alike held (λ k. (getD sites k 0, shape-in words′ (getD rows k 0))) (λ k. (getD sites k 0, shape-in words (getD rows k 0))) (λ k h. rw (worded-older words i a b d words′ X (getD rows k 0) (W .older k h)))
 
-      pub constrain-done : (sites′ rows′ : List ℕ) (more : ℕ) → Puts sites rows held s i sites′ rows′ more → (tail′ : List ℕ) → holds m n tail′ (grown m n tail t i s c) → (r : Progress) → r .answer ≡ answer.Fine → r .tail ≡ total - n → r .held ≡ more → r .equal ≡ equal
+      pub constrain-done : (sites′ rows′ : List ℕ) (more : ℕ) → Puts sites rows held s i sites′ rows′ more → (tail′ : List ℕ) → holds m n tail′ (grown m n tail t i s c) → (r : Progress) → r .answer ≡ verdict.Fine → r .tail ≡ total - n → r .held ≡ more → r .equal ≡ equal
           → (eqs : List ℕ) (l : Loading) → Way m n tail t sites rows words kids held eqs equal i l → Turn m n tail′ sites′ rows′ words′ kids′ eqs r i (constrain l i s c none)
       constrain-done sites′ rows′ more P tail′ H r q1 q2 q3 q4 eqs l W =
           let S = W .shown in

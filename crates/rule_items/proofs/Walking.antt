@@ -2,12 +2,12 @@
 use mathlib.Core.Path.{_≡_, refl, sym, _∙_, ap}
 use mathlib.Core.Bool.{Bool, true, false, _&&_}
 use mathlib.Core.Option.{Option, none, some}
-use mathlib.Core.List.{List, [], _∷_, _++_, append-nil, List·Memᴰ, List·Memᴰ·tail}
+use mathlib.Core.List.{List, [], _∷_, append-nil}
 use Prim.Native.Nat.{ℕ, suc, _+_, _*_, _≤_, _<_, min}
 use native.Mathlib.Omega.{arith}
 use native.Mathlib.Numerals.{add-one}
-use lib.ListN.{length, getD, take, drop, drop-of-length-le, take-append-drop}
-use lib.Seq.{take-suc, drop-cons, take-all}
+use lib.ListN.{length, getD, take, drop, drop-of-length-le}
+use lib.Seq.{drop-cons, take-all}
 use lib.Dec.{leb}
 use borrow.Author.Tests.{leb-true}
 use Rattle.paper.specs.declared.Constraint.{Constraint}
@@ -23,13 +23,14 @@ use Rattle.paper.specs.Sites.{fields, known, same-constraint, children, add-all
 use Rattle.paper.specs.Loading.{Loading, constrain, load-item, load-items, no-items}
 use Rattle.sites.specs.Slots.{sites-in}
 use Rattle.rule_children.specs.Tail.{table}
-use Rattle.rule_check.specs.Holding.{eqs-in}
-use Rattle.rule_check.specs.Growing.{Inside}
+use Rattle.rule_rows.specs.Holding.{eqs-in, Inside}
 use Rattle.item_words.specs.Items.{item-at, items-in as held-items}
 use Rattle.item_words.proofs.Laws.{items-length, items-read}
-use Rattle.rule_lists.specs.declared.Answer.the-variants as answer
-use Rattle.rule_items.specs.Shown.{shown, roomy, AsLong}
-use Rattle.rule_items.specs.Way.{names, Way, Room, Space, Turn, Walk}
+use Rattle.paper.specs.declared.Verdict.the-variants as verdict
+use Rattle.rule_hanging.specs.Seen.{shown, names}
+use Rattle.rule_items.specs.Shown.{roomy, AsLong}
+use Rattle.rule_items.specs.Way.{Way, Room, Space, Turn, Walk}
+use Rattle.rule_hanging.proofs.Names.{names-next}
 use Rattle.rule_items.specs.declared.Progress.{Progress}
 
 -- ---- the items of a rule
@@ -41,25 +42,6 @@ pub item-is : (ws : List ℕ) (n i : ℕ) (it : Item) → n ≤ max-items → i 
 item-is ws n i it h l e = items-read ws (min n max-items) i (Is 0 (Variant 0 0 0)) (omega arith) ∙ sym e
 
 -- ---- names
-
-pub names-on : (xs ys : List Item) (ns : List ℕ) → names (xs ++ ys) ns ≡ names ys (names xs ns)
-names-on [] ys ns = refl
-names-on (Is s c ∷ xs) ys ns = names-on xs ys (s ∷ ns)
-names-on (Equal a b ∷ xs) ys ns = names-on xs ys (a ∷ b ∷ ns)
-
-pub names-next : (items : List Item) (i : ℕ) (it : Item) → i < length items → getD items i (Is 0 (Variant 0 0 0)) ≡ it → names (take (i + 1) items) [] ≡ names (it ∷ []) (names (take i items) [])
-names-next items i it h e =
-    ap (λ k. names (take k items) []) (add-one i) ∙ ap (λ l. names l []) (take-suc items i (Is 0 (Variant 0 0 0)) h) ∙ names-on (take i items) (getD items i (Is 0 (Variant 0 0 0)) ∷ []) [] ∙ ap (λ x. names (x ∷ []) (names (take i items) [])) e
-
-pub names-keep : (ys : List Item) (ns : List ℕ) (x : ℕ) → List·Memᴰ x ns → List·Memᴰ x (names ys ns)
-names-keep [] ns x m = m
-names-keep (Is s c ∷ ys) ns x m = names-keep ys (s ∷ ns) x (List·Memᴰ·tail m)
-names-keep (Equal a b ∷ ys) ns x m = names-keep ys (a ∷ b ∷ ns) x (List·Memᴰ·tail (List·Memᴰ·tail m))
-
-pub names-part : (items : List Item) (i x : ℕ) → List·Memᴰ x (names (take i items) []) → List·Memᴰ x (names items [])
-names-part items i x m =
-    let e : names items [] ≡ names (drop i items) (names (take i items) []) = ap (λ l. names l []) (sym (take-append-drop i items)) ∙ names-on (take i items) (drop i items) [] in
-    rw e (names-keep (drop i items) (names (take i items) []) x m)
 
 item-named : (l : Loading) (i : ℕ) (it : Item) (l′ : Loading) → load-item l i it ≡ done l′ → l′ .named ≡ names (it ∷ []) (l .named)
 unfolding load-item known
@@ -141,7 +123,7 @@ module _ (m : List ℕ) (n : ℕ) (items : List Item) (tail : List ℕ) (t : ℕ
   )
 
   -- all items are taken
-  pub walking-done : (r : Progress) (count : ℕ) → length items ≤ i → i ≤ count → r .answer ≡ answer.Fine → r .tail ≡ t → r .held ≡ held → r .equal ≡ equal
+  pub walking-done : (r : Progress) (count : ℕ) → length items ≤ i → i ≤ count → r .answer ≡ verdict.Fine → r .tail ≡ t → r .held ≡ held → r .equal ≡ equal
       → Walk m n tail sites rows words kids eqs r count items (load-items (no-items (sites-in m n)) 0 items)
   unfolding load-items
   walking-done r count h k e1 e2 e3 e4 =
@@ -159,14 +141,14 @@ module _ (m : List ℕ) (n : ℕ) (items : List Item) (tail : List ℕ) (t : ℕ
     next = sym (X .left) ∙ ap (load-items (X .l) i) (drop-cons items i (Is 0 (Variant 0 0 0)) h) ∙ ap (λ x. load-item (X .l) i x >>= λ l′. load-items l′ (suc i) (drop (suc i) items)) ei
 
     -- one is refused
-    pub walking-stop : (why : Refusal) (count : ℕ) → r .answer ≡ answer.Refused why → Walk m n tail′ sites′ rows′ words′ kids′ eqs′ r count items (load-items (no-items (sites-in m n)) 0 items)
+    pub walking-stop : (why : Refusal) (count : ℕ) → r .answer ≡ verdict.Refused why → Walk m n tail′ sites′ rows′ words′ kids′ eqs′ r count items (load-items (no-items (sites-in m n)) 0 items)
     walking-stop why count e = rw next (go (load-item (X .l) i it) (T (X .l) (X .way)))
       where
         go : (o : Outcome Loading) → Turn m n tail′ sites′ rows′ words′ kids′ eqs′ r i o → Walk m n tail′ sites′ rows′ words′ kids′ eqs′ r count items (o >>= λ l′. load-items l′ (suc i) (drop (suc i) items))
         go (done l′) q = let a = q .0 in let z : _≡_ {A = ℕ} 0 1 = cc in absurd (omega arith)
         go (refused w) q = q
 
-    pub walking-step : r .answer ≡ answer.Fine → Walking m n items tail′ (r .tail) sites′ rows′ words′ kids′ (r .held) eqs′ (r .equal) (i + 1)
+    pub walking-step : r .answer ≡ verdict.Fine → Walking m n items tail′ (r .tail) sites′ rows′ words′ kids′ (r .held) eqs′ (r .equal) (i + 1)
     walking-step e = go (load-item (X .l) i it) refl (T (X .l) (X .way))
       where
         go : (o : Outcome Loading) → load-item (X .l) i it ≡ o → Turn m n tail′ sites′ rows′ words′ kids′ eqs′ r i o → Walking m n items tail′ (r .tail) sites′ rows′ words′ kids′ (r .held) eqs′ (r .equal) (i + 1)

@@ -5,24 +5,19 @@ use mathlib.Core.List.{List}
 use Prim.Native.Nat.{ℕ, _+_, _*_, _<_, _≤_}
 use lib.ListN.{length, getD, take}
 use lib.Dec.{leb}
-use Rattle.paper.specs.declared.Constraint.{Constraint}
 use Rattle.paper.specs.declared.Item.{Item}
 use Rattle.paper.specs.declared.Refusal.the-variants.{TooManySites, TooManyItems}
 use Rattle.paper.specs.Words.{below}
-use Rattle.paper.specs.Numbers.{max-sites, max-fields, max-items, Outcome, done, refused, _>>=_, demand}
+use Rattle.paper.specs.Numbers.{max-sites, max-fields, max-items, Outcome, done, refused, demand, _>>=_}
 use Rattle.paper.specs.Sites.{child-count, child-number}
-use Rattle.paper.specs.Loading.{Constraints, Loading, load-items, hanging, no-hanging, no-items}
+use Rattle.paper.specs.Loading.{Loading, load-items, hanging, no-hanging, no-items}
 use Rattle.rule_words.specs.Packing.{InRange}
 use Rattle.sites.specs.Slots.{sites-in}
 use Rattle.rule_children.specs.Tail.{table}
-use Rattle.rule_check.specs.Holding.{shape-in, kid-in, eqs-in}
-use Rattle.rule_check.specs.Growing.{Inside}
-use Rattle.rule_lists.specs.declared.Answer.the-variants as answer
+use Rattle.rule_rows.specs.Holding.{shape-in, kid-in, eqs-in}
+use Rattle.paper.specs.declared.Verdict.the-variants as verdict
+use Rattle.rule_hanging.specs.Seen.{shown}
 use Rattle.rule_items.specs.declared.Progress.{Progress}
-
--- the constrained sites with their constraints
-unfoldable pub shown : List ℕ → List ℕ → List ℕ → ℕ → Constraints
-shown sites rows words held = below held (λ i. (getD sites i 0, shape-in words (getD rows i 0)))
 
 -- Holder i: its row is one of the items', its constraint in range, with few enough children, whose numbers the row has.
 pub record Row (l : Loading) (sites rows words kids : List ℕ) (i : ℕ) : Type 0 where
@@ -30,11 +25,13 @@ pub record Row (l : Loading) (sites rows words kids : List ℕ) (i : ℕ) : Type
   pub range : InRange (shape-in words (getD rows i 0))
   pub few : child-count (shape-in words (getD rows i 0)) ≤ max-fields
   pub known : getD sites i 0 < length (l .sites)
-  pub child : (f : ℕ) → f < child-count (shape-in words (getD rows i 0)) → kid-in kids (getD rows i 0) f ≡ child-number (l .sites) (getD sites i 0) (shape-in words (getD rows i 0)) f
+  pub child : (f : ℕ) → f < child-count (shape-in words (getD rows i 0))
+      → kid-in kids (getD rows i 0) f ≡ child-number (l .sites) (getD sites i 0) (shape-in words (getD rows i 0)) f
   pub below : (f : ℕ) → f < child-count (shape-in words (getD rows i 0)) → kid-in kids (getD rows i 0) f < length (l .sites)
 
 -- the lists tell l: t words of the tail, `held` constrained sites, `equal` numbers of equalities
-pub record Shown (m : List ℕ) (n : ℕ) (tail : List ℕ) (t : ℕ) (sites rows words kids : List ℕ) (held : ℕ) (eqs : List ℕ) (equal : ℕ) (l : Loading) : Type 0 where
+pub record Shown (m : List ℕ) (n : ℕ) (tail : List ℕ) (t : ℕ) (sites rows words kids : List ℕ) (held : ℕ) (eqs : List ℕ) (equal : ℕ) (l : Loading)
+    : Type 0 where
   pub sites-are : table m n tail t ≡ l .sites
   pub fits : n + t ≤ max-sites
   pub constraints-are : shown sites rows words held ≡ l .constraints
@@ -47,7 +44,8 @@ pub record Shown (m : List ℕ) (n : ℕ) (tail : List ℕ) (t : ℕ) (sites row
 -- Lent lists of these lengths are never too short: an item adds eight children at the most.
 unfoldable pub roomy : List ℕ → List ℕ → List ℕ → List ℕ → List ℕ → List ℕ → Bool
 roomy tail sites rows words kids eqs =
-    leb (8 * max-items) (length tail) && (leb max-items (length sites) && (leb max-items (length rows) && (leb (3 * max-items) (length words) && (leb (8 * max-items) (length kids) && leb (2 * max-items) (length eqs)))))
+    leb (8 * max-items) (length tail) && (leb max-items (length sites) && (leb max-items (length rows)
+    && (leb (3 * max-items) (length words) && (leb (8 * max-items) (length kids) && leb (2 * max-items) (length eqs)))))
 
 -- "items as written .. Then 5": a table that passes the numbers, or lists that are too short, are refused first
 unfoldable pub items-in : Bool → List ℕ → ℕ → ℕ → List Item → Outcome Loading
@@ -60,12 +58,12 @@ items-in room m n count items = do
 
 -- What load_items answers, and what it leaves in the lists; of a refused rule they say nothing.
 abbrev pub Told : List ℕ → ℕ → List ℕ → List ℕ → List ℕ → List ℕ → List ℕ → List ℕ → Progress → Outcome Loading → Type 0
-Told m n tail sites rows words kids eqs r (done l) = (r .answer ≡ answer.Fine) × Shown m n tail (r .tail) sites rows words kids (r .held) eqs (r .equal) l
-Told m n tail sites rows words kids eqs r (refused e) = r .answer ≡ answer.Refused e
+Told m n tail sites rows words kids eqs r (done l) = (r .answer ≡ verdict.Fine) × Shown m n tail (r .tail) sites rows words kids (r .held) eqs (r .equal) l
+Told m n tail sites rows words kids eqs r (refused e) = r .answer ≡ verdict.Refused e
 
 -- where the answer is fine, the row of each constrained site is that of one of `count` items
 pub record Rowed (rows : List ℕ) (count : ℕ) (r : Progress) : Type 0 where
-  pub low : r .answer ≡ answer.Fine → (i : ℕ) → i < r .held → getD rows i 0 < count
+  pub low : r .answer ≡ verdict.Fine → (i : ℕ) → i < r .held → getD rows i 0 < count
 
 -- the lent lists are as long as before
 pub record AsLong (tail sites rows words kids eqs tail′ sites′ rows′ words′ kids′ eqs′ : List ℕ) : Type 0 where

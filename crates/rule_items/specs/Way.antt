@@ -2,35 +2,29 @@
 use mathlib.Core.Path.{_≡_}
 use mathlib.Core.Option.{some}
 use mathlib.Core.Logic.{_⊎_}
-use mathlib.Core.List.{List, [], _∷_, List·Memᴰ}
+use mathlib.Core.List.{List, [], List·Memᴰ}
 use Prim.Native.Nat.{ℕ, _+_, _*_, _<_, _≤_}
 use lib.ListN.{length, getD}
 use Rattle.paper.specs.declared.Item.{Item}
-use Rattle.paper.specs.declared.Item.the-variants.{Is, Equal}
 use Rattle.paper.specs.Numbers.{max-sites, max-fields, max-items, Outcome, done, refused}
-use Rattle.paper.specs.Sites.{site-at, child-count, child, number-of}
+use Rattle.paper.specs.Sites.{child-count, child, number-of}
 use Rattle.paper.specs.Loading.{Loading}
-use Rattle.rule_words.specs.Packing.{InRange}
-use Rattle.rule_children.specs.Tail.{site-there}
-use Rattle.rule_check.specs.Holding.{shape-in, kid-in}
-use Rattle.rule_lists.specs.declared.Answer.the-variants as answer
-use Rattle.rule_items.specs.Shown.{Shown, shown}
+use Rattle.rule_rows.specs.Holding.{shape-in, kid-in}
+use Rattle.paper.specs.declared.Verdict.the-variants as verdict
+use Rattle.rule_items.specs.Shown.{Shown}
+use Rattle.rule_hanging.specs.Seen.{shown, names}
 use Rattle.rule_items.specs.declared.Progress.{Progress}
 
--- the sites that items name, after those of `before`, last first
-abbrev pub names : List Item → List ℕ → List ℕ
-names [] before = before
-names (Is s c ∷ rest) before = names rest (s ∷ before)
-names (Equal a b ∷ rest) before = names rest (a ∷ b ∷ before)
-
 -- after i items the lists tell l; rows from i on are free
-pub record Way (m : List ℕ) (n : ℕ) (tail : List ℕ) (t : ℕ) (sites rows words kids : List ℕ) (held : ℕ) (eqs : List ℕ) (equal i : ℕ) (l : Loading) : Type 0 where
+pub record Way (m : List ℕ) (n : ℕ) (tail : List ℕ) (t : ℕ) (sites rows words kids : List ℕ) (held : ℕ) (eqs : List ℕ) (equal i : ℕ) (l : Loading)
+    : Type 0 where
   pub shown : Shown m n tail t sites rows words kids held eqs equal l
   pub few : held ≤ i
   pub twice : equal ≤ 2 * i
   pub short : t ≤ max-fields * i
   pub older : (k : ℕ) → k < held → getD rows k 0 < i
-  pub numbered : (k : ℕ) → k < held → (f : ℕ) → f < child-count (shape-in words (getD rows k 0)) → number-of (l .sites) (child (getD sites k 0) (shape-in words (getD rows k 0)) f) ≡ some (kid-in kids (getD rows k 0) f)
+  pub numbered : (k : ℕ) → k < held → (f : ℕ) → f < child-count (shape-in words (getD rows k 0))
+      → number-of (l .sites) (child (getD sites k 0) (shape-in words (getD rows k 0)) f) ≡ some (kid-in kids (getD rows k 0) f)
   pub named : (x : ℕ) → List·Memᴰ x (l .named) → x < length (l .sites)
 
 -- there is room for item i
@@ -53,24 +47,15 @@ pub record Space (equal i : ℕ) (eqs : List ℕ) : Type 0 where
 
 -- item i was taken, or refused
 abbrev pub Turn : List ℕ → ℕ → List ℕ → List ℕ → List ℕ → List ℕ → List ℕ → List ℕ → Progress → ℕ → Outcome Loading → Type 0
-Turn m n tail sites rows words kids eqs r i (done l) = (r .answer ≡ answer.Fine) × Way m n tail (r .tail) sites rows words kids (r .held) eqs (r .equal) (i + 1) l
-Turn m n tail sites rows words kids eqs r i (refused e) = r .answer ≡ answer.Refused e
+Turn m n tail sites rows words kids eqs r i (done l) =
+    (r .answer ≡ verdict.Fine) × Way m n tail (r .tail) sites rows words kids (r .held) eqs (r .equal) (i + 1) l
+Turn m n tail sites rows words kids eqs r i (refused e) = r .answer ≡ verdict.Refused e
 
 -- all `count` items were taken, and l names what they name; or one was refused
 abbrev pub Walk : List ℕ → ℕ → List ℕ → List ℕ → List ℕ → List ℕ → List ℕ → List ℕ → Progress → ℕ → List Item → Outcome Loading → Type 0
-Walk m n tail sites rows words kids eqs r count items (done l) = (r .answer ≡ answer.Fine) × (Way m n tail (r .tail) sites rows words kids (r .held) eqs (r .equal) count l × (l .named ≡ names items []))
-Walk m n tail sites rows words kids eqs r count items (refused e) = r .answer ≡ answer.Refused e
-
--- what check 5 reads
-pub record Sees (m : List ℕ) (n : ℕ) (tail sites rows words : List ℕ) (held : ℕ) (l : Loading) : Type 0 where
-  pub site : (x : ℕ) → x < length (l .sites) → site-at (l .sites) x ≡ site-there m n tail x
-  pub constraints-are : shown sites rows words held ≡ l .constraints
-  pub range : (i : ℕ) → i < held → InRange (shape-in words (getD rows i 0))
-  pub small : (i : ℕ) → i < held → getD sites i 0 < 65536
-
--- all of them are sites of l
-abbrev pub Known : Loading → List ℕ → Type 0
-Known l ns = (x : ℕ) → List·Memᴰ x ns → x < length (l .sites)
+Walk m n tail sites rows words kids eqs r count items (done l) =
+    (r .answer ≡ verdict.Fine) × (Way m n tail (r .tail) sites rows words kids (r .held) eqs (r .equal) count l × (l .named ≡ names items []))
+Walk m n tail sites rows words kids eqs r count items (refused e) = r .answer ≡ verdict.Refused e
 
 -- ---- a row
 

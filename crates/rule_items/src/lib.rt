@@ -1,24 +1,21 @@
-// The items of a rule, as written, and check 5.
+// The items of a rule, as written, and then check 5.
 // Row i belongs to item i: its constraint in three words from 3 * i, its children's numbers from 8 * i. The constrained sites stand ascending, each
 // with its row; the two sites of each equality stand one after the other.
 ghost use mathlib.Core.Path.{_≡_};
-ghost use mathlib.Core.Bool.{Bool, true};
+ghost use mathlib.Core.Bool.{true};
 ghost use mathlib.Core.Option.{none};
-ghost use mathlib.Core.List.{List, [], _∷_};
+ghost use mathlib.Core.List.{List};
 ghost use Prim.Native.Nat.{ℕ, _+_, _*_, _≤_, _<_, min};
 ghost use lib.ListN.{length};
 ghost use Rattle.paper.specs.declared.Item.the-variants.{Is, Equal};
-ghost use Rattle.paper.specs.Words.{keep, least};
 ghost use Rattle.paper.specs.Numbers.{max-sites, max-items, max-fields};
 ghost use Rattle.paper.specs.Sites.{fields, same-constraint, child-count};
-ghost use Rattle.paper.specs.Loading.{Loading, load-item, load-items, hangs, hanging, constrain, no-items};
+ghost use Rattle.paper.specs.Loading.{Loading, load-item, load-items, constrain, no-items};
 ghost use Rattle.sites.specs.Slots.{sites-in};
-ghost use Rattle.rule_check.specs.Holding.{shape-in};
-ghost use Rattle.rule_check.specs.Growing.{Inside};
-ghost use Rattle.rule_lists.specs.Entries.{found-as};
+ghost use Rattle.rule_rows.specs.Holding.{shape-in, Inside};
 ghost use Rattle.item_words.specs.Items.{items-in as held-items};
 ghost use Rattle.rule_items.specs.Shown.{Told, AsLong, Rowed, roomy, items-in};
-ghost use Rattle.rule_items.specs.Way.{names, Way, Room, Space, Turn, Walk, Sees, Known, Worded, Filled};
+ghost use Rattle.rule_items.specs.Way.{Way, Room, Space, Turn, Walk, Worded, Filled};
 use paper::Constraint;
 use paper::FIELDS;
 use paper::Found;
@@ -26,35 +23,28 @@ use paper::ITEMS;
 use paper::Item;
 use paper::Refusal;
 use paper::SITES;
-use rule_children::source_of;
-use rule_children::word_of;
-use rule_lists::Answer;
+use paper::Verdict;
 use rule_words::Packed;
 use rule_words::word;
 use sites::Given;
+use widths::size16;
 
 // How the rule fares; how many words the tail has, how many sites are constrained, how many numbers the equalities have.
 pub struct Progress {
     pub tail: u16,
     pub held: usize,
     pub equal: usize,
-    pub answer: Answer,
-}
-
-fn size(x: u16) -> usize
-    ensures { λ r. ⌜ (r ≡ x) × (r < 65536) ⌝ }
-{
-    x as usize
+    pub answer: Verdict,
 }
 
 fn refuse(why: Refusal) -> Progress
-    ensures { λ r. ⌜ r .answer ≡ Answer.Refused why ⌝ }
+    ensures { λ r. ⌜ r .answer ≡ Verdict.Refused why ⌝ }
 {
     Progress {
         tail: 0,
         held: 0,
         equal: 0,
-        answer: Answer::Refused(why),
+        answer: Verdict::Refused(why),
     }
 }
 
@@ -87,7 +77,7 @@ fn same_row(words: &[u64], i: u16, c: Constraint) -> bool
     ensures { λ r. ⌜ r ≡ same-constraint c (shape-in (now (words .entry)) i) ⌝ }
 {
     let p = rule_words::pack(c);
-    let k = 3 * size(i);
+    let k = 3 * size16(i);
     if p.head != word(words, k) {
         return false;
     }
@@ -139,7 +129,12 @@ fn constrain(
 ) -> Progress
     requires { ⌜ Room n t held i (now tail) (now sites) (now rows) (now words) (now kids) ⌝ }
     requires { ⌜ child-count c ≤ max-fields ⌝ }
-    ensures turn { λ r. ⌜ ((eqs : List ℕ) (l : Loading) → Way (now (m .entry)) n (now (tail .entry)) t (now (sites .entry)) (now (rows .entry)) (now (words .entry)) (now (kids .entry)) held eqs equal i l → s < length (l .sites) → Turn (now (m .entry)) n (now (tail .exit)) (now (sites .exit)) (now (rows .exit)) (now (words .exit)) (now (kids .exit)) eqs r i (constrain l i s c none)) ⌝ }
+    ensures turn { λ r. ⌜
+        ((eqs : List ℕ) (l : Loading) →
+        Way (now (m .entry)) n (now (tail .entry)) t (now (sites .entry)) (now (rows .entry)) (now (words .entry)) (now (kids .entry)) held eqs equal i l →
+        s < length (l .sites) →
+        Turn (now (m .entry)) n (now (tail .exit)) (now (sites .exit)) (now (rows .exit)) (now (words .exit)) (now (kids .exit)) eqs r i
+        (constrain l i s c none)) ⌝ }
     ensures inside { λ r. ⌜ (Inside (now (kids .entry)) → Inside (now (kids .exit))) ⌝ }
 {
     let g = rule_children::add_children(m, n, tail, t, i as u32, s, c);
@@ -156,7 +151,7 @@ fn constrain(
                 tail: total - n,
                 held: more,
                 equal,
-                answer: Answer::Fine,
+                answer: Verdict::Fine,
             }
         }
     }
@@ -179,10 +174,14 @@ fn is_item(
     c: Constraint,
 ) -> Progress
     requires { ⌜ Room n t held i (now tail) (now sites) (now rows) (now words) (now kids) ⌝ }
-    ensures turn { λ r. ⌜ ((eqs : List ℕ) (l : Loading) → Way (now (m .entry)) n (now (tail .entry)) t (now (sites .entry)) (now (rows .entry)) (now (words .entry)) (now (kids .entry)) held eqs equal i l → Turn (now (m .entry)) n (now (tail .exit)) (now (sites .exit)) (now (rows .exit)) (now (words .exit)) (now (kids .exit)) eqs r i (load-item l i (Is s c))) ⌝ }
+    ensures turn { λ r. ⌜
+        ((eqs : List ℕ) (l : Loading) →
+        Way (now (m .entry)) n (now (tail .entry)) t (now (sites .entry)) (now (rows .entry)) (now (words .entry)) (now (kids .entry)) held eqs equal i l →
+        Turn (now (m .entry)) n (now (tail .exit)) (now (sites .exit)) (now (rows .exit)) (now (words .exit)) (now (kids .exit)) eqs r i
+        (load-item l i (Is s c))) ⌝ }
     ensures inside { λ r. ⌜ (Inside (now (kids .entry)) → Inside (now (kids .exit))) ⌝ }
 {
-    if size(n) + size(t) <= size(s) {
+    if size16(n) + size16(t) <= size16(s) {
         return refuse(Refusal::Unknown { site: s });
     }
     let many = field_count(c);
@@ -215,7 +214,7 @@ fn is_item(
                     tail: t,
                     held,
                     equal,
-                    answer: Answer::Fine,
+                    answer: Verdict::Fine,
                 };
             }
             refuse(Refusal::Unreachable { site: s, other: s })
@@ -235,13 +234,15 @@ fn equal_item(
     b: u16,
 ) -> Progress
     requires { ⌜ Space equal i (now eqs) ⌝ }
-    ensures { λ r. ⌜ ((m tail sites rows words kids : List ℕ) (l : Loading) → Way m n tail t sites rows words kids held (now (eqs .entry)) equal i l → Turn m n tail sites rows words kids (now (eqs .exit)) r i (load-item l i (Equal a b))) ⌝ }
+    ensures { λ r. ⌜
+        ((m tail sites rows words kids : List ℕ) (l : Loading) → Way m n tail t sites rows words kids held (now (eqs .entry)) equal i l →
+        Turn m n tail sites rows words kids (now (eqs .exit)) r i (load-item l i (Equal a b))) ⌝ }
 {
-    let total = size(n) + size(t);
-    if total <= size(a) {
+    let total = size16(n) + size16(t);
+    if total <= size16(a) {
         return refuse(Refusal::Unknown { site: a });
     }
-    if total <= size(b) {
+    if total <= size16(b) {
         return refuse(Refusal::Unknown { site: b });
     }
     eqs[equal] = a;
@@ -250,7 +251,7 @@ fn equal_item(
         tail: t,
         held,
         equal: equal + 2,
-        answer: Answer::Fine,
+        answer: Verdict::Fine,
     }
 }
 
@@ -271,7 +272,12 @@ fn take_item(
 ) -> Progress
     requires { ⌜ Room n t held i (now tail) (now sites) (now rows) (now words) (now kids) ⌝ }
     requires { ⌜ Space equal i (now eqs) ⌝ }
-    ensures turn { λ r. ⌜ ((l : Loading) → Way (now (m .entry)) n (now (tail .entry)) t (now (sites .entry)) (now (rows .entry)) (now (words .entry)) (now (kids .entry)) held (now (eqs .entry)) equal i l → Turn (now (m .entry)) n (now (tail .exit)) (now (sites .exit)) (now (rows .exit)) (now (words .exit)) (now (kids .exit)) (now (eqs .exit)) r i (load-item l i it)) ⌝ }
+    ensures turn { λ r. ⌜
+        ((l : Loading) →
+        Way (now (m .entry)) n (now (tail .entry)) t (now (sites .entry)) (now (rows .entry)) (now (words .entry)) (now (kids .entry)) held
+        (now (eqs .entry)) equal i l →
+        Turn (now (m .entry)) n (now (tail .exit)) (now (sites .exit)) (now (rows .exit)) (now (words .exit)) (now (kids .exit)) (now (eqs .exit)) r i
+        (load-item l i it)) ⌝ }
     ensures inside { λ r. ⌜ (Inside (now (kids .entry)) → Inside (now (kids .exit))) ⌝ }
 {
     match it {
@@ -309,7 +315,10 @@ fn walk(
 ) -> Progress
     requires { ⌜ (n ≤ max-sites) × (count ≤ max-items) ⌝ }
     requires { ⌜ roomy (now tail) (now sites) (now rows) (now words) (now kids) (now eqs) ≡ true ⌝ }
-    ensures walk { λ r. ⌜ Walk (now (m .entry)) n (now (tail .exit)) (now (sites .exit)) (now (rows .exit)) (now (words .exit)) (now (kids .exit)) (now (eqs .exit)) r count (held-items (now (items .entry)) (min count max-items)) (load-items (no-items (sites-in (now (m .entry)) n)) 0 (held-items (now (items .entry)) (min count max-items))) ⌝ }
+    ensures walk { λ r. ⌜ (
+        let its = held-items (now (items .entry)) (min count max-items) in
+        Walk (now (m .entry)) n (now (tail .exit)) (now (sites .exit)) (now (rows .exit)) (now (words .exit)) (now (kids .exit)) (now (eqs .exit)) r
+        count its (load-items (no-items (sites-in (now (m .entry)) n)) 0 its)) ⌝ }
     ensures inside { λ r. ⌜ (Inside (now (kids .entry)) → Inside (now (kids .exit))) ⌝ }
 {
     let mut t: u16 = 0;
@@ -334,7 +343,7 @@ fn walk(
             it,
         );
         let a = p.answer;
-        let Answer::Fine = a else {
+        let Verdict::Fine = a else {
             return p;
         };
         t = p.tail;
@@ -346,121 +355,8 @@ fn walk(
         tail: t,
         held,
         equal,
-        answer: Answer::Fine,
+        answer: Verdict::Fine,
     }
-}
-
-// ---- check 5
-
-// Is site x a child that its source is not constrained to have?
-fn hangs(
-    m: &[u8],
-    n: u16,
-    tail: &[u64],
-    sites: &[u16],
-    rows: &[u16],
-    held: usize,
-    words: &[u64],
-    x: u16,
-) -> bool
-    ensures { λ r. ⌜ ((l : Loading) → Sees (now (m .entry)) n (now (tail .entry)) (now (sites .entry)) (now (rows .entry)) (now (words .entry)) held l → x < length (l .sites) → r ≡ hangs l x) ⌝ }
-{
-    let w = word_of(m, n, tail, x);
-    if w == 0 {
-        return false;
-    }
-    let wide = source_of(w);
-    if 65536 <= wide {
-        return true;
-    }
-    let s = wide as u16;
-    let there = rule_lists::look(sites, rows, held, s);
-    let Found::At(row) = there else {
-        return true;
-    };
-    let k = 3 * size(row);
-    let c = rule_words::unpack(word(words, k), word(words, k + 1), word(words, k + 2));
-    !rule_children::is_child(w, s, c)
-}
-
-// The lower of what was found and x, if x hangs.
-fn lower(best: Found, x: u16, yes: bool) -> Found
-    ensures { λ r. ⌜ ((p : ℕ → Bool) (ns : List ℕ) → best ≡ found-as (least (keep p ns)) → yes ≡ p x → r ≡ found-as (least (keep p (x ∷ ns)))) ⌝ }
-{
-    if !yes {
-        return best;
-    }
-    let Found::At(y) = best else {
-        return Found::At(x);
-    };
-    if x < y {
-        return Found::At(x);
-    }
-    best
-}
-
-// The same for the sites that an item names.
-fn lower_item(
-    m: &[u8],
-    n: u16,
-    tail: &[u64],
-    sites: &[u16],
-    rows: &[u16],
-    held: usize,
-    words: &[u64],
-    best: Found,
-    it: Item,
-) -> Found
-    ensures { λ r. ⌜ ((l : Loading) → Sees (now (m .entry)) n (now (tail .entry)) (now (sites .entry)) (now (rows .entry)) (now (words .entry)) held l → (ns : List ℕ) → Known l (names (it ∷ []) ns) → best ≡ found-as (least (keep (hangs l) ns)) → r ≡ found-as (least (keep (hangs l) (names (it ∷ []) ns)))) ⌝ }
-{
-    match it {
-        Item::Is {
-            site,
-            constraint: _,
-        } => lower(
-            best,
-            site,
-            hangs(m, n, tail, sites, rows, held, words, site),
-        ),
-        Item::Equal { one, other } => {
-            let second = lower(
-                best,
-                other,
-                hangs(m, n, tail, sites, rows, held, words, other),
-            );
-            lower(
-                second,
-                one,
-                hangs(m, n, tail, sites, rows, held, words, one),
-            )
-        }
-    }
-}
-
-// The lowest named site that hangs.
-fn hanging(
-    m: &[u8],
-    n: u16,
-    tail: &[u64],
-    sites: &[u16],
-    rows: &[u16],
-    held: usize,
-    words: &[u64],
-    items: &[u64],
-    count: u8,
-) -> Found
-    requires { ⌜ count ≤ max-items ⌝ }
-    ensures { λ r. ⌜ ((l : Loading) → Sees (now (m .entry)) n (now (tail .entry)) (now (sites .entry)) (now (rows .entry)) (now (words .entry)) held l → Known l (names (held-items (now (items .entry)) (min count max-items)) []) → r ≡ found-as (least (keep (hangs l) (names (held-items (now (items .entry)) (min count max-items)) [])))) ⌝ }
-{
-    let mut best = Found::Nothing;
-    let mut i: u8 = 0;
-    while i < count {
-        let it = item_words::item_at(items, i);
-        let next = lower_item(m, n, tail, sites, rows, held, words, best, it);
-        best = next;
-        i += 1;
-    }
-    best
 }
 
 // ---- the rule
@@ -506,12 +402,18 @@ pub fn load_items(
     items: &[u64],
     count: u8,
 ) -> Progress
-    ensures told { λ r. ⌜ Told (now (m .entry)) n (now (tail .exit)) (now (sites .exit)) (now (rows .exit)) (now (words .exit)) (now (kids .exit)) (now (eqs .exit)) r (items-in (roomy (now (tail .entry)) (now (sites .entry)) (now (rows .entry)) (now (words .entry)) (now (kids .entry)) (now (eqs .entry))) (now (m .entry)) n count (held-items (now (items .entry)) (min count max-items))) ⌝ }
-    ensures long { λ r. ⌜ AsLong (now (tail .entry)) (now (sites .entry)) (now (rows .entry)) (now (words .entry)) (now (kids .entry)) (now (eqs .entry)) (now (tail .exit)) (now (sites .exit)) (now (rows .exit)) (now (words .exit)) (now (kids .exit)) (now (eqs .exit)) ⌝ }
+    ensures told { λ r. ⌜ (
+        let room = roomy (now (tail .entry)) (now (sites .entry)) (now (rows .entry)) (now (words .entry)) (now (kids .entry)) (now (eqs .entry)) in
+        let its = held-items (now (items .entry)) (min count max-items) in
+        Told (now (m .entry)) n (now (tail .exit)) (now (sites .exit)) (now (rows .exit)) (now (words .exit)) (now (kids .exit)) (now (eqs .exit)) r
+        (items-in room (now (m .entry)) n count its)) ⌝ }
+    ensures long { λ r. ⌜
+        AsLong (now (tail .entry)) (now (sites .entry)) (now (rows .entry)) (now (words .entry)) (now (kids .entry)) (now (eqs .entry))
+        (now (tail .exit)) (now (sites .exit)) (now (rows .exit)) (now (words .exit)) (now (kids .exit)) (now (eqs .exit)) ⌝ }
     ensures inside { λ r. ⌜ (Inside (now (kids .entry)) → Inside (now (kids .exit))) ⌝ }
     ensures rowed { λ r. ⌜ Rowed (now (rows .exit)) count r ⌝ }
 {
-    if SITES < size(n) {
+    if SITES < size16(n) {
         return refuse(Refusal::TooManySites {
             asked: n as u32,
             at: count as u32,
@@ -529,11 +431,11 @@ pub fn load_items(
     }
     let p = walk(m, n, tail, sites, rows, words, kids, eqs, items, count);
     let a = p.answer;
-    let Answer::Fine = a else {
+    let Verdict::Fine = a else {
         return p;
     };
     let held = p.held;
-    let found = hanging(m, n, tail, sites, rows, held, words, items, count);
+    let found = rule_hanging::hanging(m, n, tail, sites, rows, held, words, items, count);
     let Found::At(s) = found else {
         return p;
     };

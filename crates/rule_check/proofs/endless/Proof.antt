@@ -1,5 +1,5 @@
 -- `rule_check::endless` meets its contract. Assumes nothing.
-use Rattle.rule_check.specs.Holding.{chart}
+use Rattle.rule_rows.specs.Holding.{chart}
 use Rattle.rule_check.proofs.Naming.{searched-none}
 use Rattle.rule_check.proofs.endless.Statement.{statement}
 use Rattle.rule_check.proofs.endless.Tie as tie

@@ -1,5 +1,5 @@
 -- `rule_check::lowest_named` meets its contract. Assumes nothing.
-use Rattle.rule_check.specs.Holding.{chart}
+use Rattle.rule_rows.specs.Holding.{chart}
 use Rattle.rule_check.proofs.Naming.{zero-inside, searched-on, told-none, lowest-zero, lowest-all}
 use Rattle.rule_check.proofs.lowest_named.Statement.{statement}
 use Rattle.rule_check.proofs.lowest_named.Tie as tie

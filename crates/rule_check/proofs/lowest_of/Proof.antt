@@ -3,7 +3,7 @@ use mathlib.Core.Path.{_≡_, refl}
 use Prim.Native.Nat.{_≤_, _-_}
 use native.Mathlib.Omega.{arith}
 use lib.ListN.{length}
-use Rattle.rule_check.specs.Holding.{chart}
+use Rattle.rule_rows.specs.Holding.{chart}
 use Rattle.rule_check.specs.Search.{Searched, LowestOf}
 use Rattle.rule_check.proofs.Naming.{of-none, of-step}
 use Rattle.rule_check.proofs.lowest_of.Statement.{statement}

@@ -1,13 +1,12 @@
 -- `rule_check::ready` meets its contract. Assumes nothing.
 use native.Mathlib.Omega.{arith}
-use mathlib.Core.Path.{_≡_, refl, sym, ap, subst}
+use mathlib.Core.Path.{sym}
 use Prim.Native.Nat.{ℕ, _≤_, _<_, _-_}
 use borrow.Author.Count.{below-more}
 use Rattle.classes.specs.Answers.{rep}
-use Rattle.rule_check.specs.Holding.{kid-in}
+use Rattle.rule_rows.specs.Holding.{kid-in}
 use Rattle.rule_check.specs.Search.{Over}
-use Rattle.rule_check.proofs.Reading.{few-kids}
-use Rattle.rule_check.proofs.Joining.{no-bool}
+use Rattle.rule_rows.proofs.Reading.{no-bool}
 use Rattle.rule_check.proofs.Settling.{kid-root, ready-step}
 use Rattle.rule_check.proofs.ready.Statement.{statement}
 use Rattle.rule_check.proofs.ready.Tie as tie
@@ -26,18 +25,17 @@ loop-holds c =
     (omega arith, λ g h. absurd (omega arith))
 
 kid-requires : tie.Need-kid-requires Inv-loop μ-loop
-kid-requires c κs =
-    omega (arith, few-kids (c .before .before .before .before .before .args .words .now) (c .before .before .before .before .before .args .i), c .before .before .fields .ensures, c .loop-test .taken)
+kid-requires c κs = tt
 
 rep-in-requires : tie.Need-rep-in-requires Inv-loop μ-loop
 rep-in-requires c κs = tt
 
-wide-requires : tie.Need-wide-requires Inv-loop μ-loop
-wide-requires c κs = tt
+size16-requires : tie.Need-size16-requires Inv-loop μ-loop
+size16-requires c κs = tt
 
 over-requires : tie.Need-over-requires Inv-loop μ-loop
 over-requires c κs =
-    kid-root _ _ (c .before .before .before .before .before .before .before .before .pre) _ _ _ _ _ (c .before .before .kid .ensures) (c .before .rep-in .ensures) (c .wide .ensures)
+    kid-root _ _ (c .before .before .before .before .before .before .before .before .pre) _ _ _ _ _ (c .before .before .kid .ensures) (c .before .rep-in .ensures) (c .size16 .ensures)
 
 returns : tie.Need-returns Inv-loop μ-loop
 returns c =
@@ -53,7 +51,7 @@ loop-less c =
 
 loop-again : tie.Need-loop-again Inv-loop μ-loop
 loop-again c =
-    (omega arith, below-more _ _ (c .before .before .before .before .before .before .loop .inv .1) (ready-step (c .before .before .before .before .before .before .before .before .before .before .args .boss .now) (c .before .before .before .before .before .before .before .before .before .before .args .turned .now) _ _ _ _ _ _ _ _ (c .before .before .before .before .kid .ensures) (c .before .before .before .rep-in .ensures) (c .before .before .wide .ensures) (c .before .over .ensures) (c .if1 .left)))
+    (omega arith, below-more _ _ (c .before .before .before .before .before .before .loop .inv .1) (ready-step (c .before .before .before .before .before .before .before .before .before .before .args .boss .now) (c .before .before .before .before .before .before .before .before .before .before .args .turned .now) _ _ _ _ _ _ _ _ (c .before .before .before .before .kid .ensures) (c .before .before .before .rep-in .ensures) (c .before .before .size16 .ensures) (c .before .over .ensures) (c .if1 .left)))
 
 returns-2 : tie.Need-returns-2 Inv-loop μ-loop
 returns-2 c =
@@ -69,7 +67,7 @@ ready-spec =
     loop-holds
     kid-requires
     rep-in-requires
-    wide-requires
+    size16-requires
     over-requires
     returns
     add-f

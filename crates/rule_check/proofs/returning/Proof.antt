@@ -4,7 +4,7 @@ use native.Mathlib.Omega.{arith}
 use mathlib.Core.Path.{refl}
 use mathlib.Core.Logic.{inl, inr}
 use Prim.Native.Nat.{_-_}
-use Rattle.rule_check.specs.Holding.{chart}
+use Rattle.rule_rows.specs.Holding.{chart}
 use Rattle.rule_check.proofs.Searching.{SearchTo, visited-none, visited-listed, tail-le, search-start, search-step, search-told, no-holder}
 use Rattle.rule_check.proofs.returning.Statement.{statement}
 use Rattle.rule_check.proofs.returning.Tie as tie
@@ -15,20 +15,20 @@ Inv-loop p boss rows words kids seen₀ queue₀ l tail₀ head₀ seen queue ta
 abbrev μ-loop : tie.MeasureT-loop
 μ-loop p boss rows words kids seen₀ queue₀ l tail₀ head₀ seen queue tail head = max-sites - head
 
-wide-requires : tie.Need-wide-requires Inv-loop μ-loop
-wide-requires c κs = tt
+size16-requires : tie.Need-size16-requires Inv-loop μ-loop
+size16-requires c κs = tt
 
 mul-if1 : tie.Need-mul-if1 Inv-loop μ-loop
 mul-if1 c =
-    omega (arith, c .wide .ensures, c .before .before .before .before .pre .1 .0)
+    omega (arith, c .size16 .ensures, c .before .before .before .before .pre .1 .0)
 
 element-copy-out-if1 : tie.Need-element-copy-out-if1 Inv-loop μ-loop
 element-copy-out-if1 c =
-    omega (arith, c .wide .ensures, c .before .before .before .before .pre .1 .0)
+    omega (arith, c .size16 .ensures, c .before .before .before .before .pre .1 .0)
 
 returns : tie.Need-returns Inv-loop μ-loop
 returns c =
-    (no-holder (chart (c .before .before .before .before .before .before .args .rows .now) (c .before .before .before .before .before .before .args .words .now) (c .before .before .before .before .before .before .args .kids .now)) _ _ _ _ (c .before .before .wide .ensures) (c .if1 .taken), c .before .before .before .before .before .before .pre .1 .1)
+    (no-holder (chart (c .before .before .before .before .before .before .args .rows .now) (c .before .before .before .before .before .before .args .words .now) (c .before .before .before .before .before .before .args .kids .now)) _ _ _ _ (c .before .before .size16 .ensures) (c .if1 .taken), c .before .before .before .before .before .before .pre .1 .1)
 
 visit-kids-requires : tie.Need-visit-kids-requires Inv-loop μ-loop
 visit-kids-requires c κs =
@@ -64,12 +64,12 @@ loop-again : tie.Need-loop-again Inv-loop μ-loop
 loop-again c =
     search-step _ _ _ _ _ _ _ _ _ _ _ (c .before .before .before .before .before .loop .inv) (c .before .before .before .before .loop-test .taken) (c .visit-kids2 .ensures .0) (c .visit-kids2 .ensures .1 .0) (c .visit-kids2 .ensures .1 .1)
 
-wide-requires-2 : tie.Need-wide-requires-2 Inv-loop μ-loop
-wide-requires-2 c κs = tt
+size16-requires-2 : tie.Need-size16-requires-2 Inv-loop μ-loop
+size16-requires-2 c κs = tt
 
 element-copy-out-back : tie.Need-element-copy-out-back Inv-loop μ-loop
 element-copy-out-back c =
-    omega (arith, c .wide2 .ensures, c .before .before .before .before .before .before .before .before .before .before .before .before .pre .1 .0)
+    omega (arith, c .size162 .ensures, c .before .before .before .before .before .before .before .before .before .before .before .before .pre .1 .0)
 
 wipe-requires : tie.Need-wipe-requires Inv-loop μ-loop
 wipe-requires c κs =
@@ -79,7 +79,7 @@ returns-2 : tie.Need-returns-2 Inv-loop μ-loop
 returns-2 c =
     let t = c .before .before .before .before .before .loop-test .left in
     let w = c .before .before .before .before .before .before .loop .inv .within in
-    (search-told (chart (c .before .before .before .before .before .before .before .before .before .before .before .before .before .before .before .before .args .rows .now) (c .before .before .before .before .before .before .before .before .before .before .before .before .before .before .before .before .args .words .now) (c .before .before .before .before .before .before .before .before .before .before .before .before .before .before .before .before .args .kids .now)) _ _ _ (c .before .before .before .before .before .before .before .before .before .before .before .before .before .before .before .before .pre .0) _ _ _ _ _ (c .before .before .before .before .before .before .loop .inv) (omega arith) (c .before .before .before .before .before .before .before .before .before .before .before .before .before .before .before .before .pre .1 .0) (c .before .before .before .before .wide2 .ensures), c .wipe .ensures)
+    (search-told (chart (c .before .before .before .before .before .before .before .before .before .before .before .before .before .before .before .before .args .rows .now) (c .before .before .before .before .before .before .before .before .before .before .before .before .before .before .before .before .args .words .now) (c .before .before .before .before .before .before .before .before .before .before .before .before .before .before .before .before .args .kids .now)) _ _ _ (c .before .before .before .before .before .before .before .before .before .before .before .before .before .before .before .before .pre .0) _ _ _ _ _ (c .before .before .before .before .before .before .loop .inv) (omega arith) (c .before .before .before .before .before .before .before .before .before .before .before .before .before .before .before .before .pre .1 .0) (c .before .before .before .before .size162 .ensures), c .wipe .ensures)
 
 pub returning-spec : {M : Type 1} → statement M
 returning-spec =
@@ -87,7 +87,7 @@ returning-spec =
     (tie.spec
     Inv-loop
     μ-loop
-    wide-requires
+    size16-requires
     mul-if1
     element-copy-out-if1
     returns
@@ -99,7 +99,7 @@ returning-spec =
     add-head
     loop-less
     loop-again
-    wide-requires-2
+    size16-requires-2
     element-copy-out-back
     wipe-requires
     returns-2)

@@ -1,12 +1,12 @@
 -- `rule_check::settled` meets its contract. Assumes nothing.
 use native.Mathlib.Omega.{arith}
-use mathlib.Core.Path.{_≡_, refl, sym, ap, subst}
+use mathlib.Core.Path.{_≡_, sym}
 use Prim.Native.Nat.{ℕ, _<_}
 use lib.ListN.{getD}
 use Rattle.classes.specs.Answers.{rep}
-use Rattle.rule_check.specs.Holding.{chart, kid-in}
+use Rattle.rule_rows.specs.Holding.{chart}
 use Rattle.rule_check.specs.Search.{Safe}
-use Rattle.rule_check.proofs.Joining.{no-bool}
+use Rattle.rule_rows.proofs.Reading.{no-bool}
 use Rattle.rule_check.proofs.Settling.{safe-none, settled-yes}
 use Rattle.rule_check.proofs.settled.Statement.{statement}
 use Rattle.rule_check.proofs.settled.Tie as tie

@@ -1,5 +1,4 @@
 -- `rule_check::turn` meets its contract. Assumes nothing.
-use native.Mathlib.Omega.{arith}
 use Rattle.rule_check.proofs.Settling.{rep-inside, turn-was, turn-not, turn-now}
 use borrow.Author.Needs.{needs}
 use Rattle.rule_check.proofs.turn.Statement.{statement}
@@ -8,26 +7,26 @@ use Rattle.rule_check.proofs.turn.Tie as tie
 rep-in-requires : tie.Need-rep-in-requires
 rep-in-requires c κs = tt
 
-wide-requires : tie.Need-wide-requires
-wide-requires c κs = tt
+size16-requires : tie.Need-size16-requires
+size16-requires c κs = tt
 
 element-copy-out-if1 : tie.Need-element-copy-out-if1
 element-copy-out-if1 c =
-    rep-inside _ _ (c .before .before .before .before .before .pre .0) _ _ _ (c .before .before .before .before .before .pre .1 .0) (c .before .rep-in .ensures) (c .wide .ensures)
+    rep-inside _ _ (c .before .before .before .before .before .pre .0) _ _ _ (c .before .before .before .before .before .pre .1 .0) (c .before .rep-in .ensures) (c .size16 .ensures)
 
 returns : tie.Need-returns
 returns c =
-    turn-was (c .before .before .before .before .before .before .before .args .rows .now) (c .before .before .before .before .before .before .before .args .words .now) (c .before .before .before .before .before .before .before .args .kids .now) (c .before .before .before .before .before .before .before .args .p .now) (c .before .before .before .before .before .before .before .args .boss .now) (c .before .before .before .before .before .before .before .args .turned .now) (c .before .before .before .before .before .before .before .pre .1 .1) _ _ _ (rep-inside _ _ (c .before .before .before .before .before .before .before .pre .0) _ _ _ (c .before .before .before .before .before .before .before .pre .1 .0) (c .before .before .before .rep-in .ensures) (c .before .before .wide .ensures)) (c .before .before .before .rep-in .ensures) (c .before .before .wide .ensures) (c .if1 .taken)
+    turn-was (c .before .before .before .before .before .before .before .args .rows .now) (c .before .before .before .before .before .before .before .args .words .now) (c .before .before .before .before .before .before .before .args .kids .now) (c .before .before .before .before .before .before .before .args .p .now) (c .before .before .before .before .before .before .before .args .boss .now) (c .before .before .before .before .before .before .before .args .turned .now) (c .before .before .before .before .before .before .before .pre .1 .1) _ _ _ (rep-inside _ _ (c .before .before .before .before .before .before .before .pre .0) _ _ _ (c .before .before .before .before .before .before .before .pre .1 .0) (c .before .before .before .rep-in .ensures) (c .before .before .size16 .ensures)) (c .before .before .before .rep-in .ensures) (c .before .before .size16 .ensures) (c .if1 .taken)
 
-mul-wide : tie.Need-mul-wide
-mul-wide c = search needs
+mul-size16 : tie.Need-mul-size16
+mul-size16 c = search needs
 
-element-copy-out-wide : tie.Need-element-copy-out-wide
-element-copy-out-wide c =
-    rep-inside _ _ (c .before .before .before .before .before .before .before .pre .0) _ _ _ (c .before .before .before .before .before .before .before .pre .1 .0) (c .before .before .before .rep-in .ensures) (c .before .before .wide .ensures)
+element-copy-out-size16 : tie.Need-element-copy-out-size16
+element-copy-out-size16 c =
+    rep-inside _ _ (c .before .before .before .before .before .before .before .pre .0) _ _ _ (c .before .before .before .before .before .before .before .pre .1 .0) (c .before .before .before .rep-in .ensures) (c .before .before .size16 .ensures)
 
-wide-requires-2 : tie.Need-wide-requires-2
-wide-requires-2 c κs = tt
+size16-requires-2 : tie.Need-size16-requires-2
+size16-requires-2 c κs = tt
 
 at-requires : tie.Need-at-requires
 at-requires c κs = tt
@@ -37,27 +36,27 @@ ready-requires c κs = search needs
 
 element-write-turned : tie.Need-element-write-turned
 element-write-turned c =
-    rep-inside _ _ (c .before .before .before .before .before .before .before .before .before .before .before .before .before .pre .0) _ _ _ (c .before .before .before .before .before .before .before .before .before .before .before .before .before .pre .1 .0) (c .before .before .before .before .before .before .before .before .before .rep-in .ensures) (c .before .before .before .before .before .before .before .before .wide .ensures)
+    rep-inside _ _ (c .before .before .before .before .before .before .before .before .before .before .before .before .before .pre .0) _ _ _ (c .before .before .before .before .before .before .before .before .before .before .before .before .before .pre .1 .0) (c .before .before .before .before .before .before .before .before .before .rep-in .ensures) (c .before .before .before .before .before .before .before .before .size16 .ensures)
 
 returns-2 : tie.Need-returns-2
 returns-2 c =
-    turn-now (c .before .before .before .before .before .before .before .before .before .before .before .before .before .args .rows .now) (c .before .before .before .before .before .before .before .before .before .before .before .before .before .args .words .now) (c .before .before .before .before .before .before .before .before .before .before .before .before .before .args .kids .now) (c .before .before .before .before .before .before .before .before .before .before .before .before .before .args .p .now) (c .before .before .before .before .before .before .before .before .before .before .before .before .before .args .boss .now) (c .before .before .before .before .before .before .before .before .before .before .before .before .before .args .turned .now) (c .before .before .before .before .before .before .before .before .before .before .before .before .before .pre .1 .1) _ _ _ (rep-inside _ _ (c .before .before .before .before .before .before .before .before .before .before .before .before .before .pre .0) _ _ _ (c .before .before .before .before .before .before .before .before .before .before .before .before .before .pre .1 .0) (c .before .before .before .before .before .before .before .before .before .rep-in .ensures) (c .before .before .before .before .before .before .before .before .wide .ensures)) (c .before .before .before .before .before .before .before .before .before .rep-in .ensures) (c .before .before .before .before .before .before .before .before .wide .ensures) _ _ (c .before .before .before .before .wide2 .ensures) (c .before .before .before .at .ensures) (c .before .ready .ensures (c .if2 .taken))
+    turn-now (c .before .before .before .before .before .before .before .before .before .before .before .before .before .args .rows .now) (c .before .before .before .before .before .before .before .before .before .before .before .before .before .args .words .now) (c .before .before .before .before .before .before .before .before .before .before .before .before .before .args .kids .now) (c .before .before .before .before .before .before .before .before .before .before .before .before .before .args .p .now) (c .before .before .before .before .before .before .before .before .before .before .before .before .before .args .boss .now) (c .before .before .before .before .before .before .before .before .before .before .before .before .before .args .turned .now) (c .before .before .before .before .before .before .before .before .before .before .before .before .before .pre .1 .1) _ _ _ (rep-inside _ _ (c .before .before .before .before .before .before .before .before .before .before .before .before .before .pre .0) _ _ _ (c .before .before .before .before .before .before .before .before .before .before .before .before .before .pre .1 .0) (c .before .before .before .before .before .before .before .before .before .rep-in .ensures) (c .before .before .before .before .before .before .before .before .size16 .ensures)) (c .before .before .before .before .before .before .before .before .before .rep-in .ensures) (c .before .before .before .before .before .before .before .before .size16 .ensures) _ _ (c .before .before .before .before .size162 .ensures) (c .before .before .before .at .ensures) (c .before .ready .ensures (c .if2 .taken))
 
 returns-3 : tie.Need-returns-3
 returns-3 c =
-    turn-not (c .before .before .before .before .before .before .before .before .before .before .before .before .before .args .rows .now) (c .before .before .before .before .before .before .before .before .before .before .before .before .before .args .words .now) (c .before .before .before .before .before .before .before .before .before .before .before .before .before .args .kids .now) (c .before .before .before .before .before .before .before .before .before .before .before .before .before .args .p .now) (c .before .before .before .before .before .before .before .before .before .before .before .before .before .args .boss .now) (c .before .before .before .before .before .before .before .before .before .before .before .before .before .args .turned .now) (c .before .before .before .before .before .before .before .before .before .before .before .before .before .pre .1 .1) _ _ _ (rep-inside _ _ (c .before .before .before .before .before .before .before .before .before .before .before .before .before .pre .0) _ _ _ (c .before .before .before .before .before .before .before .before .before .before .before .before .before .pre .1 .0) (c .before .before .before .before .before .before .before .before .before .rep-in .ensures) (c .before .before .before .before .before .before .before .before .wide .ensures)) (c .before .before .before .before .before .before .before .before .before .rep-in .ensures) (c .before .before .before .before .before .before .before .before .wide .ensures)
+    turn-not (c .before .before .before .before .before .before .before .before .before .before .before .before .before .args .rows .now) (c .before .before .before .before .before .before .before .before .before .before .before .before .before .args .words .now) (c .before .before .before .before .before .before .before .before .before .before .before .before .before .args .kids .now) (c .before .before .before .before .before .before .before .before .before .before .before .before .before .args .p .now) (c .before .before .before .before .before .before .before .before .before .before .before .before .before .args .boss .now) (c .before .before .before .before .before .before .before .before .before .before .before .before .before .args .turned .now) (c .before .before .before .before .before .before .before .before .before .before .before .before .before .pre .1 .1) _ _ _ (rep-inside _ _ (c .before .before .before .before .before .before .before .before .before .before .before .before .before .pre .0) _ _ _ (c .before .before .before .before .before .before .before .before .before .before .before .before .before .pre .1 .0) (c .before .before .before .before .before .before .before .before .before .rep-in .ensures) (c .before .before .before .before .before .before .before .before .size16 .ensures)) (c .before .before .before .before .before .before .before .before .before .rep-in .ensures) (c .before .before .before .before .before .before .before .before .size16 .ensures)
 
 pub turn-spec : {M : Type 1} → statement M
 turn-spec =
     tie.close
     (tie.spec
     rep-in-requires
-    wide-requires
+    size16-requires
     element-copy-out-if1
     returns
-    mul-wide
-    element-copy-out-wide
-    wide-requires-2
+    mul-size16
+    element-copy-out-size16
+    size16-requires-2
     at-requires
     ready-requires
     element-write-turned

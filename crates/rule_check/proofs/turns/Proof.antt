@@ -1,10 +1,10 @@
 -- `rule_check::turns` meets its contract. Assumes nothing.
 use native.Mathlib.Omega.{arith}
-use mathlib.Core.Path.{_≡_, refl, sym, ap, subst}
+use mathlib.Core.Path.{_≡_, refl}
 use mathlib.Core.Logic.{inl, inr}
 use Prim.Native.Nat.{_+_, _-_}
 use borrow.Author.Tests.{not-true, not-false}
-use Rattle.rule_check.specs.Holding.{chart, kid-in}
+use Rattle.rule_rows.specs.Holding.{chart}
 use Rattle.rule_check.proofs.Settling.{TurnsTo, turns-none, turns-step, turns-done}
 use Rattle.rule_check.proofs.turns.Statement.{statement}
 use Rattle.rule_check.proofs.turns.Tie as tie

@@ -1,6 +1,6 @@
 -- `rule_check::visit` meets its contract. Assumes nothing.
 use native.Mathlib.Omega.{arith}
-use mathlib.Core.Path.{_≡_, refl, sym, ap, subst}
+use mathlib.Core.Path.{_≡_, refl, ap, subst}
 use Prim.Native.Nat.{ℕ}
 use lib.ListN.{getD, set}
 use Rattle.rule_check.specs.Search.{old, new}
@@ -8,41 +8,41 @@ use borrow.Author.Needs.{needs}
 use Rattle.rule_check.proofs.visit.Statement.{statement}
 use Rattle.rule_check.proofs.visit.Tie as tie
 
-wide-requires : tie.Need-wide-requires
-wide-requires c κs = tt
+size16-requires : tie.Need-size16-requires
+size16-requires c κs = tt
 
 element-copy-out-if1 : tie.Need-element-copy-out-if1
 element-copy-out-if1 c = search needs
 
 returns : tie.Need-returns
 returns c =
-    old (λ e. c .if1 .taken (rw (c .before .before .wide .ensures) e)) refl refl refl
+    old (λ e. c .if1 .taken (rw (c .before .before .size16 .ensures) e)) refl refl refl
 
 element-write-seen : tie.Need-element-write-seen
 element-write-seen c = search needs
 
 mul-queue : tie.Need-mul-queue
 mul-queue c =
-    let h = c .before .before .before .pre .1 (subst (λ (i : ℕ). getD (c .before .before .before .args .seen .now) i 0 ≡ 0) (c .before .before .wide .ensures) (c .if1 .left)) in omega arith
+    let h = c .before .before .before .pre .1 (subst (λ (i : ℕ). getD (c .before .before .before .args .seen .now) i 0 ≡ 0) (c .before .before .size16 .ensures) (c .if1 .left)) in omega arith
 
 element-write-queue : tie.Need-element-write-queue
 element-write-queue c =
-    let h = c .before .before .before .pre .1 (subst (λ (i : ℕ). getD (c .before .before .before .args .seen .now) i 0 ≡ 0) (c .before .before .wide .ensures) (c .if1 .left)) in omega arith
+    let h = c .before .before .before .pre .1 (subst (λ (i : ℕ). getD (c .before .before .before .args .seen .now) i 0 ≡ 0) (c .before .before .size16 .ensures) (c .if1 .left)) in omega arith
 
 add-result : tie.Need-add-result
 add-result c =
-    let h = c .before .before .before .pre .1 (subst (λ (i : ℕ). getD (c .before .before .before .args .seen .now) i 0 ≡ 0) (c .before .before .wide .ensures) (c .if1 .left)) in omega arith
+    let h = c .before .before .before .pre .1 (subst (λ (i : ℕ). getD (c .before .before .before .args .seen .now) i 0 ≡ 0) (c .before .before .size16 .ensures) (c .if1 .left)) in omega arith
 
 returns-2 : tie.Need-returns-2
 returns-2 c =
-    let w = c .before .before .wide .ensures in
+    let w = c .before .before .size16 .ensures in
     new (rw w at (c .if1 .left)) (ap (λ (i : ℕ). set (c .before .before .before .args .seen .now) i 1) w) refl refl
 
 pub visit-spec : {M : Type 1} → statement M
 visit-spec =
     tie.close
     (tie.spec
-    wide-requires
+    size16-requires
     element-copy-out-if1
     returns
     element-write-seen

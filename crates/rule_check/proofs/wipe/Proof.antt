@@ -15,20 +15,20 @@ loop-holds : tie.Need-loop-holds Inv-loop μ-loop
 loop-holds c =
     (omega arith, wiped-none _ _ _ (c .pre))
 
-mul-wide : tie.Need-mul-wide Inv-loop μ-loop
-mul-wide c =
+mul-size16 : tie.Need-mul-size16 Inv-loop μ-loop
+mul-size16 c =
     let h = c .before .before .pre .few in let t = c .loop-test .taken in omega arith
 
-element-copy-out-wide : tie.Need-element-copy-out-wide Inv-loop μ-loop
-element-copy-out-wide c =
+element-copy-out-size16 : tie.Need-element-copy-out-size16 Inv-loop μ-loop
+element-copy-out-size16 c =
     let h = c .before .before .pre .few in let t = c .loop-test .taken in omega arith
 
-wide-requires : tie.Need-wide-requires Inv-loop μ-loop
-wide-requires c κs = tt
+size16-requires : tie.Need-size16-requires Inv-loop μ-loop
+size16-requires c κs = tt
 
 element-write-seen : tie.Need-element-write-seen Inv-loop μ-loop
 element-write-seen c =
-    let h = c .before .before .before .before .pre .sites _ (c .before .before .loop-test .taken) in let e = c .wide .ensures in omega arith
+    let h = c .before .before .before .before .pre .sites _ (c .before .before .loop-test .taken) in let e = c .size16 .ensures in omega arith
 
 add-k : tie.Need-add-k Inv-loop μ-loop
 add-k c =
@@ -40,7 +40,7 @@ loop-less c =
 
 loop-again : tie.Need-loop-again Inv-loop μ-loop
 loop-again c =
-    (omega arith, wiped-step _ _ _ _ _ (c .wide .ensures) (let h = c .before .before .before .before .pre .sites _ (c .before .before .loop-test .taken) in let e = c .wide .ensures in omega arith) (c .before .before .before .loop .inv .1))
+    (omega arith, wiped-step _ _ _ _ _ (c .size16 .ensures) (let h = c .before .before .before .before .pre .sites _ (c .before .before .loop-test .taken) in let e = c .size16 .ensures in omega arith) (c .before .before .before .loop .inv .1))
 
 returns : tie.Need-returns Inv-loop μ-loop
 returns c =
@@ -53,9 +53,9 @@ wipe-spec =
     Inv-loop
     μ-loop
     loop-holds
-    mul-wide
-    element-copy-out-wide
-    wide-requires
+    mul-size16
+    element-copy-out-size16
+    size16-requires
     element-write-seen
     add-k
     loop-less

@@ -17,7 +17,7 @@ loop-holds : tie.Need-loop-holds Inv-loop μ-loop
 loop-holds c = record { within = omega arith; walking = walking-none _ _ _ _ _ _ _ _ _ (c .before .before .before .before .before .before .before .before .pre .0 .0); long = long-self _ _ _ _ _ _; inside = λ I. I }
 
 item-at-requires : tie.Need-item-at-requires Inv-loop μ-loop
-item-at-requires c κs = search needs
+item-at-requires c κs = tt
 
 cast-take-item : tie.Need-cast-take-item Inv-loop μ-loop
 cast-take-item c = search needs

@@ -1,0 +1,3 @@
+-- What the contracts of `rule_classes` cite.
+pub mod Growing
+pub mod Meeting

@@ -1,0 +1,4 @@
+-- Laws of how the lists are read.
+pub mod Reading
+pub mod Holders
+pub mod Agreeing

@@ -1,0 +1,60 @@
+-- `rule_rows::higher` meets its contract. Assumes nothing.
+use native.Mathlib.Omega.{arith}
+use mathlib.Core.Path.{sym}
+use Prim.Native.Nat.{ℕ, _≤_, _<_, _-_}
+use borrow.Author.Count.{below-more}
+use Rattle.rule_rows.specs.Holding.{kid-in}
+use Rattle.rule_rows.proofs.Reading.{no-bool, kid-higher}
+use Rattle.rule_rows.proofs.higher.Statement.{statement}
+use Rattle.rule_rows.proofs.higher.Tie as tie
+
+abbrev Inv-loop : tie.InvT-loop
+Inv-loop words kids i s m f₀ f = (f ≤ m) × ((g : ℕ) → g < f → s < kid-in kids i g)
+
+abbrev μ-loop : tie.MeasureT-loop
+μ-loop words kids i s m f₀ f = m - f
+
+fields-requires : tie.Need-fields-requires Inv-loop μ-loop
+fields-requires c κs = tt
+
+loop-holds : tie.Need-loop-holds Inv-loop μ-loop
+loop-holds c =
+    (omega arith, λ g h. absurd (omega arith))
+
+kid-requires : tie.Need-kid-requires Inv-loop μ-loop
+kid-requires c κs = tt
+
+returns : tie.Need-returns Inv-loop μ-loop
+returns c =
+    λ e. no-bool (sym e)
+
+add-f : tie.Need-add-f Inv-loop μ-loop
+add-f c =
+    omega arith
+
+loop-less : tie.Need-loop-less Inv-loop μ-loop
+loop-less c =
+    omega arith
+
+loop-again : tie.Need-loop-again Inv-loop μ-loop
+loop-again c =
+    (omega arith, below-more _ _ (c .before .before .before .loop .inv .1) (kid-higher _ _ _ _ _ (c .before .kid .ensures) (c .if1 .left)))
+
+returns-2 : tie.Need-returns-2 Inv-loop μ-loop
+returns-2 c =
+    λ _ g h. let e = c .before .before .fields .ensures in let t = c .loop-test .left in c .before .loop .inv .1 g (omega arith)
+
+pub higher-spec : {M : Type 1} → statement M
+higher-spec =
+    tie.close
+    (tie.spec
+    Inv-loop
+    μ-loop
+    fields-requires
+    loop-holds
+    kid-requires
+    returns
+    add-f
+    loop-less
+    loop-again
+    returns-2)
