@@ -7,16 +7,17 @@ use native.Mathlib.Omega.{arith}
 use lib.ListN.{length, take, drop, length-drop}
 use lib.Seq.{drop-drop, take-all}
 use lib.Dec.{eqb, leb}
-use borrow.Author.Tests.{le-leb, lt-leb, leb-true, leb-false, eq-eqb, ne-eqb}
+use borrow.Author.Tests.{le-leb, lt-leb, leb-true, leb-false, eq-eqb, ne-eqb, eqb-true}
 use Rattle.paper.specs.Words.{if_then_else_}
+use Rattle.paper.specs.Sheets.{Reader, step}
 use Rattle.paper.specs.Layout.{Lines, nothing, unended, line, lines, push}
 use Rattle.sheet_lines.specs.declared.Ends.{Ends}
 use Rattle.sheet_lines.specs.declared.Ends.the-variants.{At, Open}
 use Rattle.sheet_lines.specs.declared.Held.{Held}
 use Rattle.sheet_lines.specs.declared.Cut.{Cut}
-use Rattle.sheet_lines.specs.Fed.{max-held, line-feed}
+use Rattle.sheet_lines.specs.Fed.{max-held, line-feed, held-of, step-held}
 use Rattle.sheet_lines.specs.Ends.{line-end, Free, Ending, ends-at, open-free}
-use Rattle.sheet_lines.specs.Held.{Holds, held-in, held-more}
+use Rattle.sheet_lines.specs.Held.{Holds, held-in, held-more, held-more-is}
 
 -- s from a to b; nothing where that is not there
 unfoldable pub part-of : List ℕ → ℕ → ℕ → List ℕ
@@ -154,18 +155,21 @@ pub rest-some : (h r : Held) (l m : List ℕ) → (h .length ≡ 0 → ⊥) → 
 unfolding held-rest
 rest-some h r l m n e w = let a = w .short in let b = w .whole in (rw (ne-eqb (h .length) 0 n) e, omega arith)
 
-pub cut-is : (h : Held) (s : List ℕ) (from : ℕ) (w : Ends) (c : Cut) → w ≡ line-end from (drop from s) → c ≡ cut-by h s from w → c ≡ cut-at h s from
+pub cut-is : (h : Held) (s : List ℕ) (from : ℕ) (w : Ends) (c : Cut) → w ≡ line-end from (drop from s) → c ≡ cut-by h s from w →
+    c ≡ cut-at h s from
 unfolding cut-at
 cut-is h s from w c e f = f ∙ ap (cut-by h s from) e
 
-pub cut-at-end : (h r : Held) (s l : List ℕ) (from e : ℕ) (w : Ends) → w ≡ line-end from (drop from s) → w ≡ At e → l ≡ part-of s from e → (r ≡ held-rest h l)
+pub cut-at-end : (h r : Held) (s l : List ℕ) (from e : ℕ) (w : Ends) → w ≡ line-end from (drop from s) → w ≡ At e → l ≡ part-of s from e →
+    (r ≡ held-rest h l)
     × Fits r →
     (record { unended = false; to = e; held = r } ≡ cut-at h s from) × Fits r
 cut-at-end h r s l from e w a b p q =
     let x : r ≡ held-rest h (part-of s from e) = q .0 ∙ ap (held-rest h) p in
     (cut-is h s from (At e) _ (sym b ∙ a) (ap (λ (z : Held). record { unended = false; to = e; held = z }) x), q .1)
 
-pub cut-at-none : (h r : Held) (s l m : List ℕ) (from : ℕ) (w : Ends) → w ≡ line-end from (drop from s) → w ≡ Open → l ≡ part-of s from (length s) →
+pub cut-at-none : (h r : Held) (s l m : List ℕ) (from : ℕ) (w : Ends) → w ≡ line-end from (drop from s) → w ≡ Open →
+    l ≡ part-of s from (length s) →
     (r ≡ held-more h l) × Holds r m →
     (record { unended = true; to = length s; held = r } ≡ cut-at h s from) × Fits r
 cut-at-none h r s l m from w a b p q =
@@ -183,7 +187,8 @@ module _ (h : Held) (s : List ℕ) (from : ℕ) (c : Cut) (is : c ≡ cut-at h s
   unfolding cut-at
   cut-open o = go (line-end from (drop from s)) refl is
     where
-      go : (w : Ends) → line-end from (drop from s) ≡ w → c ≡ cut-by h s from w → (line-end from (drop from s) ≡ Open) × (c .held ≡ held-more h (drop from s))
+      go : (w : Ends) → line-end from (drop from s) ≡ w → c ≡ cut-by h s from w → (line-end from (drop from s) ≡ Open)
+          × (c .held ≡ held-more h (drop from s))
       go (At e) q f = no-way (sym o ∙ ap (λ (z : Cut). z .unended) f)
       go Open q f = (q, ap (λ (z : Cut). z .held) f ∙ ap (held-more h) (part-rest s from))
 
@@ -199,7 +204,26 @@ module _ (h : Held) (s : List ℕ) (from : ℕ) (c : Cut) (is : c ≡ cut-at h s
       go Open q f = no-way (sym (ap (λ (z : Cut). z .unended) f) ∙ o)
 
 -- as code has it: the part that is held, then the part of the piece
-pub line-cut : (h k : Held) (l x y : List ℕ) → k ≡ held-rest h l → Fits k → x ≡ part-of (k .bytes) 0 (k .length) → y ≡ line-from x l → y ≡ line-with h l
+pub line-cut : (h k : Held) (l x y : List ℕ) → k ≡ held-rest h l → Fits k → x ≡ part-of (k .bytes) 0 (k .length) → y ≡ line-from x l →
+    y ≡ line-with h l
 line-cut h k l x y e f g w =
     let t : x ≡ held-in (held-rest h l) = g ∙ (sym (first-there (k .bytes) (k .length) f) ∙ ap held-in e) in
     w ∙ ap (λ z. line-from z l) t
+
+-- ---- a line that was cut says what its bytes say
+step-from : (d : Reader) (at : ℕ) (z h l : List ℕ) → z ≡ held-of (h ++ l) → step d at (line-from z l) ≡ step d at (h ++ l)
+unfolding line-from
+step-from d at [] [] l e = refl
+step-from d at [] (b ∷ h) l e = absurd (let z : _≡_ {A = ℕ} 0 1 = cc in omega arith)
+step-from d at (c ∷ z) h l e = ap (step d at) e ∙ step-held d at (h ++ l)
+
+pub step-with : (d : Reader) (at : ℕ) (h : Held) (l : List ℕ) → length (h .bytes) ≡ max-held →
+    step d at (line-with h l) ≡ step d at (held-in h ++ l)
+unfolding held-rest line-from
+step-with d at h l w = go (eqb (h .length) 0) refl
+  where
+    go : (t : Bool) → eqb (h .length) 0 ≡ t → step d at (line-from (held-in (if t then h else held-more h l)) l) ≡ step d at (held-in h ++ l)
+    go true q =
+        let n : h .length ≡ 0 = eqb-true (h .length) 0 q in
+        ap (λ k. step d at (line-from (take k (h .bytes)) l)) n ∙ sym (ap (λ k. step d at (take k (h .bytes) ++ l)) n)
+    go false q = step-from d at (held-in (held-more h l)) (held-in h) l (held-more-is h l w)

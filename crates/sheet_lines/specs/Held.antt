@@ -106,7 +106,8 @@ held-more-short : (h : Held) (s : List ℕ) → held-more h s .length ≤ max-he
 unfolding held-more
 held-more-short h s = go (leb (h .length) max-held) refl
   where
-    go : (t : Bool) → leb (h .length) max-held ≡ t → (if t then held-behind h s (min (length s) (max-held - h .length)) else held-all h) .length ≤ max-held
+    go : (t : Bool) → leb (h .length) max-held ≡ t →
+        (if t then held-behind h s (min (length s) (max-held - h .length)) else held-all h) .length ≤ max-held
     go true e = let l = leb-true (h .length) max-held e in omega arith
     go false e = omega arith
 
