@@ -117,10 +117,9 @@ fn open_set(s: Stands) -> OpenSet
 // The pairs of rule i with the later ones.
 fn put_pairs_of(words: &[u64], i: u32, rules: u32, out: &mut [u8], at: usize) -> usize
     requires { ⌜ i < rules ⌝ }
-    ensures { λ r. ⌜
+    ensures { λ r.
         let kept = kept-in (now (words .entry)) in
-        (now (out .exit), r) ≡ wrote (now (out .entry), at) (pairs-with (kept i) (run kept (i + 1) (rules - (i + 1))))
-        ⌝ }
+        ⌜ (now (out .exit), r) ≡ wrote (now (out .entry), at) (pairs-with (kept i) (run kept (i + 1) (rules - (i + 1)))) ⌝ }
 {
     let mut n = at;
     for j in i + 1..rules {
@@ -152,10 +151,9 @@ fn put_event(
     out: &mut [u8],
     at: usize,
 ) -> usize
-    ensures { λ r. ⌜
+    ensures { λ r.
         let text = event-text e (set-of stood) (set-of stands) (now (m .entry)) (now (words .entry)) (now (found .entry)) in
-        (now (out .exit), r) ≡ wrote (now (out .entry), at) text
-        ⌝ }
+        ⌜ (now (out .exit), r) ≡ wrote (now (out .entry), at) text ⌝ }
 {
     let before = open_set(stood);
     let after = open_set(stands);
@@ -193,10 +191,9 @@ pub fn put_step(
     out: &mut [u8],
     at: usize,
 ) -> usize
-    ensures { λ r. ⌜
+    ensures { λ r.
         let text = answer how e stood stands (now (m .entry)) (now (words .entry)) (now (found .entry)) in
-        (now (out .exit), r) ≡ wrote (now (out .entry), at) text
-        ⌝ }
+        ⌜ (now (out .exit), r) ≡ wrote (now (out .entry), at) text ⌝ }
 {
     match how {
         How::Check => put_text(out, at, found),

@@ -1,35 +1,32 @@
--- What the contracts come to: the findings in words are each finding in words; a line's answer is the paper's; and what is written out, with what the
--- buffer then has, is what it had, with the answer behind it.
-use mathlib.Core.Path.{_≡_, refl, sym, ap, subst, _∙_}
-use mathlib.Core.Bool.{Bool, true, false, _&&_}
-use mathlib.Core.Option.{Option, none, some}
-use mathlib.Core.List.{List, [], _∷_, _++_, map}
-use Prim.Native.Nat.{ℕ, zero, suc, _+_, _-_, _*_, _%_, _≤_, _<_}
+-- What the contracts come to: a line's answer is the paper's; and what is written out, with what the buffer then has, is what it had, with the answer
+-- behind it.
+use mathlib.Core.Path.{_≡_, refl, sym, ap, _∙_}
+use mathlib.Core.Bool.{Bool, true, false}
+use mathlib.Core.List.{List, [], _∷_, _++_}
+use Prim.Native.Nat.{ℕ, _+_, _-_, _≤_, _<_}
 use native.Mathlib.Omega.{arith}
 use lib.ListN.{length, take, drop, length-append}
 use lib.Seq.{take-all, take-at}
-use lib.Dec.{ltb, leb}
-use borrow.Author.Tests.{ltb-true, ltb-false}
-use Rattle.paper.specs.Words.{if_then_else_, joined}
-use Rattle.paper.specs.Layout.{hex, lines, digit, with-byte, bytes, frame-of}
+use lib.Dec.{ltb}
+use borrow.Author.Tests.{ltb-true}
+use Rattle.paper.specs.Words.{if_then_else_}
+use Rattle.paper.specs.Layout.{frame-of}
 use Rattle.paper.specs.Numbers.{Outcome}
 use Rattle.paper.specs.Sheets as paper
-use Rattle.sheet_findings.specs.Written.{digits-of, written-at}
-use Rattle.sheet_findings.specs.ReadBack.{AllBytes, digits-back, line-back}
-use Rattle.sheet_lines.specs.Pieces.{as-lines}
+use Rattle.sheet_findings.specs.Written.{written-at}
+use Rattle.sheet_lines.specs.Cut.{part-of, first-there}
 use Rattle.sheet_step.specs.State.{Lent, Tells, stands-in, reader-of, step-room}
 use Rattle.sheet_step.specs.Answers.{Answers, Goes, Steps, line-event, told, text-of}
 use Rattle.sheet_step.specs.declared.Reader.{Reader}
 use Rattle.sheet_step.specs.declared.Event.{Event}
-use Rattle.tell_english.specs.Said.{said}
 use Rattle.tell_text.specs.Written.{Room, wrote}
-use Rattle.run_lines.specs.declared.How.{How}
-use Rattle.run_lines.specs.declared.How.the-variants as how
+use Rattle.run_answers.specs.declared.How.{How}
+use Rattle.run_answers.specs.declared.How.the-variants as how
+use Rattle.run_answers.specs.Told.{answer}
+use Rattle.run_answers.proofs.Laws.{holds-first}
 use Rattle.run_lines.specs.declared.Marks.{Marks}
 use Rattle.run_lines.specs.declared.Flow.{Flow}
-use Rattle.run_lines.specs.Told.{part-of, byte-of, bytes-in, finding-room, finding-in, lines-said, in-words, answer, goes-on, need, spared, written-out}
-use Rattle.run_lines.specs.Taken.{free-in, Took}
-use Rattle.run_lines.proofs.Laws.{first-there, holds-first}
+use Rattle.run_lines.specs.Taken.{goes-on, need, spared, written-out, free-in, Took}
 
 -- ---- a line's answer is the paper's
 pub written-there : (room t : List ℕ) (to : ℕ) → to ≡ 0 + length t → part-of (written-at room 0 t) 0 to ≡ t

@@ -160,17 +160,15 @@ pub cut-is : (h : Held) (s : List ℕ) (from : ℕ) (w : Ends) (c : Cut) → w �
 unfolding cut-at
 cut-is h s from w c e f = f ∙ ap (cut-by h s from) e
 
-pub cut-at-end : (h r : Held) (s l : List ℕ) (from e : ℕ) (w : Ends) → w ≡ line-end from (drop from s) → w ≡ At e → l ≡ part-of s from e →
-    (r ≡ held-rest h l)
-    × Fits r →
+pub cut-at-end : (h r : Held) (s l : List ℕ) (from e : ℕ) (w : Ends) → w ≡ line-end from (drop from s) → w ≡ At e →
+    l ≡ part-of s from e → (r ≡ held-rest h l) × Fits r →
     (record { unended = false; to = e; held = r } ≡ cut-at h s from) × Fits r
 cut-at-end h r s l from e w a b p q =
     let x : r ≡ held-rest h (part-of s from e) = q .0 ∙ ap (held-rest h) p in
     (cut-is h s from (At e) _ (sym b ∙ a) (ap (λ (z : Held). record { unended = false; to = e; held = z }) x), q .1)
 
 pub cut-at-none : (h r : Held) (s l m : List ℕ) (from : ℕ) (w : Ends) → w ≡ line-end from (drop from s) → w ≡ Open →
-    l ≡ part-of s from (length s) →
-    (r ≡ held-more h l) × Holds r m →
+    l ≡ part-of s from (length s) → (r ≡ held-more h l) × Holds r m →
     (record { unended = true; to = length s; held = r } ≡ cut-at h s from) × Fits r
 cut-at-none h r s l m from w a b p q =
     let n = q .1 in

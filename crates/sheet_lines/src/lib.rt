@@ -130,12 +130,12 @@ pub fn cut_line(h: Held, piece: &[u8], from: usize) -> Cut
     }
 }
 
-// A line that was cut: what is held of it; or, where nothing is, the part of the piece that it is.
-pub fn line_of<'a>(held: &'a [u8], here: &'a [u8]) -> &'a [u8]
-    ensures { λ r. ⌜ now r ≡ line-from (now (held .entry)) (now (here .entry)) ⌝ }
+// A line that was cut: the bytes that are held of it; or, where none are, the part of the piece that it is.
+pub fn line_of<'a>(before: &'a [u8], here: &'a [u8]) -> &'a [u8]
+    ensures { λ r. ⌜ now r ≡ line-from (now (before .entry)) (now (here .entry)) ⌝ }
 {
-    if 0 < held.len() {
-        return held;
+    if 0 < before.len() {
+        return before;
     }
     here
 }

@@ -8,8 +8,8 @@ use Rattle.run_lines.proofs.end_sheet.Reads as reads
 use Rattle.run_lines.proofs.end_sheet.Lts as lts
 use Rattle.sheet_ended.proofs.to_or.Reads as to-or-reads
 use Rattle.sheet_read.proofs.end.Reads as end-reads
-use Rattle.run_lines.proofs.part.Reads as part-reads
-use Rattle.run_lines.proofs.put_end.Reads as put-end-reads
+use Rattle.sheet_lines.proofs.part.Reads as part-reads
+use Rattle.run_answers.proofs.put_end.Reads as put-end-reads
 use Rattle.run_lines.proofs.spare.Reads as spare-reads
 
 spare-requires : tie.Need-spare-requires

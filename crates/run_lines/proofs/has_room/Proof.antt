@@ -1,4 +1,4 @@
-use Rattle.run_lines.proofs.Laws.{no-room, room-left}
+use Rattle.run_lines.proofs.TakenLaws.{no-room, room-left}
 use borrow.Author.Needs.{needs}
 use Rattle.run_lines.proofs.has_room.Statement.{statement}
 use Rattle.run_lines.proofs.has_room.Tie as tie

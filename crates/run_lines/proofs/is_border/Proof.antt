@@ -1,4 +1,4 @@
-use Rattle.run_lines.proofs.Laws.{no-border, border-first, border-second, border-third, border-last}
+use Rattle.run_lines.proofs.TakenLaws.{no-border, border-first, border-second, border-third, border-last}
 use borrow.Author.Needs.{needs}
 use Rattle.run_lines.proofs.is_border.Statement.{statement}
 use Rattle.run_lines.proofs.is_border.Tie as tie

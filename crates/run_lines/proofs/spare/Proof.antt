@@ -1,10 +1,9 @@
-use Rattle.run_lines.proofs.Laws.{spared-here, spared-out}
+use Rattle.run_lines.proofs.TakenLaws.{spared-here, spared-out}
 use borrow.Author.Needs.{needs}
 use Rattle.run_lines.proofs.spare.Statement.{statement}
 use Rattle.run_lines.proofs.spare.Tie as tie
 use Rattle.run_lines.proofs.spare.Reads as reads
 use Rattle.run_lines.proofs.spare.Lts as lts
-use Rattle.run_lines.proofs.flush.Reads as flush-reads
 use Rattle.run_lines.proofs.has_room.Reads as has-room-reads
 
 has-room-requires : tie.Need-has-room-requires

@@ -6,8 +6,8 @@ use Rattle.run_lines.proofs.take_line.Reads as reads
 use Rattle.run_lines.proofs.take_line.Lts as lts
 use Rattle.run_lines.proofs.goes_on.Reads as goes-on-reads
 use Rattle.run_lines.proofs.has_found.Reads as has-found-reads
-use Rattle.run_lines.proofs.part.Reads as part-reads
-use Rattle.run_lines.proofs.put_step.Reads as put-step-reads
+use Rattle.sheet_lines.proofs.part.Reads as part-reads
+use Rattle.run_answers.proofs.put_step.Reads as put-step-reads
 use Rattle.run_lines.proofs.spare.Reads as spare-reads
 use Rattle.sheet_step.proofs.step.Reads as step-reads
 

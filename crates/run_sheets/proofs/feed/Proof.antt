@@ -1,4 +1,4 @@
-use Rattle.run_sheets.proofs.TakenLaws.{chunk-open, chunk-line}
+use Rattle.run_sheets.proofs.ChunkLaws.{chunk-open, chunk-line}
 use native.Mathlib.Omega.{arith}
 use borrow.Author.Needs.{needs}
 use Rattle.run_sheets.proofs.feed.Statement.{statement}
@@ -10,7 +10,7 @@ use Rattle.run_sheets.proofs.feed_rest.Reads as feed-rest-reads
 use Rattle.run_sheets.proofs.line_end.Reads as line-end-reads
 use Rattle.run_sheets.proofs.line_of.Reads as line-of-reads
 use Rattle.run_sheets.proofs.part.Reads as part-reads
-use Rattle.run_sheets.proofs.take_text.Reads as take-text-reads
+use Rattle.run_lines.proofs.take_text.Reads as take-text-reads
 
 line-end-requires : tie.Need-line-end-requires
 line-end-requires c κs = search needs

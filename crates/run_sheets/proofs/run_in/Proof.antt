@@ -1,12 +1,11 @@
-use Rattle.run_sheets.proofs.TakenLaws.{ran-here}
+use Rattle.run_sheets.proofs.ChunkLaws.{ran-here}
 use borrow.Author.Needs.{needs}
 use Rattle.run_sheets.proofs.run_in.Statement.{statement}
 use Rattle.run_sheets.proofs.run_in.Tie as tie
 use Rattle.run_sheets.proofs.run_in.Reads as reads
 use Rattle.run_sheets.proofs.run_in.Lts as lts
-use Rattle.run_sheets.proofs.end_sheet.Reads as end-sheet-reads
-use Rattle.run_sheets.proofs.flush.Reads as flush-reads
-use Rattle.run_sheets.proofs.fresh.Reads as fresh-reads
+use Rattle.run_lines.proofs.end_sheet.Reads as end-sheet-reads
+use Rattle.run_lines.proofs.fresh.Reads as fresh-reads
 use Rattle.run_sheets.proofs.read_all.Reads as read-all-reads
 
 fresh-requires : tie.Need-fresh-requires
