@@ -51,6 +51,10 @@ fn has_room(len: usize, n: usize) -> bool
     NEED < len - n
 }
 
+fn flush(out: &[u8], n: usize) {
+    io::write_all(libc::STDOUT_FILENO, part(out, 0, n));
+}
+
 // Writes the buffer out where less than NEED is left: how much of it is filled then.
 fn spare(out: &[u8], n: usize) -> usize
     ensures { λ r. ⌜ r ≡ spared (length (now (out .entry))) n ⌝ }
@@ -58,7 +62,7 @@ fn spare(out: &[u8], n: usize) -> usize
     if has_room(out.len(), n) {
         return n;
     }
-    io::write_all(libc::STDOUT_FILENO, part(out, 0, n));
+    flush(out, n);
     0
 }
 
@@ -253,5 +257,5 @@ pub fn take_text(
     if marks.goes {
         return take_line(how, reader, marks, text, m, words, items, table, room, out);
     }
-    f
+    Flow { reader, marks }
 }

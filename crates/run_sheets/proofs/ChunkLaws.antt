@@ -9,7 +9,7 @@ use Rattle.paper.specs.Layout.{Lines, nothing, unended, line, lines}
 use Rattle.sheet_lines.specs.declared.Held.{Held}
 use Rattle.sheet_lines.specs.declared.Cut.{Cut}
 use Rattle.sheet_lines.specs.Held.{no-line, held-more}
-use Rattle.sheet_lines.specs.Cut.{part-of, Fits, line-from, line-with, cut-at, drop-all, Left-of, open-left, line-inside, line-split, cut-open, cut-ended, line-cut}
+use Rattle.sheet_lines.specs.Cut.{part-of, Fits, line-from, line-with, cut-at, drop-all, Left-of, open-left, line-split, cut-open, cut-ended, line-cut}
 use Rattle.term_table.specs.Table.{Square, no-edges}
 use Rattle.sheet_step.specs.State.{Lent, lent}
 use Rattle.run_answers.specs.declared.How.{How}
@@ -60,10 +60,6 @@ module _ (how : How) (many : Bool) (b : List ℕ) (g : Held) (s : Standing) (fro
   pub chunk-done : length b ≤ from → Took-lines how many (lines b) g s t k
   unfolding Stands-for
   chunk-done i = so t k (subst (λ (x : List ℕ). Took-lines how many (lines x) k t t k) (sym (drop-all b from i)) (none-left how many k t))
-
--- where a line that is ended lies
-pub cut-inside : (k : Held) (b : List ℕ) (from : ℕ) (c : Cut) → (c ≡ cut-at k b from) × Fits (c .held) → c .unended ≡ false → (from ≤ c .to) × (c .to < length b)
-cut-inside k b from c e o = line-inside b from (c .to) (cut-ended k b from c (e .0) o .0)
 
 -- ---- chunks of a file
 pub none-read : (how : How) (many : Bool) (s : Standing) (g : Held) → Read how many g s s g

@@ -117,6 +117,10 @@ module _ (piece : List ℕ) (from e : ℕ) (E : line-end from (drop from piece) 
       ∙ (fed-line d at h part [] (ends-at from e (drop from piece) E .free)
       ∙ same-fed (after-line at (step d at (h ++ part)) .reading) _ _ (append-nil (after-line at (step d at (h ++ part)) .found)))
 
+-- where a line that was cut lies
+pub cut-inside : (k : Held) (b : List ℕ) (from : ℕ) (c : Cut) → (c ≡ cut-at k b from) × Fits (c .held) → c .unended ≡ false → (from ≤ c .to) × (c .to < length b)
+cut-inside k b from c e o = line-inside b from (c .to) (cut-ended k b from c (e .0) o .0)
+
 -- ---- the state after a line
 module _ (r : Reader) (k k′ : Lent) (room room′ : List ℕ) (at : ℕ) (a : Stepped) (b : Bool) (eb : b ≡ is-stopped (a .event)) (n : Held) (en : Holds n []) where
   abbrev next : State

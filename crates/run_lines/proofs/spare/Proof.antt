@@ -4,6 +4,7 @@ use Rattle.run_lines.proofs.spare.Statement.{statement}
 use Rattle.run_lines.proofs.spare.Tie as tie
 use Rattle.run_lines.proofs.spare.Reads as reads
 use Rattle.run_lines.proofs.spare.Lts as lts
+use Rattle.run_lines.proofs.flush.Reads as flush-reads
 use Rattle.run_lines.proofs.has_room.Reads as has-room-reads
 
 has-room-requires : tie.Need-has-room-requires
