@@ -1,7 +1,7 @@
 // The program: reads sheets, or a script of class calls, and writes what the library answers. Here are arguments, files and buffers alone.
 mod words;
 
-use run_sheets::How;
+use run_answers::How;
 use words::Verb;
 
 fn usage(fd: i32) {

@@ -1,4 +1,2 @@
-pub mod Laws
-pub mod TakenLaws
-pub mod InOrder
+pub mod ChunkLaws
 pub mod Sheet

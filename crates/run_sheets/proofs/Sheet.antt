@@ -21,9 +21,10 @@ use Rattle.paper.specs.Sheets.{Open, outside, at-sites, at-rules, at-items, ste
 use Rattle.sheet_findings.specs.Written.{written-at}
 use Rattle.sheet_lines.specs.declared.Held.{Held}
 use Rattle.sheet_lines.specs.Held.{Holds, held-in, no-line, held-more, more-holds, nothing-holds}
-use Rattle.sheet_lines.specs.Fed.{Reading, going, stopped, Fed, max-held, held-of, after-line, fed, behind, fed-all, step-held, begun, ended, findings-fed}
+use Rattle.sheet_lines.specs.Fed.{Reading, going, stopped, Fed, max-held, line-feed, held-of, after-line, fed, behind, fed-all, begun, ended, findings-fed, stays}
 use Rattle.sheet_lines.specs.Pieces.{as-lines, lines-append, fed-append}
 use Rattle.sheet_lines.specs.Ends.{Free, fed-part, fed-line}
+use Rattle.sheet_lines.specs.Cut.{part-of, line-with, step-with}
 use Rattle.sheet_step.specs.State.{Lent, Roomy, Tells, stands-in, reader-of, step-room}
 use Rattle.sheet_step.specs.Answers.{Answers, Goes, rule-event, items-event, item-event, frame-event, act-event, line-event, told, text-of}
 use Rattle.sheet_step.specs.declared.Reader.{Reader}
@@ -38,12 +39,13 @@ use Rattle.sheet_findings.specs.declared.Room.the-variants.{To}
 use Rattle.sheet_ended.specs.Sets.{to-or}
 use Rattle.tell_text.specs.Written as texts
 use Rattle.tell_text.specs.Written.{Room, wrote, with-byte, one-fits, one-past, past}
-use Rattle.run_sheets.specs.declared.How.the-variants as how
-use Rattle.run_sheets.specs.declared.Flow.{Flow}
-use Rattle.run_sheets.specs.Told.{part-of, line-from, answer, goes-on, last-answer, need, spared, written-out}
-use Rattle.run_sheets.specs.Taken.{free-in, Took, state-of, Told-last, Closed, fresh-flow, Passed, Taken, Standing, stand, Takes, Took-rest, Took-chunk, Took-all, Ran}
-use Rattle.run_sheets.proofs.Laws.{stays-inside}
-use Rattle.run_sheets.proofs.InOrder.{spared-room, in-order, check-line, written-there}
+use Rattle.run_answers.specs.declared.How.the-variants as how
+use Rattle.run_answers.specs.Told.{answer, last-answer}
+use Rattle.run_answers.proofs.Laws.{stays-inside}
+use Rattle.run_lines.specs.declared.Flow.{Flow}
+use Rattle.run_lines.specs.Taken.{goes-on, need, spared, written-out, free-in, Took, state-of, Told-last, Closed, fresh-flow, Passed, Taken}
+use Rattle.run_lines.proofs.InOrder.{spared-room, in-order, check-line, written-there}
+use Rattle.run_sheets.specs.Chunks.{Standing, stand, Takes, Took-lines, Took-all, Ran}
 
 no-way : {A : Type 0} → true ≡ false → A
 no-way e = let z : _≡_ {A = ℕ} 0 1 = cc in absurd (omega arith)
@@ -220,14 +222,14 @@ module _ (l : List ℕ) (s t : Standing) (x : Takes how.Check false l s t) (fine
 abbrev pub unlines : Lines → List ℕ
 unlines nothing = []
 unlines (unended l) = l
-unlines (line l r) = l ++ (10 ∷ unlines r)
+unlines (line l r) = l ++ (line-feed ∷ unlines r)
 
 abbrev FreeLines : Lines → Type 0
 FreeLines nothing = Unit {0}
 FreeLines (unended l) = Free l
 FreeLines (line l r) = Free l × FreeLines r
 
-push-free : (b : ℕ) (x : Lines) → eqb b 10 ≡ false → FreeLines x → FreeLines (push b x)
+push-free : (b : ℕ) (x : Lines) → eqb b line-feed ≡ false → FreeLines x → FreeLines (push b x)
 push-free b nothing e f = (e, tt)
 push-free b (unended l) e f = (e, f)
 push-free b (line l r) e f = ((e, f .0), f .1)
@@ -235,9 +237,9 @@ push-free b (line l r) e f = ((e, f .0), f .1)
 lines-free : (s : List ℕ) → FreeLines (lines s)
 unfolding lines
 lines-free [] = tt
-lines-free (b ∷ s) = go (eqb b 10) refl (lines-free s)
+lines-free (b ∷ s) = go (eqb b line-feed) refl (lines-free s)
   where
-    go : (t : Bool) → eqb b 10 ≡ t → FreeLines (lines s) → FreeLines (if t then line [] (lines s) else push b (lines s))
+    go : (t : Bool) → eqb b line-feed ≡ t → FreeLines (lines s) → FreeLines (if t then line [] (lines s) else push b (lines s))
     go true e f = (tt, f)
     go false e f = push-free b (lines s) e f
 
@@ -249,79 +251,27 @@ push-back b (line l r) = refl
 lines-back : (s : List ℕ) → unlines (lines s) ≡ s
 unfolding lines
 lines-back [] = refl
-lines-back (b ∷ s) = go (eqb b 10) refl (lines-back s)
+lines-back (b ∷ s) = go (eqb b line-feed) refl (lines-back s)
   where
-    go : (t : Bool) → eqb b 10 ≡ t → unlines (lines s) ≡ s → unlines (if t then line [] (lines s) else push b (lines s)) ≡ b ∷ s
-    go true e f = let n : 10 ≡ b = sym (eqb-true b 10 e) in ap (λ z. 10 ∷ z) f ∙ ap (λ (z : ℕ). z ∷ s) n
+    go : (t : Bool) → eqb b line-feed ≡ t → unlines (lines s) ≡ s → unlines (if t then line [] (lines s) else push b (lines s)) ≡ b ∷ s
+    go true e f = let n : line-feed ≡ b = sym (eqb-true b line-feed e) in ap (λ z. line-feed ∷ z) f ∙ ap (λ (z : ℕ). z ∷ s) n
     go false e f = push-back b (lines s) ∙ ap (λ z. b ∷ z) f
-
-stays : (s : List ℕ) → fed-all stopped s ≡ record { reading = stopped; found = [] }
-unfolding fed-all fed
-stays [] = refl
-stays (b ∷ s) = rw (stays s)
 
 -- what is held says where in its line the reading stands
 rehold : (s : Standing) (g h : Held) (d : paper.Reader) (at : ℕ) (k l : List ℕ) → Going (state-in s g) (s .memory) d at k → Holds h l → Going (state-in s h) (s .memory) d at (held-of l)
 rehold s g h d at k l on w = record { tells = on .tells; stands = on .stands; line = on .line; held = w .holds; short = w .short; whole = w .whole; goes = on .goes }
-
-held-rest : (l : List ℕ) → Holds (held-more no-line l) l
-unfolding no-line
-held-rest l = more-holds no-line l (nothing-holds .whole)
-
--- what the lines write out
-unfoldable pub sent-rest : (x : Lines) (s u : Standing) (h : Held) → Took-rest how.Check false x s u h → List ℕ
-unfolding Took-rest
-sent-rest nothing s u h w = []
-sent-rest (unended l) s u h w = []
-sent-rest (line l r) s u h w = sent s ++ sent-rest r (w .0) u h (w .2)
-
--- before a line
-abbrev At-start : Reading → Type 0
-At-start (going d at h) = h ≡ []
-At-start stopped = Unit {0}
-
-after-start : (at : ℕ) (o : Outcome paper.Stepped) → At-start (after-line at o .reading)
-unfolding after-line
-after-start at (done y) = refl
-after-start at (refused z) = tt
 
 pub record Reads (u : Standing) (h : Held) (written before : List ℕ) (M : Reading) (b : List ℕ) : Type 0 where
   pub text : written ++ in-buffer u ≡ before ++ as-lines (fed-all M b .found)
   pub fine : Fine u
   pub on : On u h (fed-all M b .reading)
 
-fed-rest : (d : paper.Reader) (at : ℕ) (l : List ℕ) → Free l → fed-all (going d at []) l ≡ record { reading = going d at (held-of l); found = [] }
-unfolding fed-all
-fed-rest d at l f = ap (fed-all (going d at [])) (sym (append-nil l)) ∙ fed-part d at [] l [] f
-
--- the rest of a chunk, without an LF
-rest-held : (s u : Standing) (g h : Held) (l : List ℕ) (M : Reading) → At-start M → Free l → Fine s → On s g M → u ≡ s → h ≡ held-more no-line l → Reads u h [] (in-buffer s) M l
-unfolding joined
-rest-held s u g h l (going d at k) a f fine on e q =
-    let r = fed-rest d at l f in
-    subst (λ (k : List ℕ). Reads u h [] (in-buffer s) (going d at k) l) (sym a)
-    (subst (λ (v : Standing). Reads v h [] (in-buffer s) (going d at []) l) (sym e)
-    (subst (λ (v : Held). Reads s v [] (in-buffer s) (going d at []) l) (sym q)
-    (record {
-      text = sym (append-nil (in-buffer s)) ∙ ap (λ (v : Fed). in-buffer s ++ as-lines (v .found)) (sym r);
-      fine = fine;
-      on = subst (λ (v : Fed). On s (held-more no-line l) (v .reading)) (sym r) (rehold s g (held-more no-line l) d at k l on (held-rest l));
-    })))
-rest-held s u g h l stopped a f fine on e q =
-    let r = stays l in
-    subst (λ (v : Standing). Reads v h [] (in-buffer s) stopped l) (sym e)
-    (record {
-      text = sym (append-nil (in-buffer s)) ∙ ap (λ (v : Fed). in-buffer s ++ as-lines (v .found)) (sym r);
-      fine = fine;
-      on = subst (λ (v : Fed). On s h (v .reading)) (sym r) on;
-    })
-
 -- one text after the other
 joins-on : (a b c e f x y : List ℕ) → a ++ b ≡ c ++ x → e ++ f ≡ b ++ y → (a ++ e) ++ f ≡ c ++ (x ++ y)
 joins-on a b c e f x y p q = append-assoc a e f ∙ (ap (λ z. a ++ z) q ∙ (sym (append-assoc a b y) ∙ (ap (λ z. z ++ y) p ∙ append-assoc c x y)))
 
 -- a line, and then the rest
-line-then : (s t u : Standing) (g h : Held) (y l rest w : List ℕ) (d : paper.Reader) (at : ℕ) (k : List ℕ) → Takes how.Check false y s t → Fine s → Going (state-in s g) (s .memory) d at (held-of k) → Free l → step d at y ≡ step d at (k ++ l) → (Fine t → On t no-line (after-line at (step d at (k ++ l)) .reading) → Reads u h w (in-buffer t) (after-line at (step d at (k ++ l)) .reading) rest) → Reads u h (sent s ++ w) (in-buffer s) (going d at (held-of k)) (l ++ (10 ∷ rest))
+line-then : (s t u : Standing) (g h : Held) (y l rest w : List ℕ) (d : paper.Reader) (at : ℕ) (k : List ℕ) → Takes how.Check false y s t → Fine s → Going (state-in s g) (s .memory) d at (held-of k) → Free l → step d at y ≡ step d at (k ++ l) → (Fine t → On t no-line (after-line at (step d at (k ++ l)) .reading) → Reads u h w (in-buffer t) (after-line at (step d at (k ++ l)) .reading) rest) → Reads u h (sent s ++ w) (in-buffer s) (going d at (held-of k)) (l ++ (line-feed ∷ rest))
 line-then s t u g h y l rest w d at k x fine on f e next =
     let o = step d at (k ++ l) in
     let r = fed-line d at k l rest f in
@@ -335,40 +285,22 @@ line-then s t u g h y l rest w d at k x fine on f e next =
       on = subst (λ (z : Fed). On u h (z .reading)) (sym r) (v .on);
     }
 
-pub rest-check : (x : Lines) (s u : Standing) (g h : Held) (M : Reading) → FreeLines x → At-start M → Fine s → On s g M → (w : Took-rest how.Check false x s u h) → Reads u h (sent-rest x s u h w) (in-buffer s) M (unlines x)
-unfolding Took-rest sent-rest
-rest-check nothing s u g h M f a fine on w = rest-held s u g h [] M a tt fine on (w .0) (w .1)
-rest-check (unended l) s u g h M f a fine on w = rest-held s u g h l M a f fine on (w .0) (w .1)
-rest-check (line l r) s u g h (going d at k) f a fine on w =
-    subst (λ (k : List ℕ). Reads u h (sent s ++ sent-rest r (w .0) u h (w .2)) (in-buffer s) (going d at k) (l ++ (10 ∷ unlines r))) (sym a)
-    (line-then s (w .0) u g h l l (unlines r) (sent-rest r (w .0) u h (w .2)) d at [] (w .1) fine (subst (λ (k : List ℕ). Going (state-in s g) (s .memory) d at k) a on) (f .0) refl
-    (λ p q. rest-check r (w .0) u no-line h (after-line at (step d at l) .reading) (f .1) (after-start at (step d at l)) p q (w .2)))
-rest-check (line l r) s u g h stopped f a fine on w =
-    let off = not-stopped (s .flow .marks .goes) on in
-    let e : w .0 ≡ s = passed-is l s (w .0) (w .1) fine off in
-    let v = rest-check r (w .0) u g h stopped (f .1) tt (subst Fine (sym e) fine) (subst (λ (z : Standing). On z g stopped) (sym e) on) (w .2) in
-    let n : fed-all stopped (l ++ (10 ∷ unlines r)) ≡ fed-all stopped (unlines r) = stays (l ++ (10 ∷ unlines r)) ∙ sym (stays (unlines r)) in
-    record {
-      text = ap (λ z. (z ++ sent-rest r (w .0) u h (w .2)) ++ in-buffer u) (sent-none s off) ∙ (v .text ∙ (ap (λ (z : Standing). in-buffer z ++ as-lines (fed-all stopped (unlines r) .found)) e ∙ ap (λ (z : Fed). in-buffer s ++ as-lines (z .found)) (sym n)));
-      fine = v .fine;
-      on = subst (λ (z : Fed). On u h (z .reading)) (sym n) (v .on);
-    }
-
 -- ---- a chunk: its first line goes on from what is held
+-- what the lines write out
+unfoldable pub sent-lines : (x : Lines) (g : Held) (s u : Standing) (h : Held) → Took-lines how.Check false x g s u h → List ℕ
+unfolding Took-lines
+sent-lines nothing g s u h w = []
+sent-lines (unended l) g s u h w = []
+sent-lines (line l r) g s u h w = sent s ++ sent-lines r no-line (w .0) u h (w .2)
+
+none-here : (s u : Standing) (g h : Held) (M : Reading) → Fine s → On s g M → u ≡ s → h ≡ g → Reads u h [] (in-buffer s) M []
+unfolding fed-all joined
+none-here s u g h M fine on e q =
+    subst (λ (v : Standing). Reads v h [] (in-buffer s) M []) (sym e)
+    (subst (λ (v : Held). Reads s v [] (in-buffer s) M []) (sym q) (record { text = sym (append-nil (in-buffer s)); fine = fine; on = on }))
+
 held-short : (h : Held) → h .length ≤ max-held → held-of (held-in h) ≡ held-in h
 held-short h l = take-all max-held (held-in h) (let e = length-take (h .length) (h .bytes) in omega arith)
-
-same-step : (d : paper.Reader) (at : ℕ) (z l h : List ℕ) → z ≡ held-of (h ++ l) → step d at (line-from z l) ≡ step d at (h ++ l)
-unfolding line-from
-same-step d at [] l [] e = refl
-same-step d at [] l (b ∷ h) e = absurd (let z : _≡_ {A = ℕ} 0 1 = cc in omega arith)
-same-step d at (c ∷ z) l h e = ap (step d at) e ∙ step-held d at (h ++ l)
-
-unfoldable pub sent-chunk : (x : Lines) (g : Held) (s u : Standing) (h : Held) → Took-chunk how.Check false x g s u h → List ℕ
-unfolding Took-chunk
-sent-chunk nothing g s u h w = []
-sent-chunk (unended l) g s u h w = []
-sent-chunk (line l r) g s u h w = sent s ++ sent-rest r (w .0) u h (w .2)
 
 chunk-held : (s u : Standing) (g h : Held) (l : List ℕ) (M : Reading) → Free l → Fine s → On s g M → u ≡ s → h ≡ held-more g l → Reads u h [] (in-buffer s) M l
 unfolding joined fed-all
@@ -392,44 +324,40 @@ chunk-held s u g h l stopped f fine on e q =
       on = subst (λ (v : Fed). On s h (v .reading)) (sym r) on;
     })
 
-chunk-lines : (x : Lines) (s u : Standing) (g h : Held) (M : Reading) → FreeLines x → Fine s → On s g M → (w : Took-chunk how.Check false x g s u h) → Reads u h (sent-chunk x g s u h w) (in-buffer s) M (unlines x)
-unfolding Took-chunk sent-chunk
-chunk-lines nothing s u g h M f fine on w = chunk-held s u g h [] M tt fine on (w .0) (w .1)
+chunk-lines : (x : Lines) (s u : Standing) (g h : Held) (M : Reading) → FreeLines x → Fine s → On s g M → (w : Took-lines how.Check false x g s u h) → Reads u h (sent-lines x g s u h w) (in-buffer s) M (unlines x)
+unfolding Took-lines sent-lines
+chunk-lines nothing s u g h M f fine on w = none-here s u g h M fine on (w .0) (w .1)
 chunk-lines (unended l) s u g h M f fine on w = chunk-held s u g h l M f fine on (w .0) (w .1)
 chunk-lines (line l r) s u g h (going d at k) f fine on w =
     let a : held-of (held-in g) ≡ k = held-short g (on .short) ∙ on .held in
-    let y = line-from (held-in (held-more g l)) l in
-    let e : step d at y ≡ step d at (held-in g ++ l) = same-step d at (held-in (held-more g l)) l (held-in g) (more-holds g l (on .whole) .holds) in
     let o = step d at (held-in g ++ l) in
-    subst (λ (k : List ℕ). Reads u h (sent s ++ sent-rest r (w .0) u h (w .2)) (in-buffer s) (going d at k) (l ++ (10 ∷ unlines r))) a
-    (line-then s (w .0) u g h y l (unlines r) (sent-rest r (w .0) u h (w .2)) d at (held-in g) (w .1) fine (subst (λ (k : List ℕ). Going (state-in s g) (s .memory) d at k) (sym a) on) (f .0) e
-    (λ p q. rest-check r (w .0) u no-line h (after-line at o .reading) (f .1) (after-start at o) p q (w .2)))
+    subst (λ (k : List ℕ). Reads u h (sent s ++ sent-lines r no-line (w .0) u h (w .2)) (in-buffer s) (going d at k) (l ++ (line-feed ∷ unlines r))) a
+    (line-then s (w .0) u g h (line-with g l) l (unlines r) (sent-lines r no-line (w .0) u h (w .2)) d at (held-in g) (w .1) fine (subst (λ (k : List ℕ). Going (state-in s g) (s .memory) d at k) (sym a) on) (f .0) (step-with d at g l (on .whole))
+    (λ p q. chunk-lines r (w .0) u no-line h (after-line at o .reading) (f .1) p q (w .2)))
 chunk-lines (line l r) s u g h stopped f fine on w =
     let off = not-stopped (s .flow .marks .goes) on in
-    let e : w .0 ≡ s = passed-is (line-from (held-in (held-more g l)) l) s (w .0) (w .1) fine off in
-    let v = rest-check r (w .0) u g h stopped (f .1) tt (subst Fine (sym e) fine) (subst (λ (z : Standing). On z g stopped) (sym e) on) (w .2) in
-    let n : fed-all stopped (l ++ (10 ∷ unlines r)) ≡ fed-all stopped (unlines r) = stays (l ++ (10 ∷ unlines r)) ∙ sym (stays (unlines r)) in
+    let e : w .0 ≡ s = passed-is (line-with g l) s (w .0) (w .1) fine off in
+    let v = chunk-lines r (w .0) u no-line h stopped (f .1) (subst Fine (sym e) fine) (subst (λ (z : Standing). On z no-line stopped) (sym e) on) (w .2) in
+    let n : fed-all stopped (l ++ (line-feed ∷ unlines r)) ≡ fed-all stopped (unlines r) = stays (l ++ (line-feed ∷ unlines r)) ∙ sym (stays (unlines r)) in
+    let more = sent-lines r no-line (w .0) u h (w .2) in
     record {
-      text = ap (λ z. (z ++ sent-rest r (w .0) u h (w .2)) ++ in-buffer u) (sent-none s off) ∙ (v .text ∙ (ap (λ (z : Standing). in-buffer z ++ as-lines (fed-all stopped (unlines r) .found)) e ∙ ap (λ (z : Fed). in-buffer s ++ as-lines (z .found)) (sym n)));
+      text = ap (λ z. (z ++ more) ++ in-buffer u) (sent-none s off) ∙ (v .text ∙ (ap (λ (z : Standing). in-buffer z ++ as-lines (fed-all stopped (unlines r) .found)) e ∙ ap (λ (z : Fed). in-buffer s ++ as-lines (z .found)) (sym n)));
       fine = v .fine;
       on = subst (λ (z : Fed). On u h (z .reading)) (sym n) (v .on);
     }
 
-pub chunk-check : (b : List ℕ) (s u : Standing) (g h : Held) (M : Reading) → Fine s → On s g M → (w : Took-chunk how.Check false (lines b) g s u h) → Reads u h (sent-chunk (lines b) g s u h w) (in-buffer s) M b
-chunk-check b s u g h M fine on w = subst (λ (z : List ℕ). Reads u h (sent-chunk (lines b) g s u h w) (in-buffer s) M z) (lines-back b) (chunk-lines (lines b) s u g h M (lines-free b) fine on w)
+pub chunk-check : (b : List ℕ) (s u : Standing) (g h : Held) (M : Reading) → Fine s → On s g M → (w : Took-lines how.Check false (lines b) g s u h) → Reads u h (sent-lines (lines b) g s u h w) (in-buffer s) M b
+chunk-check b s u g h M fine on w = subst (λ (z : List ℕ). Reads u h (sent-lines (lines b) g s u h w) (in-buffer s) M z) (lines-back b) (chunk-lines (lines b) s u g h M (lines-free b) fine on w)
 
 -- ---- a sheet, in chunks of any size
 unfoldable pub sent-all : (ps : List (List ℕ)) (g : Held) (s u : Standing) (h : Held) → Took-all how.Check false ps g s u h → List ℕ
 unfolding Took-all
 sent-all [] g s u h w = []
-sent-all (p ∷ ps) g s u h w = sent-chunk (lines p) g s (w .0) (w .1) (w .2) ++ sent-all ps (w .1) (w .0) u h (w .3)
+sent-all (p ∷ ps) g s u h w = sent-lines (lines p) g s (w .0) (w .1) (w .2) ++ sent-all ps (w .1) (w .0) u h (w .3)
 
 pub all-check : (ps : List (List ℕ)) (s u : Standing) (g h : Held) (M : Reading) → Fine s → On s g M → (w : Took-all how.Check false ps g s u h) → Reads u h (sent-all ps g s u h w) (in-buffer s) M (joined ps)
 unfolding Took-all sent-all joined fed-all
-all-check [] s u g h M fine on w =
-    subst (λ (v : Standing). Reads v h [] (in-buffer s) M []) (sym (w .0))
-    (subst (λ (v : Held). Reads s v [] (in-buffer s) M []) (sym (w .1))
-    (record { text = sym (append-nil (in-buffer s)); fine = fine; on = on }))
+all-check [] s u g h M fine on w = none-here s u g h M fine on (w .0) (w .1)
 all-check (p ∷ ps) s u g h M fine on w =
     let t = w .0 in
     let a = chunk-check p s t g (w .1) M fine on (w .2) in
@@ -437,7 +365,7 @@ all-check (p ∷ ps) s u g h M fine on w =
     let r = fed-append M p (joined ps) in
     let x = fed-all M p .found in
     let y = fed-all (fed-all M p .reading) (joined ps) .found in
-    let c = sent-chunk (lines p) g s t (w .1) (w .2) in
+    let c = sent-lines (lines p) g s t (w .1) (w .2) in
     let e = sent-all ps (w .1) t u h (w .3) in
     record {
       text = joins-on c (in-buffer t) (in-buffer s) e (in-buffer u) (as-lines x) (as-lines y) (a .text) (b .text) ∙ (ap (λ z. in-buffer s ++ z) (sym (lines-append x y)) ∙ ap (λ (z : Fed). in-buffer s ++ as-lines (z .found)) (sym r));

@@ -1,2 +1,1 @@
-pub mod Told
-pub mod Taken
+pub mod Chunks

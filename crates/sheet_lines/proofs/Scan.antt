@@ -13,13 +13,8 @@ use Rattle.sheet_lines.specs.declared.Ends.the-variants.{At, Open}
 use Rattle.sheet_lines.specs.declared.Held.{Held}
 use Rattle.sheet_lines.specs.Fed.{max-held, line-feed}
 use Rattle.sheet_lines.specs.Ends.{line-end}
+use Rattle.sheet_lines.specs.Cut.{drop-all}
 use Rattle.sheet_lines.specs.Held.{Holds, held-in, stored, held-more, more-holds}
-
-drop-all : (l : List ℕ) (n : ℕ) → length l ≤ n → drop n l ≡ []
-drop-all [] zero h = refl
-drop-all [] (suc n) h = refl
-drop-all (x ∷ l) zero h = absurd (omega arith)
-drop-all (x ∷ l) (suc n) h = drop-all l n (omega arith)
 
 pub ends-here : (s : List ℕ) (i : ℕ) (e : Ends) → i < length s → getD s i 0 ≡ line-feed → line-end i (drop i s) ≡ e → At i ≡ e
 unfolding line-end

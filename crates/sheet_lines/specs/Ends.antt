@@ -11,7 +11,7 @@ use borrow.Author.Tests.{eqb-true}
 use Rattle.paper.specs.Sheets.{Reader, step}
 use Rattle.sheet_lines.specs.declared.Ends.{Ends}
 use Rattle.sheet_lines.specs.declared.Ends.the-variants.{At, Open}
-use Rattle.sheet_lines.specs.Fed.{Reading, going, Fed, line-feed, held-of, held-held, step-held, after-line, fed, behind, fed-all}
+use Rattle.sheet_lines.specs.Fed.{Reading, going, Fed, line-feed, held-of, held-on, held-held, step-held, after-line, fed, behind, fed-all}
 
 -- the first LF of s, whose first byte has the number i
 unfoldable pub line-end : ℕ → List ℕ → Ends
@@ -37,7 +37,8 @@ unfolding line-end
 ends-at i k [] e = absurd (let z : _≡_ {A = ℕ} 0 1 = cc in omega arith)
 ends-at i k (b ∷ s) e = go (eqb b line-feed) refl e (λ q. ends-at (suc i) k s q)
   where
-    go : (t : Bool) → eqb b line-feed ≡ t → (elim t as (λ _. Ends) [ true ↦ At i | false ↦ line-end (suc i) s ]) ≡ At k → (line-end (suc i) s ≡ At k → Ending (suc i) k s) → Ending i k (b ∷ s)
+    go : (t : Bool) → eqb b line-feed ≡ t → (elim t as (λ _. Ends) [ true ↦ At i | false ↦ line-end (suc i) s ]) ≡ At k →
+        (line-end (suc i) s ≡ At k → Ending (suc i) k s) → Ending i k (b ∷ s)
     go true q f w =
         let n : i ≡ k = same-at f in
         let z : k - i ≡ 0 = omega arith in
@@ -55,12 +56,14 @@ unfolding line-end
 open-free i [] e = tt
 open-free i (b ∷ s) e = go (eqb b line-feed) refl e (λ q. open-free (suc i) s q)
   where
-    go : (t : Bool) → eqb b line-feed ≡ t → (elim t as (λ _. Ends) [ true ↦ At i | false ↦ line-end (suc i) s ]) ≡ Open → (line-end (suc i) s ≡ Open → Free s) → Free (b ∷ s)
+    go : (t : Bool) → eqb b line-feed ≡ t → (elim t as (λ _. Ends) [ true ↦ At i | false ↦ line-end (suc i) s ]) ≡ Open →
+        (line-end (suc i) s ≡ Open → Free s) → Free (b ∷ s)
     go true q f w = absurd (let z : _≡_ {A = ℕ} 0 1 = cc in omega arith)
     go false q f w = (q, w f)
 
 -- ---- a part of a line, and a line to its end
-fed-byte : (d : Reader) (at : ℕ) (h : List ℕ) (b : ℕ) → eqb b line-feed ≡ false → fed (going d at (held-of h)) b ≡ record { reading = going d at (held-of (h ++ (b ∷ []))); found = [] }
+fed-byte : (d : Reader) (at : ℕ) (h : List ℕ) (b : ℕ) → eqb b line-feed ≡ false →
+    fed (going d at (held-of h)) b ≡ held-on d at (h ++ (b ∷ []))
 unfolding fed
 fed-byte d at h b e = rw (e, fed, held-held h (b ∷ []))
 
@@ -73,19 +76,15 @@ unfolding fed-all
 fed-part d at h [] s f = rw (append-nil h)
 fed-part d at h (b ∷ l) s f = rw (fed-byte d at h b (f .0), fed-part d at (h ++ (b ∷ [])) l s (f .1), append-assoc h (b ∷ []) l)
 
-pub fed-line : (d : Reader) (at : ℕ) (h l s : List ℕ) → Free l → fed-all (going d at (held-of h)) (l ++ (line-feed ∷ s)) ≡ behind (after-line at (step d at (h ++ l)) .found) (fed-all (after-line at (step d at (h ++ l)) .reading) s)
+pub fed-line : (d : Reader) (at : ℕ) (h l s : List ℕ) → Free l →
+    fed-all (going d at (held-of h)) (l ++ (line-feed ∷ s))
+    ≡ behind (after-line at (step d at (h ++ l)) .found) (fed-all (after-line at (step d at (h ++ l)) .reading) s)
 unfolding fed-all
 fed-line d at h l s f = fed-part d at h l (line-feed ∷ s) f ∙ rw (fed-lf d at (h ++ l))
 
--- ---- as code has it: the piece s from `from` on, of which the line ends at k, or does not end
-pub line-of-piece : (d : Reader) (at : ℕ) (h s : List ℕ) (from k : ℕ) → line-end from (drop from s) ≡ At k → fed-all (going d at (held-of h)) (drop from s) ≡ behind (after-line at (step d at (h ++ take (k - from) (drop from s))) .found) (fed-all (after-line at (step d at (h ++ take (k - from) (drop from s))) .reading) (drop (k + 1) s))
-line-of-piece d at h s from k e =
-    let w = ends-at from k (drop from s) e in
-    let lo = w .behind-start in
-    let i : from + suc (k - from) ≡ k + 1 = omega arith in
-    let t : drop (suc (k - from)) (drop from s) ≡ drop (k + 1) s = drop-drop (suc (k - from)) from s ∙ ap (λ n. drop n s) i in
-    ap (fed-all (going d at (held-of h))) (w .split) ∙ (fed-line d at h (take (k - from) (drop from s)) (drop (suc (k - from)) (drop from s)) (w .free) ∙ rw t)
-
-pub rest-of-piece : (d : Reader) (at : ℕ) (h s : List ℕ) (from : ℕ) → line-end from (drop from s) ≡ Open → fed-all (going d at (held-of h)) (drop from s) ≡ record { reading = going d at (held-of (h ++ drop from s)); found = [] }
+-- ---- as code has it: the piece s from `from` on, in which the line does not end
+pub rest-of-piece : (d : Reader) (at : ℕ) (h s : List ℕ) (from : ℕ) → line-end from (drop from s) ≡ Open →
+    fed-all (going d at (held-of h)) (drop from s) ≡ held-on d at (h ++ drop from s)
 unfolding fed-all
-rest-of-piece d at h s from e = ap (fed-all (going d at (held-of h))) (sym (append-nil (drop from s))) ∙ fed-part d at h (drop from s) [] (open-free from (drop from s) e)
+rest-of-piece d at h s from e = ap (fed-all (going d at (held-of h))) (sym (append-nil (drop from s)))
+    ∙ fed-part d at h (drop from s) [] (open-free from (drop from s) e)

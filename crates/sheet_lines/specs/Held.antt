@@ -5,7 +5,7 @@ use mathlib.Core.Bool.{Bool, true, false}
 use Prim.Native.Nat.{ℕ, zero, suc, _+_, _-_, _≤_, min}
 use native.Mathlib.Omega.{arith}
 use lib.ListN.{length, take, drop, getD, set, replicate, length-take, length-set, length-replicate}
-use lib.Seq.{paste, paste-zero, paste-suc, take-paste}
+use lib.Seq.{paste, paste-zero, paste-suc, take-paste, take-all}
 use lib.Dec.{leb}
 use borrow.Author.Tests.{leb-true, leb-false}
 use Rattle.paper.specs.Words.{if_then_else_}
@@ -41,18 +41,13 @@ unfoldable pub held-more : Held → List ℕ → Held
 held-more h s = if leb (h .length) max-held then held-behind h s (min (length s) (max-held - h .length)) else held-all h
 
 -- ---- laws
-take-short : (n : ℕ) (l : List ℕ) → length l ≤ n → take n l ≡ l
-take-short zero [] h = refl
-take-short zero (x ∷ l) h = absurd (omega arith)
-take-short (suc n) [] h = refl
-take-short (suc n) (x ∷ l) h = ap (λ t. x ∷ t) (take-short n l (omega arith))
-
 take-least : (n : ℕ) (l : List ℕ) → take (min n (length l)) l ≡ take n l
 take-least n l = go (leb n (length l)) refl
   where
     go : (t : Bool) → leb n (length l) ≡ t → take (min n (length l)) l ≡ take n l
     go true e = let h = leb-true n (length l) e in let m : min n (length l) ≡ n = omega arith in rw m
-    go false e = let h = leb-false n (length l) e in let m : min n (length l) ≡ length l = omega arith in rw m (take-short (length l) l (omega arith) ∙ sym (take-short n l (omega arith)))
+    go false e = let h = leb-false n (length l) e in let m : min n (length l) ≡ length l = omega arith in
+        rw m (take-all (length l) l (omega arith) ∙ sym (take-all n l (omega arith)))
 
 take-past : (n : ℕ) (l s : List ℕ) → length l ≤ n → take n (l ++ s) ≡ l ++ take (n - length l) s
 take-past n [] s h = let e : n - 0 ≡ n = omega arith in rw e
@@ -74,7 +69,8 @@ pub held-more-is : (h : Held) (s : List ℕ) → length (h .bytes) ≡ max-held 
 unfolding held-more
 held-more-is h s e = go (leb (h .length) max-held) refl
   where
-    go : (t : Bool) → leb (h .length) max-held ≡ t → held-in (if t then held-behind h s (min (length s) (max-held - h .length)) else held-all h) ≡ held-of (held-in h ++ s)
+    go : (t : Bool) → leb (h .length) max-held ≡ t →
+        held-in (if t then held-behind h s (min (length s) (max-held - h .length)) else held-all h) ≡ held-of (held-in h ++ s)
     go true q =
         let b = h .bytes in
         let n = h .length in
@@ -83,14 +79,16 @@ held-more-is h s e = go (leb (h .length) max-held) refl
         let l : length (take n b) ≡ n = length-take n b ∙ omega arith in
         let c : k ≡ min (max-held - n) (length s) = omega arith in
         let t : take k s ≡ take (max-held - n) s = ap (λ i. take i s) c ∙ take-least (max-held - n) s in
-        let w : held-of (take n b ++ s) ≡ take n b ++ take (max-held - n) s = take-past max-held (take n b) s (omega arith) ∙ ap (λ i. take n b ++ take (max-held - i) s) l in
-        ap (take (n + k)) (stored-is b n s k (omega arith) (omega arith)) ∙ (take-paste b n s k (omega arith) (omega arith) ∙ (ap (λ x. take n b ++ x) t ∙ sym w))
+        let w : held-of (take n b ++ s) ≡ take n b ++ take (max-held - n) s = take-past max-held (take n b) s (omega arith)
+        ∙ ap (λ i. take n b ++ take (max-held - i) s) l in
+        ap (take (n + k)) (stored-is b n s k (omega arith) (omega arith))
+        ∙ (take-paste b n s k (omega arith) (omega arith) ∙ (ap (λ x. take n b ++ x) t ∙ sym w))
     go false q =
         let b = h .bytes in
         let n = h .length in
         let m = leb-false n max-held q in
-        let u : take n b ≡ b = take-short n b (omega arith) in
-        let v : take max-held b ≡ b = take-short max-held b (omega arith) in
+        let u : take n b ≡ b = take-all n b (omega arith) in
+        let v : take max-held b ≡ b = take-all max-held b (omega arith) in
         let w : held-of (b ++ s) ≡ b ++ take (max-held - length b) s = take-past max-held b s (omega arith) in
         let z : max-held - length b ≡ 0 = omega arith in
         v ∙ sym (ap (λ x. held-of (x ++ s)) u ∙ (w ∙ (ap (λ i. b ++ take i s) z ∙ append-nil b)))
@@ -108,7 +106,8 @@ held-more-short : (h : Held) (s : List ℕ) → held-more h s .length ≤ max-he
 unfolding held-more
 held-more-short h s = go (leb (h .length) max-held) refl
   where
-    go : (t : Bool) → leb (h .length) max-held ≡ t → (if t then held-behind h s (min (length s) (max-held - h .length)) else held-all h) .length ≤ max-held
+    go : (t : Bool) → leb (h .length) max-held ≡ t →
+        (if t then held-behind h s (min (length s) (max-held - h .length)) else held-all h) .length ≤ max-held
     go true e = let l = leb-true (h .length) max-held e in omega arith
     go false e = omega arith
 

@@ -11,7 +11,7 @@ use Rattle.paper.specs.Words.{joined}
 use Rattle.paper.specs.Numbers.{Outcome, done, refused, demand, last-line}
 use Rattle.paper.specs.Layout.{hex}
 use Rattle.paper.specs.Sheets.{Reader, Stepped, step, findings, act-on}
-use Rattle.sheet_lines.specs.Fed.{Reading, going, stopped, Fed, begun, max-held, line-feed, held-of, after-line, fed, behind, fed-all, ended, closed, findings-fed}
+use Rattle.sheet_lines.specs.Fed.{Reading, going, stopped, Fed, begun, max-held, line-feed, held-on, after-line, fed, behind, fed-all, ended, closed, findings-fed}
 
 -- ---- pieces
 unfoldable pub fed-pieces : Reading → List (List ℕ) → Fed
@@ -78,7 +78,7 @@ unfolding fed
 small-byte stopped b h = tt
 small-byte (going d at h) b s = go (eqb b line-feed)
   where
-    go : (t : Bool) → Small ((elim t as (λ _. Fed) [ true ↦ after-line at (step d at h) | false ↦ record { reading = going d at (held-of (h ++ (b ∷ []))); found = [] } ]) .reading)
+    go : (t : Bool) → Small ((elim t as (λ _. Fed) [ true ↦ after-line at (step d at h) | false ↦ held-on d at (h ++ (b ∷ [])) ]) .reading)
     go true = small-line d at h (step d at h) refl
     go false = let n = length-take max-held (h ++ (b ∷ [])) in (s .0, omega arith)
 

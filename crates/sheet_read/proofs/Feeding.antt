@@ -8,9 +8,7 @@ use Prim.Native.Nat.{ℕ, zero, suc, _+_, _-_, _≤_, _<_}
 use native.Mathlib.Omega.{arith}
 use lib.ListN.{length, take, drop, length-take, length-drop, length-append}
 use lib.Seq.{take-all, drop-drop}
-use lib.Dec.{eqb}
-use borrow.Author.Tests.{eqb-true, eq-eqb}
-use Rattle.paper.specs.Words.{if_then_else_, joined}
+use Rattle.paper.specs.Words.{joined}
 use Rattle.paper.specs.Numbers.{Outcome, done, refused}
 use Rattle.paper.specs.Layout as layout
 use Rattle.paper.specs.Layout.{begin-set, a-site, a-rule, an-item, end-set, frame-of}
@@ -24,12 +22,13 @@ use Rattle.sheet_ended.specs.Sets.{no-sets}
 use Rattle.term_table.specs.Table.{no-edges}
 use Rattle.sites.proofs.Put.{rest-eq}
 use native.Mathlib.Numerals.{add-one}
-use Rattle.sheet_lines.specs.Fed.{Reading, going, stopped, Fed, begun, max-held, line-feed, held-of, step-held, after-line, fed, behind, fed-all, ended}
+use Rattle.sheet_lines.specs.Fed.{Reading, going, stopped, Fed, begun, max-held, line-feed, held-of, after-line, fed, behind, fed-all, ended}
 use Rattle.sheet_lines.specs.Pieces.{as-lines, lines-append, fed-append}
 use Rattle.sheet_lines.specs.Ends.{line-end, Free, Ending, ends-at, open-free, fed-part, fed-line, rest-of-piece}
-use Rattle.sheet_lines.specs.declared.Ends.{Ends}
 use Rattle.sheet_lines.specs.declared.Ends.the-variants as ends
-use Rattle.sheet_lines.specs.Held.{held-in, no-line, Holds, nothing-holds}
+use Rattle.sheet_lines.specs.Held.{held-in, no-line, Holds, nothing-holds, more-holds}
+use Rattle.sheet_lines.specs.Cut.{part-of, Fits, line-from, line-with, cut-at, part-there, line-inside, cut-open, cut-ended, line-cut, step-with}
+use Rattle.sheet_lines.specs.declared.Cut.{Cut}
 use Rattle.sheet_lines.specs.declared.Held.{Held}
 use Rattle.sheet_step.specs.State.{Lent, lent, Roomy, Tells, reader-of, stands-in, step-room}
 use Rattle.sheet_step.specs.Answers.{Answers, Steps, Stepping, Goes, told, text-of, line-event, act-event, frame-event, items-event, item-event, rule-event}
@@ -39,7 +38,7 @@ use Rattle.sheet_step.specs.declared.Event.the-variants as event
 use Rattle.sheet_step.specs.declared.Stepped.{Stepped}
 use Rattle.sheet_step.specs.declared.Stands.the-variants.{Outside}
 use Rattle.sheet_read.specs.declared.State.{State}
-use Rattle.sheet_read.specs.Whole.{first-state, is-stopped, Joins, Going, Shows, Fedding, Feeds, Pauses}
+use Rattle.sheet_read.specs.Whole.{first-state, is-stopped, Going, Shows, Fedding, Feeds, Pauses}
 
 no-way : {A : Type 0} → true ≡ false → A
 no-way e = let z : _≡_ {A = ℕ} 0 1 = cc in absurd (omega arith)
@@ -102,14 +101,6 @@ module _ (piece : List ℕ) (from e : ℕ) (E : line-end from (drop from piece) 
   abbrev part : List ℕ
   part = take (e - from) (drop from piece)
 
-  pub inside-piece : (from ≤ e) × (e < length piece)
-  inside-piece =
-      let w = ends-at from e (drop from piece) E in
-      let a = w .behind-start in
-      let b = w .in-piece in
-      let l = length-drop from piece in
-      (a, omega arith)
-
   line-there : take (e + 1 - from) (drop from piece) ≡ part ++ (line-feed ∷ [])
   line-there =
       let w = ends-at from e (drop from piece) E in
@@ -126,19 +117,11 @@ module _ (piece : List ℕ) (from e : ℕ) (E : line-end from (drop from piece) 
       ∙ (fed-line d at h part [] (ends-at from e (drop from piece) E .free)
       ∙ same-fed (after-line at (step d at (h ++ part)) .reading) _ _ (append-nil (after-line at (step d at (h ++ part)) .found)))
 
+-- where a line that was cut lies
+pub cut-inside : (k : Held) (b : List ℕ) (from : ℕ) (c : Cut) → (c ≡ cut-at k b from) × Fits (c .held) → c .unended ≡ false → (from ≤ c .to) × (c .to < length b)
+cut-inside k b from c e o = line-inside b from (c .to) (cut-ended k b from c (e .0) o .0)
+
 -- ---- the state after a line
-empty-holds : (h : Held) → length (h .bytes) ≡ max-held → Holds (record { length = 0; bytes = h .bytes }) []
-empty-holds h w = record { holds = refl; short = omega arith; whole = w }
-
--- a line where it lies, or put together, says the same
-module _ (h : Held) (p : List ℕ) (r : Held) (j : Joins h p r) (t : List ℕ) (et : t ≡ (if eqb (h .length) 0 then p else held-in r)) where
-  same-step : (d : paper.Reader) (l : ℕ) → step d l t ≡ step d l (held-in h ++ p)
-  same-step d l = go (eqb (h .length) 0) refl et
-    where
-      go : (b : Bool) → eqb (h .length) 0 ≡ b → t ≡ (if b then p else held-in r) → step d l t ≡ step d l (held-in h ++ p)
-      go true q f = ap (step d l) (f ∙ sym (ap (λ n. take n (h .bytes) ++ p) (eqb-true (h .length) 0 q)))
-      go false q f = ap (step d l) (f ∙ j .some (λ z. no-way (sym (eq-eqb (h .length) 0 z) ∙ q))) ∙ step-held d l (held-in h ++ p)
-
 module _ (r : Reader) (k k′ : Lent) (room room′ : List ℕ) (at : ℕ) (a : Stepped) (b : Bool) (eb : b ≡ is-stopped (a .event)) (n : Held) (en : Holds n []) where
   abbrev next : State
   next = record { reader = a .reader; held = n; stopped = b }
@@ -150,10 +133,22 @@ module _ (r : Reader) (k k′ : Lent) (room room′ : List ℕ) (at : ℕ) (a : 
       record { tells = g .1; stands = g .0; line = g .2 ∙ add-one (r .line); held = en .holds; short = en .short; whole = en .whole; goes = eb ∙ (ap is-stopped (A .event) ∙ q) }
   shows-after (refused x) ev q A = eb ∙ ap is-stopped (A .event)
 
-module _ (s : State) (k k′ : Lent) (room room′ : List ℕ) (at : ℕ) (piece : List ℕ) (from e : ℕ) (v : Ends) (ev : v ≡ line-end from (drop from piece)) (evE : v ≡ ends.At e) (r : Held) (j : Joins (s .held) (take (e - from) (drop from piece)) r) (t : List ℕ)
-    (et : t ≡ (if eqb (s .held .length) 0 then take (e - from) (drop from piece) else held-in r)) (a : Stepped) (st : Stepping (s .reader) k k′ room room′ at t a) (hr : at + step-room ≤ length room) (b : Bool) (eb : b ≡ is-stopped (a .event)) (n : Held) (en : n ≡ record { length = 0; bytes = s .held .bytes }) (sf : s .stopped ≡ false) where
+module _ (s : State) (k k′ : Lent) (room room′ : List ℕ) (at : ℕ) (piece : List ℕ) (from : ℕ) (c : Cut) (ec : (c ≡ cut-at (s .held) piece from) × Fits (c .held)) (oc : c .unended ≡ false)
+    (y z t : List ℕ) (ey : y ≡ part-of piece from (c .to)) (ez : z ≡ part-of (c .held .bytes) 0 (c .held .length)) (et : t ≡ line-from z y)
+    (a : Stepped) (st : Stepping (s .reader) k k′ room room′ at t a) (hr : at + step-room ≤ length room) (b : Bool) (eb : b ≡ is-stopped (a .event)) (n : Held) (en : Holds n []) (sf : s .stopped ≡ false) where
+  abbrev e : ℕ
+  e = c .to
+
   E : line-end from (drop from piece) ≡ ends.At e
-  E = sym ev ∙ evE
+  E = cut-ended (s .held) piece from c (ec .0) oc .0
+
+  -- a line where it lies, or put together, says the same
+  same-step : (d : paper.Reader) (l : ℕ) → length (s .held .bytes) ≡ max-held → step d l t ≡ step d l (held-in (s .held) ++ take (e - from) (drop from piece))
+  same-step d l w =
+      let p = part-of piece from e in
+      let i = line-inside piece from e E .1 in
+      let is : t ≡ line-with (s .held) p = line-cut (s .held) (c .held) p z t (cut-ended (s .held) piece from c (ec .0) oc .1) (ec .1) ez (et ∙ ap (line-from z) ey) in
+      ap (step d l) is ∙ (step-with d l (s .held) p w ∙ ap (λ q. step d l (held-in (s .held) ++ q)) (sym (part-there piece from e (omega arith))))
 
   abbrev x : List ℕ
   x = take (e + 1 - from) (drop from piece)
@@ -166,33 +161,32 @@ module _ (s : State) (k k′ : Lent) (room room′ : List ℕ) (at : ℕ) (piece
       let o = step d L (hh ++ p) in
       let A0 = st .0 hr (d .ended) (G .tells) in
       let rd : reader-of (s .reader) k (d .ended) ≡ d = rw (← G .stands) refl in
-      let oe : step (reader-of (s .reader) k (d .ended)) L t ≡ o = ap (λ z. step z L t) rd ∙ same-step (s .held) p r j t et d L in
+      let oe : step (reader-of (s .reader) k (d .ended)) L t ≡ o = ap (λ z. step z L t) rd ∙ same-step d L (G .whole) in
       let ev = line-event (stands-in k (s .reader .stands)) (frame-of t) in
-      let none : Holds n [] = rw en (empty-holds (s .held) (G .whole)) in
       let A : Answers (s .reader) k k′ room room′ at o ev a = rw oe at A0 in
       let fe : fed-all (going d L hh) x ≡ after-line L o = ap (λ z. fed-all (going d L z) x) (sym (held-short (s .held) (G .short))) ∙ line-fed piece from e E d L hh in
       let w = A .fits in
       record {
-        shows = rw fe (shows-after (s .reader) k k′ room room′ at a b eb n none o ev (line-goes (stands-in k (s .reader .stands)) (frame-of t)) A);
+        shows = rw fe (shows-after (s .reader) k k′ room room′ at a b eb n en o ev (line-goes (stands-in k (s .reader .stands)) (frame-of t)) A);
         ends = rw fe (A .to);
         into = rw fe (A .into);
         inside = rw fe (omega arith);
       }
 
   pub feeds-line : (from < e + 1) × (e + 1 ≤ length piece) × Feeds s k k′ room room′ at x (record { reader = a .reader; held = n; stopped = b }) (a .to)
-  feeds-line = let i = inside-piece piece from e E in (omega arith, omega arith, λ M S. go M S)
+  feeds-line = let i = line-inside piece from e E in (omega arith, omega arith, λ M S. go M S)
     where
       go : (M : Reading) → Shows s k M → Fedding M k′ room room′ at x (record { reader = a .reader; held = n; stopped = b }) (a .to)
       go stopped S = no-way (sym S ∙ sf)
       go (going d l h₀) G = rw (← G .line, ← G .held) (core d (record { tells = G .tells; stands = G .stands; line = refl; held = refl; short = G .short; whole = G .whole; goes = G .goes }))
 
 -- the rest of a piece is held
-module _ (s : State) (k : Lent) (room : List ℕ) (at : ℕ) (piece : List ℕ) (from : ℕ) (v : Ends) (ev : v ≡ line-end from (drop from piece)) (evO : v ≡ ends.Open) (h : Held) (eh : Holds h (held-in (s .held) ++ take (length piece - from) (drop from piece))) (hf : from < length piece) (hr : at ≤ length room) (sf : s .stopped ≡ false) where
+module _ (s : State) (k : Lent) (room : List ℕ) (at : ℕ) (piece : List ℕ) (from : ℕ) (c : Cut) (ec : (c ≡ cut-at (s .held) piece from) × Fits (c .held)) (oc : c .unended ≡ true) (hf : from < length piece) (hr : at ≤ length room) (sf : s .stopped ≡ false) where
   abbrev rest : List ℕ
   rest = take (length piece - from) (drop from piece)
 
   abbrev after : State
-  after = record { reader = s .reader; held = h; stopped = false }
+  after = record { reader = s .reader; held = c .held; stopped = false }
 
   core-rest : (d : paper.Reader) → Going s k d (s .reader .line) (held-in (s .held)) → Fedding (going d (s .reader .line) (held-in (s .held))) k room room at rest after at
   unfolding joined
@@ -200,7 +194,9 @@ module _ (s : State) (k : Lent) (room : List ℕ) (at : ℕ) (piece : List ℕ) 
       let L = s .reader .line in
       let hh = held-in (s .held) in
       let r : rest ≡ drop from piece = rest-eq piece from in
-      let fe : fed-all (going d L hh) rest ≡ record { reading = going d L (held-of (hh ++ rest)); found = [] } = ap (λ z. fed-all (going d L z) rest) (sym (held-short (s .held) (G .short))) ∙ (ap (fed-all (going d L (held-of hh))) r ∙ (rest-of-piece d L hh piece from (sym ev ∙ evO) ∙ rw r)) in
+      let u = cut-open (s .held) piece from c (ec .0) oc in
+      let eh : Holds (c .held) (hh ++ rest) = rw (u .1, r) (more-holds (s .held) (drop from piece) (G .whole)) in
+      let fe : fed-all (going d L hh) rest ≡ record { reading = going d L (held-of (hh ++ rest)); found = [] } = ap (λ z. fed-all (going d L z) rest) (sym (held-short (s .held) (G .short))) ∙ (ap (fed-all (going d L (held-of hh))) r ∙ (rest-of-piece d L hh piece from (u .0) ∙ rw r)) in
       record {
         shows = rw fe (record { tells = G .tells; stands = G .stands; line = refl; held = eh .holds; short = eh .short; whole = eh .whole; goes = refl });
         ends = rw fe (omega arith);
@@ -217,15 +213,6 @@ module _ (s : State) (k : Lent) (room : List ℕ) (at : ℕ) (piece : List ℕ) 
 
 pub nested : {A B C : Type 0} → A × B × C → (A × B) × C
 nested t = ((t .0, t .1), t .2)
-
-pub joins-none : (h : Held) (p : List ℕ) → h .length ≡ 0 → Joins h p h
-joins-none h p e = record { none = λ z. e; some = λ n. absurd (n e); fits = omega arith; long = rw e }
-
-pub joins-some : (h : Held) (p : List ℕ) (r : Held) → (h .length ≡ 0 → ⊥) → Holds r (held-in h ++ p) → Joins h p r
-joins-some h p r n H =
-    let a = H .short in
-    let b = H .whole in
-    record { none = λ z. absurd (n z); some = λ _. H .holds; fits = omega arith; long = sym (length-take (r .length) (r .bytes) ∙ omega arith) }
 
 -- ---- a piece
 pub feeds-none : (s : State) (k : Lent) (room : List ℕ) (at : ℕ) (piece : List ℕ) → at ≤ length room → Feeds s k k room room at (take 0 piece) s at

@@ -1,11 +1,10 @@
--- The code's state tells where the reading of `pieces` stands; feeding is `fed-all`.
+-- The code's state tells where the reading of `sheet_lines` stands; feeding is `fed-all`.
 use mathlib.Core.Path.{_≡_}
 use mathlib.Core.Bool.{Bool, true, false}
 use mathlib.Core.List.{List, [], _∷_, _++_}
 use Prim.Native.Nat.{ℕ, zero, suc, _+_, _≤_, _<_}
 use lib.ListN.{length, take}
 use lib.Dec.{leb}
-use Rattle.paper.specs.Words.{if_then_else_}
 use Rattle.paper.specs.Sheets as paper
 use Rattle.paper.specs.Sheets.{findings}
 use mathlib.Core.Logic.{_⊎_}
@@ -46,13 +45,6 @@ is-outside (Sites s) = false
 is-outside (Rules s) = false
 is-outside (Items s r n) = false
 
--- r is what is held of a line, h, with its rest p; where nothing is held, it is nothing
-pub record Joins (h : Held) (p : List ℕ) (r : Held) : Type 0 where
-  pub none : h .length ≡ 0 → r .length ≡ 0
-  pub some : (h .length ≡ 0 → ⊥) → held-in r ≡ held-of (held-in h ++ p)
-  pub fits : r .length ≤ length (r .bytes)
-  pub long : r .length ≡ length (held-in r)
-
 -- before the end of line `at`, of which h is held
 pub record Going (s : State) (k : Lent) (d : paper.Reader) (at : ℕ) (h : List ℕ) : Type 0 where
   pub tells : Tells (s .reader) k (d .ended)
@@ -86,7 +78,9 @@ pub record Ending (M : Reading) (room room′ : List ℕ) (at : ℕ) (w : Room) 
   pub into : room′ ≡ written-at room at (as-lines (ended M))
 
 abbrev pub Ends : State → Lent → List ℕ → List ℕ → ℕ → Room → Type 0
-Ends s k room room′ at w = (at + end-room ≤ length room → (M : Reading) → Shows s k M → Ending M room room′ at w) × (length room < at + end-room → (w ≡ Short) × (room′ ≡ room))
+Ends s k room room′ at w =
+    (at + end-room ≤ length room → (M : Reading) → Shows s k M → Ending M room room′ at w)
+    × (length room < at + end-room → (w ≡ Short) × (room′ ≡ room))
 
 -- a piece was not read to its end: the sheet stopped, or the room left is too short for a line
 abbrev pub Pauses : State → List ℕ → ℕ → List ℕ → ℕ → Type 0

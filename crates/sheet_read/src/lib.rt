@@ -9,8 +9,7 @@ ghost use Rattle.sheet_step.specs.State.{lent, step-room};
 ghost use Rattle.sheet_ended.specs.Sets.{end-room};
 ghost use Rattle.term_table.specs.Table.{no-edges};
 ghost use Rattle.sheet_lines.specs.Fed.{Reading};
-ghost use Rattle.paper.specs.Words.{if_then_else_};
-ghost use Rattle.sheet_read.specs.Whole.{first-state, Joins, Feeds, Ends, Pauses, Checks, is-stopped, is-outside};
+ghost use Rattle.sheet_read.specs.Whole.{first-state, Feeds, Ends, Pauses, Checks, is-stopped, is-outside};
 use item_words::ITEMS_ROOM;
 use paper::RULES;
 use paper::Refusal;
@@ -23,9 +22,10 @@ use sheet_ended::write_found;
 use sheet_findings::Room;
 use sheet_findings::write_stop;
 use sheet_lines::Held;
-use sheet_lines::hold;
-use sheet_lines::line_end;
+use sheet_lines::cut_line;
+use sheet_lines::line_of;
 use sheet_lines::nothing;
+use sheet_lines::part;
 use sheet_step::Event;
 use sheet_step::Reader;
 use sheet_step::STEP_ROOM;
@@ -95,37 +95,6 @@ fn stops(e: Event) -> bool
     }
 }
 
-// What is held of a line, with its rest. Where nothing is held nothing is copied: the line lies in the piece.
-fn with_rest(h: Held, rest: &[u8]) -> Held
-    ensures { λ r. ⌜ Joins h (now (rest .entry)) r ⌝ }
-{
-    if h.length == 0 {
-        return h;
-    }
-    hold(h, rest)
-}
-
-// A line: where it lies in the piece, or where it was put together.
-fn line_of<'a>(here: bool, rest: &'a [u8], held: &'a [u8]) -> &'a [u8]
-    ensures { λ r. ⌜ now r ≡ (if here then now (rest .entry) else now (held .entry)) ⌝ }
-{
-    if here {
-        return rest;
-    }
-    held
-}
-
-// Nothing is held any more. The bytes stay as they are: none of them counts.
-fn emptied(h: Held) -> Held
-    ensures { λ r. ⌜ r ≡ record { length = 0; bytes = h .bytes } ⌝ }
-{
-    let bytes = h.bytes;
-    Held {
-        length: 0,
-        bytes: bytes,
-    }
-}
-
 // The piece from `from` on, up to the end of the line, or to its own.
 fn feed_line(
     s: State,
@@ -140,49 +109,50 @@ fn feed_line(
 ) -> Fed
     requires { ⌜ (from < length (now piece)) × (at + step-room ≤ length (now room)) × (s .stopped ≡ false) ⌝ }
     ensures { λ f. ⌜ (from < f .read) × (f .read ≤ length (now (piece .entry))) ⌝ }
-    ensures { λ f. ⌜ Feeds s (lent (now (m .entry)) (now (words .entry)) (now (items .entry)) (now (table .entry))) (lent (now (m .exit)) (now (words .exit)) (now (items .exit)) (now (table .exit))) (now (room .entry)) (now (room .exit)) at (take (f .read - from) (drop from (now (piece .entry)))) (f .state) (f .to) ⌝ }
+    ensures { λ f.
+        let before = lent (now (m .entry)) (now (words .entry)) (now (items .entry)) (now (table .entry)) in
+        let after = lent (now (m .exit)) (now (words .exit)) (now (items .exit)) (now (table .exit)) in
+        let read = take (f .read - from) (drop from (now (piece .entry))) in
+        ⌜ Feeds s before after (now (room .entry)) (now (room .exit)) at read (f .state) (f .to) ⌝ }
 {
     let held = s.held;
     let reader = s.reader;
-    match line_end(piece, from) {
-        sheet_lines::Ends::At(e) => {
-            let here = held.length == 0;
-            let line = with_rest(held, &piece[from..e]);
-            let n = line.length;
-            let bytes = line.bytes;
-            let text = line_of(here, &piece[from..e], &bytes[..n]);
-            let a = step(reader, text, m, words, items, table, room, at);
-            let next = a.reader;
-            let event = a.event;
-            let none = emptied(held);
-            Fed {
-                state: State {
-                    reader: next,
-                    held: none,
-                    stopped: stops(event),
-                },
-                read: e + 1,
-                to: a.to,
-            }
-        }
-        sheet_lines::Ends::Open => {
-            let more = hold(held, &piece[from..]);
-            Fed {
-                state: State {
-                    reader: reader,
-                    held: more,
-                    stopped: false,
-                },
-                read: piece.len(),
-                to: at,
-            }
-        }
+    let c = cut_line(held, piece, from);
+    let line = c.held;
+    if c.unended {
+        return Fed {
+            state: State {
+                reader: reader,
+                held: line,
+                stopped: false,
+            },
+            read: piece.len(),
+            to: at,
+        };
+    }
+    let e = c.to;
+    let before = line.bytes;
+    let here = part(piece, from, e);
+    let text = line_of(part(&before, 0, line.length), here);
+    let a = step(reader, text, m, words, items, table, room, at);
+    let next = a.reader;
+    let event = a.event;
+    Fed {
+        state: State {
+            reader: next,
+            held: nothing(),
+            stopped: stops(event),
+        },
+        read: e + 1,
+        to: a.to,
     }
 }
 
 // Whether the sheet stopped, or the room left is too short for a line.
 fn pauses(stopped: bool, room: usize, at: usize) -> bool
-    ensures { λ b. ⌜ (b ≡ false → (stopped ≡ false) × (at + step-room ≤ room)) × (b ≡ true → (stopped ≡ true) ⊎ (room < at + step-room)) ⌝ }
+    ensures { λ b.
+        ⌜ (b ≡ false → (stopped ≡ false) × (at + step-room ≤ room))
+        × (b ≡ true → (stopped ≡ true) ⊎ (room < at + step-room)) ⌝ }
 {
     if stopped {
         return true;
@@ -208,7 +178,11 @@ pub fn feed(
     at: usize,
 ) -> Fed
     ensures { λ f. ⌜ f .read ≤ length (now (piece .entry)) ⌝ }
-    ensures { λ f. ⌜ (at ≤ length (now (room .entry)) → Feeds s (lent (now (m .entry)) (now (words .entry)) (now (items .entry)) (now (table .entry))) (lent (now (m .exit)) (now (words .exit)) (now (items .exit)) (now (table .exit))) (now (room .entry)) (now (room .exit)) at (take (f .read) (now (piece .entry))) (f .state) (f .to)) ⌝ }
+    ensures { λ f.
+        let before = lent (now (m .entry)) (now (words .entry)) (now (items .entry)) (now (table .entry)) in
+        let after = lent (now (m .exit)) (now (words .exit)) (now (items .exit)) (now (table .exit)) in
+        let read = take (f .read) (now (piece .entry)) in
+        ⌜ (at ≤ length (now (room .entry)) → Feeds s before after (now (room .entry)) (now (room .exit)) at read (f .state) (f .to)) ⌝ }
     ensures { λ f. ⌜ Pauses (f .state) (now (room .entry)) (f .to) (now (piece .entry)) (f .read) ⌝ }
 {
     let mut state = s;

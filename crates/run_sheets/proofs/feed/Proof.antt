@@ -1,82 +1,116 @@
-use Rattle.run_sheets.proofs.TakenLaws.{chunk-open, chunk-line}
+use mathlib.Core.Path.{_≡_}
+use Prim.Native.Nat.{_-_}
 use native.Mathlib.Omega.{arith}
+use lib.ListN.{length}
 use borrow.Author.Needs.{needs}
+use Rattle.sheet_step.specs.State.{lent}
+use Rattle.sheet_read.proofs.Feeding.{cut-inside}
+use Rattle.run_sheets.specs.Chunks.{stand}
+use Rattle.run_sheets.proofs.ChunkLaws.{Stands-for, no-turn, chunk-turn, chunk-open, chunk-done}
 use Rattle.run_sheets.proofs.feed.Statement.{statement}
 use Rattle.run_sheets.proofs.feed.Tie as tie
-use Rattle.run_sheets.proofs.feed.Reads as reads
-use Rattle.run_sheets.proofs.feed.Lts as lts
-use Rattle.sheet_lines.proofs.hold.Reads as hold-reads
-use Rattle.run_sheets.proofs.feed_rest.Reads as feed-rest-reads
-use Rattle.run_sheets.proofs.line_end.Reads as line-end-reads
-use Rattle.run_sheets.proofs.line_of.Reads as line-of-reads
-use Rattle.run_sheets.proofs.part.Reads as part-reads
-use Rattle.run_sheets.proofs.take_text.Reads as take-text-reads
 
-line-end-requires : tie.Need-line-end-requires
-line-end-requires c κs = search needs
+abbrev Inv-loop : tie.InvT-loop
+Inv-loop how many bytes m₀ words₀ items₀ table₀ room₀ out₀ flow₀ held₀ from₀ m words items table room out flow held from = (length m ≡ length m₀) × (length words ≡ length words₀) × (length items ≡ length items₀) × (length room ≡ length room₀) × (length out ≡ length out₀) × Stands-for how many bytes held₀ (stand flow₀ (lent m₀ words₀ items₀ table₀) room₀ out₀) from held (stand flow (lent m words items table) room out)
 
-part-requires : tie.Need-part-requires
-part-requires c κs = search needs
+abbrev μ-loop : tie.MeasureT-loop
+μ-loop how many bytes m₀ words₀ items₀ table₀ room₀ out₀ flow₀ held₀ from₀ m words items table room out flow held from = length bytes - from
 
-hold-requires : tie.Need-hold-requires
-hold-requires c κs = search needs
+loop-holds : tie.Need-loop-holds Inv-loop μ-loop
+loop-holds c = (search needs, search needs, search needs, search needs, search needs, no-turn _ _ _ _ _)
 
-returns : tie.Need-returns
-returns c = chunk-open _ _ _ _ _ _ _ _ (c .before .before .before .line-end .ensures) (c .if1 .taken) (c .before .before .part .ensures) (c .before .hold .ensures .0)
+cut-line-requires : tie.Need-cut-line-requires Inv-loop μ-loop
+cut-line-requires c κs = search needs
 
-add-after : tie.Need-add-after
-add-after c = search needs
+same-length : tie.Need-same-length Inv-loop μ-loop
+same-length c = search needs
 
-slice-aggregate-part : tie.Need-slice-aggregate-part
-slice-aggregate-part c = search needs
+same-length-2 : tie.Need-same-length-2 Inv-loop μ-loop
+same-length-2 c = search needs
 
-part-requires-2 : tie.Need-part-requires-2
-part-requires-2 c κs = search needs
-
-line-of-requires : tie.Need-line-of-requires
-line-of-requires c κs = search needs
-
-take-text-requires : tie.Need-take-text-requires
-take-text-requires c κs = search needs
-
-feed-rest-requires : tie.Need-feed-rest-requires
-feed-rest-requires c κs = search needs
-
-same-length : tie.Need-same-length
-same-length c = omega (arith, c .before .before .before .before .before .before .before .before .before .before .before .before .before .before .before .before .before .before .before .before .before .before .before .before .before .before .m .given, c .before .before .before .before .before .before .before .before .before .m2 .given)
-
-same-length-2 : tie.Need-same-length-2
-same-length-2 c = omega (arith, c .before .before .before .before .before .before .before .before .before .before .before .before .before .before .before .before .before .before .before .before .before .before .before .before .words .given, c .before .before .before .before .before .before .before .words2 .given)
-
-same-length-3 : tie.Need-same-length-3
+same-length-3 : tie.Need-same-length-3 Inv-loop μ-loop
 same-length-3 c = search needs
 
-same-length-4 : tie.Need-same-length-4
+same-length-4 : tie.Need-same-length-4 Inv-loop μ-loop
 same-length-4 c = search needs
 
-same-length-5 : tie.Need-same-length-5
+same-length-5 : tie.Need-same-length-5 Inv-loop μ-loop
 same-length-5 c = search needs
 
-returns-2 : tie.Need-returns-2
-returns-2 c = chunk-line _ _ _ _ _ _ _ _ _ _ _ _ _ _ (c .before .before .before .before .before .before .before .before .before .before .before .before .before .before .before .before .before .before .before .before .before .before .before .before .before .before .before .before .before .before .before .before .before .before .before .before .before .before .before .before .before .line-end .ensures) (c .before .before .before .before .before .before .before .before .before .before .before .before .before .before .before .before .before .before .before .before .before .before .before .before .before .before .before .before .before .before .before .before .before .before .before .before .before .before .if1 .left) (c .before .before .before .before .before .before .before .before .before .before .before .before .before .before .before .before .before .before .before .before .before .before .before .before .before .before .before .before .before .before .before .before .before .before .before .before .before .before .before .before .part .ensures) (c .before .before .before .before .before .before .before .before .before .before .before .before .before .before .before .before .before .before .before .before .before .before .before .before .before .before .before .before .before .before .before .before .before .before .before .before .before .before .before .hold .ensures .0) (c .before .before .before .before .before .before .before .before .before .before .before .before .before .before .before .before .before .before .before .before .before .before .before .before .before .before .before .before .before .before .before .before .before .before .before .before .before .before .before .hold .ensures .1) (c .before .before .before .before .before .before .before .before .before .before .before .before .before .before .before .before .before .before .before .before .before .before .before .before .before .before .before .before .before .before .before .before .before .before .before .part2 .ensures) (c .before .before .before .before .before .before .before .before .before .before .before .before .before .before .before .before .before .before .before .before .before .before .before .before .before .before .before .before .before .before .before .before .before .before .line-of .ensures) (c .before .before .before .before .before .before .before .before .before .before .before .before .before .before .before .before .before .before .before .before .before .before .before .before .before .before .before .take-text .ensures) (c .before .before .before .before .before .before .before .before .before .before .feed-rest .ensures)
+returns : tie.Need-returns Inv-loop μ-loop
+returns c = chunk-open _ _ _ _ _ _ _ _ (c .before .before .before .before .loop .inv .5) _ (c .before .before .cut-line .ensures) (c .if1 .taken) (c .before .before .before .loop-test .taken)
+
+part-requires : tie.Need-part-requires Inv-loop μ-loop
+part-requires c κs = search needs
+
+slice-aggregate-part : tie.Need-slice-aggregate-part Inv-loop μ-loop
+slice-aggregate-part c = search needs
+
+part-requires-2 : tie.Need-part-requires-2 Inv-loop μ-loop
+part-requires-2 c κs = search needs
+
+line-of-requires : tie.Need-line-of-requires Inv-loop μ-loop
+line-of-requires c κs = search needs
+
+take-text-requires : tie.Need-take-text-requires Inv-loop μ-loop
+take-text-requires c κs = search needs
+
+nothing-requires : tie.Need-nothing-requires Inv-loop μ-loop
+nothing-requires c κs = search needs
+
+add-from : tie.Need-add-from Inv-loop μ-loop
+add-from c = omega (arith, cut-inside _ _ _ _ (c .before .before .before .before .before .before .before .before .before .before .before .before .before .before .before .before .before .before .before .before .before .before .before .before .before .cut-line .ensures) (c .before .before .before .before .before .before .before .before .before .before .before .before .before .before .before .before .before .before .before .before .before .before .before .if1 .left) .1, c .before .before .before .before .before .before .before .before .before .before .before .before .before .before .before .before .before .before .before .before .before .before .before .before .before .before .before .before .before .before .before .before .before .before .good)
+
+loop-less : tie.Need-loop-less Inv-loop μ-loop
+loop-less c = omega (arith, cut-inside _ _ _ _ (c .before .before .before .before .before .before .before .before .before .before .before .before .before .before .before .before .before .before .before .before .before .before .before .before .before .cut-line .ensures) (c .before .before .before .before .before .before .before .before .before .before .before .before .before .before .before .before .before .before .before .before .before .before .before .if1 .left) .0, c .before .before .before .before .before .before .before .before .before .before .before .before .before .before .before .before .before .before .before .before .before .before .before .before .before .before .loop-test .taken)
+
+loop-again : tie.Need-loop-again Inv-loop μ-loop
+loop-again c = (omega (arith, c .before .before .before .before .before .before .before .before .before .before .m .given, c .before .before .before .before .before .before .before .before .before .before .before .before .before .before .before .before .before .before .before .before .before .before .before .before .before .before .before .loop .inv .0), omega (arith, c .before .before .before .before .before .before .before .before .words .given, c .before .before .before .before .before .before .before .before .before .before .before .before .before .before .before .before .before .before .before .before .before .before .before .before .before .before .before .loop .inv .1), omega (arith, c .before .before .before .before .before .before .items .given, c .before .before .before .before .before .before .before .before .before .before .before .before .before .before .before .before .before .before .before .before .before .before .before .before .before .before .before .loop .inv .2), omega (arith, c .before .before .before .before .room .given, c .before .before .before .before .before .before .before .before .before .before .before .before .before .before .before .before .before .before .before .before .before .before .before .before .before .before .before .loop .inv .3), omega (arith, c .before .before .out .given, c .before .before .before .before .before .before .before .before .before .before .before .before .before .before .before .before .before .before .before .before .before .before .before .before .before .before .before .loop .inv .4), chunk-turn _ _ _ _ _ _ _ _ (c .before .before .before .before .before .before .before .before .before .before .before .before .before .before .before .before .before .before .before .before .before .before .before .before .before .before .before .loop .inv .5) _ _ _ _ _ _ (c .before .before .before .before .before .before .before .before .before .before .before .before .before .before .before .before .before .before .before .before .before .before .before .before .before .cut-line .ensures) (c .before .before .before .before .before .before .before .before .before .before .before .before .before .before .before .before .before .before .before .before .before .before .before .if1 .left) (c .before .before .before .before .before .before .before .before .before .before .before .before .before .before .before .before .before .before .before .before .before .part .ensures) (c .before .before .before .before .before .before .before .before .before .before .before .before .before .before .before .before .before .before .before .part2 .ensures) (c .before .before .before .before .before .before .before .before .before .before .before .before .before .before .before .before .before .before .line-of .ensures) (c .before .before .before .before .before .before .before .before .before .before .before .take-text .ensures) (c .nothing .ensures .0))
+
+same-length-6 : tie.Need-same-length-6 Inv-loop μ-loop
+same-length-6 c = search needs
+
+same-length-7 : tie.Need-same-length-7 Inv-loop μ-loop
+same-length-7 c = search needs
+
+same-length-8 : tie.Need-same-length-8 Inv-loop μ-loop
+same-length-8 c = search needs
+
+same-length-9 : tie.Need-same-length-9 Inv-loop μ-loop
+same-length-9 c = search needs
+
+same-length-10 : tie.Need-same-length-10 Inv-loop μ-loop
+same-length-10 c = search needs
+
+returns-2 : tie.Need-returns-2 Inv-loop μ-loop
+returns-2 c = chunk-done _ _ _ _ _ _ _ _ (c .before .loop .inv .5) (c .loop-test .left)
 
 pub feed-spec : {M : Type 1} → statement M
 feed-spec =
     tie.close
     (tie.spec
-    line-end-requires
-    part-requires
-    hold-requires
-    returns
-    add-after
-    slice-aggregate-part
-    part-requires-2
-    line-of-requires
-    take-text-requires
-    feed-rest-requires
+    Inv-loop
+    μ-loop
+    loop-holds
+    cut-line-requires
     same-length
     same-length-2
     same-length-3
     same-length-4
     same-length-5
+    returns
+    part-requires
+    slice-aggregate-part
+    part-requires-2
+    line-of-requires
+    take-text-requires
+    nothing-requires
+    add-from
+    loop-less
+    loop-again
+    same-length-6
+    same-length-7
+    same-length-8
+    same-length-9
+    same-length-10
     returns-2)

@@ -1,7 +1,6 @@
-use Rattle.run_sheets.proofs.TakenLaws.{none-read, more-read, all-read}
+use Rattle.run_sheets.proofs.ChunkLaws.{none-read, more-read, all-read}
 use Rattle.sheet_step.specs.State.{lent}
-use Rattle.run_sheets.specs.Taken.{stand, Read}
--- `run_sheets::read_all` is safe and ends. Assumes nothing.
+use Rattle.run_sheets.specs.Chunks.{stand, Read}
 use borrow.Author.Needs.{needs}
 use mathlib.Core.Path.{_≡_}
 use native.Mathlib.Omega.{arith}
