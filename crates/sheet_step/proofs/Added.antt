@@ -3,29 +3,28 @@
 use mathlib.Core.Path.{_≡_, refl, sym, ap, _∙_}
 use mathlib.Core.Bool.{Bool, true, false, not, _||_}
 use mathlib.Core.Option.{Option, none, some}
-use mathlib.Core.Logic.{_⊎_, inl, inr, ⊎-elim}
-use mathlib.Core.List.{List, [], _∷_, _++_, map, List·Memᴰ, List·Memᴰ·head, List·Memᴰ·tail}
+use mathlib.Core.List.{List, [], _∷_, _++_, List·Memᴰ, List·Memᴰ·head, List·Memᴰ·tail}
 use Prim.Native.Nat.{ℕ, zero, suc, _+_, _*_, _≤_, _<_}
 use native.Mathlib.Omega.{arith}
 use lib.ListN.{length, getElem?, drop, length-append}
 use lib.Dec.{ltb, leb}
 use borrow.Author.Tests.{lt-ltb, le-ltb, le-leb}
 use Rattle.paper.specs.declared.Refusal.{Refusal}
-use Rattle.paper.specs.declared.Refusal.the-variants.{Repeated, TooManySites}
-use Rattle.paper.specs.Words.{if_then_else_, any, first}
-use Rattle.paper.specs.Numbers.{max-sites, max-sources, max-term, Outcome, done, refused, _>>=_, demand}
+use Rattle.paper.specs.declared.Refusal.the-variants.{Repeated}
+use Rattle.paper.specs.Words.{any, first}
+use Rattle.paper.specs.Numbers.{max-sites, max-sources, max-term, Outcome, done, refused, _>>=_}
 use Rattle.paper.specs.Layout.{whole, site-read}
-use Rattle.paper.specs.Sites.{Site, Sites, same-site, sources, term-of, known, number-of, missing-source, term-fits, Added, or-next, add, Sound}
-use Rattle.paper.proofs.Laws.{same-site-true, same-site-refl, at-inside, number-none, number-some, first-next}
-use Rattle.paper.proofs.Adding.{Adds, add-done, Placed, present, next}
+use Rattle.paper.specs.Sites.{Site, Sites, same-site, sources, term-of, known, number-of, term-fits, Added, add, Sound}
+use Rattle.paper.proofs.Laws.{same-site-true, same-site-refl, at-inside, number-none, first-next}
+use Rattle.paper.proofs.Adding.{add-done, Placed, present, next}
 use Rattle.paper.specs.Loading.{Set, with-sites}
 use Rattle.paper.specs.Sheets as paper
 use Rattle.paper.specs.Sheets.{stepped, at-sites, site-read-in}
-use Rattle.sites.specs.Slots.{slot, sites-in, held-by, added-in, add-body, numbered-as, store, after-add}
+use Rattle.sites.specs.Slots.{slot, sites-in, held-by, added-in, numbered-as, store, after-add}
 use Rattle.sites.specs.declared.Numbered.{Numbered}
 use Rattle.sites.specs.declared.Numbered.the-variants.{Known, Fresh, Refused}
 use Rattle.sites.proofs.Places.{sites-length}
-use Rattle.sheet_step.specs.State.{sites-room}
+use Rattle.sheet_reader.specs.State.{sites-room}
 
 -- ---- a site that is there
 any-at : (T : Sites) (x : Site) → any (same-site x) T ≡ true → (n : ℕ) × (getElem? T n ≡ some x)

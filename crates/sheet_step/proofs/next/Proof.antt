@@ -5,15 +5,12 @@ use Rattle.sheet_step.proofs.next.Tie as tie
 use Rattle.sheet_step.proofs.next.Reads as reads
 use Rattle.sheet_step.proofs.next.Lts as lts
 
--- src/lib.rt:118:20
 add-result : tie.Need-add-result
 add-result c = search needs
 
--- src/lib.rt:115:1
 returns : tie.Need-returns
 returns c = next-more _ (c .if1 .taken)
 
--- src/lib.rt:115:1
 returns-2 : tie.Need-returns-2
 returns-2 c = next-same _ (c .if1 .left)
 

@@ -6,98 +6,76 @@ use Rattle.sheet_step.proofs.site_frame.Tie as tie
 use Rattle.sheet_step.proofs.site_frame.Reads as reads
 use Rattle.sheet_step.proofs.site_frame.Lts as lts
 use Rattle.sheet_step.proofs.next.Reads as next-reads
-use Rattle.sheet_step.proofs.on.Reads as on-reads
-use Rattle.sheet_step.proofs.site_set.Reads as site-set-reads
-use Rattle.sheet_step.proofs.stop.Reads as stop-reads
+use Rattle.sheet_reader.proofs.on.Reads as on-reads
+use Rattle.sheet_reader.proofs.site_set.Reads as site-set-reads
+use Rattle.sheet_reader.proofs.stop.Reads as stop-reads
 use Rattle.sites.proofs.add.Reads as add-reads
 
--- src/lib.rt:261:26
 site-set-requires : tie.Need-site-set-requires
 site-set-requires c κs = search needs
 
--- src/lib.rt:261:19
 enum-known-set : tie.Need-enum-known-set
 enum-known-set c = search needs
 
--- src/lib.rt:262:24
 enum-told : tie.Need-enum-told
 enum-told c = search needs
 
--- src/lib.rt:262:9
 stop-requires : tie.Need-stop-requires
 stop-requires c κs = search needs
 
--- src/lib.rt:262:9
 same-length : tie.Need-same-length
 same-length c = search needs
 
--- src/lib.rt:262:9
 returns : tie.Need-returns
-returns c = site-not (c .before .before .before .before .before .before .before .before .before .before .args .r) _ _ _ _ _ _ (c .before .before .before .before .before .before .site-set .ensures) _ (c .before .before .before .before .enum-told .given .1) (c .before .before .stop .ensures)
+returns c = site-not (c .before .before .before .before .before .before .before .before .before .before .args .r) _ _ _ _ _ _ (c .before .before .before .before .before .before .site-set .ensures) _ (c .before .before .before .before .enum-told .given .1) (c .before .before .stop .ensures (c .before .before .before .before .before .before .before .before .before .before .pre .0))
 
--- src/lib.rt:264:11
 add-requires : tie.Need-add-requires
 add-requires c κs = search needs
 
--- src/lib.rt:265:39
 enum-told-2 : tie.Need-enum-told-2
 enum-told-2 c = search needs
 
--- src/lib.rt:265:31
 stop-requires-2 : tie.Need-stop-requires-2
 stop-requires-2 c κs = search needs
 
--- src/lib.rt:266:27
 enum-known-why : tie.Need-enum-known-why
 enum-known-why c = search needs
 
--- src/lib.rt:266:35
 stop-requires-3 : tie.Need-stop-requires-3
 stop-requires-3 c κs = search needs
 
--- src/lib.rt:271:24
 enum-told-3 : tie.Need-enum-told-3
 enum-told-3 c = search needs
 
--- src/lib.rt:271:24
 next-requires : tie.Need-next-requires
 next-requires c κs = search needs
 
--- src/lib.rt:274:13
 on-requires : tie.Need-on-requires
 on-requires c κs = search needs
 
--- src/lib.rt:255:1
 same-length-2 : tie.Need-same-length-2
 same-length-2 c = search needs
 
--- src/lib.rt:255:1
 same-length-3 : tie.Need-same-length-3
 same-length-3 c = search needs
 
--- src/lib.rt:255:1
 returns-2 : tie.Need-returns-2
-returns-2 c = λ w i t p x q T. site-known (c .before .before .before .before .before .before .before .before .before .before .before .before .before .before .before .before .before .args .r) _ _ _ _ _ _ (c .before .before .before .before .before .before .before .before .before .before .before .before .before .site-set .ensures) _ _ (c .before .before .before .before .before .before .before .before .before .before .before .set .given .1) _ _ (c .before .before .before .before .before .before .before .before .add .ensures .0) (c .before .before .before .before .before .before .before .before .add .ensures .1) w i t p x q T _ (c .before .before .before .before .enum-told2 .given .1) (c .before .before .stop2 .ensures)
+returns-2 c = λ w i t p x q T. site-known (c .before .before .before .before .before .before .before .before .before .before .before .before .before .before .before .before .before .args .r) _ _ _ _ _ _ (c .before .before .before .before .before .before .before .before .before .before .before .before .before .site-set .ensures) _ _ (c .before .before .before .before .before .before .before .before .before .before .before .set .given .1) _ _ (c .before .before .before .before .before .before .before .before .add .ensures .0) (c .before .before .before .before .before .before .before .before .add .ensures .1) w i t p x q T _ (c .before .before .before .before .enum-told2 .given .1) (c .before .before .stop2 .ensures (c .before .before .before .before .before .before .before .before .before .before .before .before .before .before .before .before .before .pre .0))
 
--- src/lib.rt:255:1
 same-length-4 : tie.Need-same-length-4
 same-length-4 c = search needs
 
--- src/lib.rt:255:1
 same-length-5 : tie.Need-same-length-5
 same-length-5 c = search needs
 
--- src/lib.rt:255:1
 returns-3 : tie.Need-returns-3
-returns-3 c = λ w i t p x q T. site-refused (c .before .before .before .before .before .before .before .before .before .before .before .before .before .before .before .before .before .before .args .r) _ _ _ _ _ _ (c .before .before .before .before .before .before .before .before .before .before .before .before .before .before .site-set .ensures) _ _ (c .before .before .before .before .before .before .before .before .before .before .before .before .set .given .1) _ _ (c .before .before .before .before .before .before .before .before .before .add .ensures .0) (c .before .before .before .before .before .before .before .before .before .add .ensures .1) w i t p x q T _ (c .before .before .before .before .before .why .given .1) (c .before .before .stop3 .ensures)
+returns-3 c = λ w i t p x q T. site-refused (c .before .before .before .before .before .before .before .before .before .before .before .before .before .before .before .before .before .before .args .r) _ _ _ _ _ _ (c .before .before .before .before .before .before .before .before .before .before .before .before .before .before .site-set .ensures) _ _ (c .before .before .before .before .before .before .before .before .before .before .before .before .set .given .1) _ _ (c .before .before .before .before .before .before .before .before .before .add .ensures .0) (c .before .before .before .before .before .before .before .before .before .add .ensures .1) w i t p x q T _ (c .before .before .before .before .before .why .given .1) (c .before .before .stop3 .ensures (c .before .before .before .before .before .before .before .before .before .before .before .before .before .before .before .before .before .before .pre .0))
 
--- src/lib.rt:255:1
 same-length-6 : tie.Need-same-length-6
 same-length-6 c = search needs
 
--- src/lib.rt:255:1
 returns-4 : tie.Need-returns-4
-returns-4 c = λ w i t p x q T. site-fresh (c .before .before .before .before .before .before .before .before .before .before .before .before .before .before .before .args .r) _ _ _ _ _ _ (c .before .before .before .before .before .before .before .before .before .before .before .site-set .ensures) _ _ (c .before .before .before .before .before .before .before .before .before .set .given .1) _ _ (c .before .before .before .before .before .before .add .ensures .0) (c .before .before .before .before .before .before .add .ensures .1) w i t p x q T _ _ (c .before .before .enum-told3 .given .1) (c .before .before .before .before .before .before .add .kept .0) (c .before .next .ensures) (c .on .ensures) refl
+returns-4 c = λ w i t p x q T. site-fresh (c .before .before .before .before .before .before .before .before .before .before .before .before .before .before .before .args .r) _ _ _ _ _ _ (c .before .before .before .before .before .before .before .before .before .before .before .site-set .ensures) _ _ (c .before .before .before .before .before .before .before .before .before .set .given .1) _ _ (c .before .before .before .before .before .before .add .ensures .0) (c .before .before .before .before .before .before .add .ensures .1) w i t p x q T _ _ (c .before .before .enum-told3 .given .1) (c .before .before .before .before .before .before .add .kept .0) (c .before .next .ensures) (c .on .ensures (c .before .before .before .before .before .before .before .before .before .before .before .before .before .before .before .pre .1)) refl
 
 pub site-frame-spec : {M : Type 1} → statement M
 site-frame-spec =

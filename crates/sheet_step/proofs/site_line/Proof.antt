@@ -6,45 +6,35 @@ use Rattle.sheet_step.proofs.site_line.Tie as tie
 use Rattle.sheet_step.proofs.site_line.Reads as reads
 use Rattle.sheet_step.proofs.site_line.Lts as lts
 use Rattle.sheet_step.proofs.site_frame.Reads as site-frame-reads
-use Rattle.sheet_step.proofs.stop.Reads as stop-reads
+use Rattle.sheet_reader.proofs.stop.Reads as stop-reads
 
--- src/lib.rt:457:9
 stop-requires : tie.Need-stop-requires
 stop-requires c κs = search needs
 
--- src/lib.rt:457:9
 same-length : tie.Need-same-length
 same-length c = search needs
 
--- src/lib.rt:457:9
 returns : tie.Need-returns
 returns c = no-site (c .before .before .before .before .before .before .before .before .args .r) (now (c .before .before .before .before .before .before .before .before .args .bytes)) _ _ _ _ _ (c .before .before .before .before .if1 .taken)
 
--- src/lib.rt:459:19
 sub-site-frame : tie.Need-sub-site-frame
 sub-site-frame c = search needs
 
--- src/lib.rt:459:19
 part-site-frame-start : tie.Need-part-site-frame-start
 part-site-frame-start c = search needs
 
--- src/lib.rt:459:19
 part-site-frame-end : tie.Need-part-site-frame-end
 part-site-frame-end c = search needs
 
--- src/lib.rt:459:5
 site-frame-requires : tie.Need-site-frame-requires
 site-frame-requires c κs = search needs
 
--- src/lib.rt:451:1
 same-length-2 : tie.Need-same-length-2
 same-length-2 c = search needs
 
--- src/lib.rt:451:1
 same-length-3 : tie.Need-same-length-3
 same-length-3 c = search needs
 
--- src/lib.rt:451:1
 returns-2 : tie.Need-returns-2
 returns-2 c = search needs
 
