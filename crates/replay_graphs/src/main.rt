@@ -1,8 +1,8 @@
 // Replays stored graphs: reads edges between terms and writes the cyclic terms of each graph.
 //
 // In: a line `A B` is an edge from term A to term B, in decimal; a line `end` closes a graph, and the next one begins without edges.
-// Out: for each graph a line `cyclic T T ..`, its cyclic terms ascending, four digits each. An edge with a term over 255 is `refused 7`, and the graph stays as it
-// was.
+// Out: for each graph a line `cyclic T T ..`, its cyclic terms ascending, four digits each. An edge with a term over 255 is `refused 7`, and the graph
+// stays as it was.
 // Any other line is `bad LINE`, counted from 1, and so is a text that ends inside a line or a graph; nothing after it is read.
 use libc::STDIN_FILENO;
 use libc::STDOUT_FILENO;

@@ -1,6 +1,2 @@
-pub mod Small
-pub mod Added
-pub mod Begun
-pub mod Sited
 pub mod Closed
 pub mod Lined

@@ -133,12 +133,6 @@ module _ (r : Reader) (m ws it : List ℕ) (t : Square) (m′ room room′ : Lis
       let b = body-of (got .length) (got .bytes) c in
       step-acts r (lent m ws it t) (lent m′ ws it t) room room′ at l a h (a-site (f .0)) g (f .2) (λ p T. A ws it t p (f .0) (ap (λ z. whole (site-read z)) b ∙ f .1) T)
 
--- ---- a line of no bytes is no site
-pub no-site : (r : Reader) (b m room room′ : List ℕ) (at : ℕ) (a : Stepped) → length b ≡ 0 → (w i : List ℕ) (t : Square) (p : paper.Ended) (x : Site) → whole (site-read (take (length b - 1) (drop 1 b))) ≡ some x → Tells r (lent m w i t) p → Acts r (lent m w i t) (lent m w i t) room room′ at p (a-site x) a
-unfolding site-read
-no-site r [] m room room′ at a h w i t p x q T = let z : _≡_ {A = ℕ} 0 1 = cc in absurd (omega arith)
-no-site r (y ∷ b) m room room′ at a h w i t p x q T = absurd (omega arith)
-
 -- ---- the bytes of a line as a part of their array
 pub prefix-fits : (l : List ℕ) (got : Read) → (got ≡ reading-of l) × (got .length ≤ max-bytes) → got .length ≤ length (got .bytes)
 prefix-fits l got e = let b = bytes-long l got (e .0) (e .1) in let h = e .1 in omega arith

@@ -1,17 +1,12 @@
--- What the private functions of a step answer.
+-- The report of a set that is ended.
 use mathlib.Core.List.{List, _++_}
 use Prim.Native.Nat.{ℕ, _+_}
 use lib.ListN.{take, drop}
-use lib.Dec.{ltb}
-use Rattle.paper.specs.Words.{if_then_else_}
 use Rattle.report.specs.Lines.{reported, room-after}
 use Rattle.report.specs.declared.Reported.{Reported}
 use Rattle.report.specs.declared.Reported.the-variants as reported-is
 
-abbrev pub next-of : ℕ → ℕ
-next-of n = if ltb n 65535 then n + 1 else n
-
--- ---- the report, from `at` on
+-- from `at` on
 abbrev pub count-of : Reported → ℕ
 count-of (reported-is.Done n) = n
 count-of reported-is.TooManyRules = 0

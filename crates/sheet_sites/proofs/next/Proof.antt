@@ -1,9 +1,9 @@
-use Rattle.sheet_step.proofs.Small.{next-more, next-same}
+use Rattle.sheet_sites.proofs.Small.{next-more, next-same}
 use borrow.Author.Needs.{needs}
-use Rattle.sheet_step.proofs.next.Statement.{statement}
-use Rattle.sheet_step.proofs.next.Tie as tie
-use Rattle.sheet_step.proofs.next.Reads as reads
-use Rattle.sheet_step.proofs.next.Lts as lts
+use Rattle.sheet_sites.proofs.next.Statement.{statement}
+use Rattle.sheet_sites.proofs.next.Tie as tie
+use Rattle.sheet_sites.proofs.next.Reads as reads
+use Rattle.sheet_sites.proofs.next.Lts as lts
 
 add-result : tie.Need-add-result
 add-result c = search needs
