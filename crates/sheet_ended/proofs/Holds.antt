@@ -20,31 +20,18 @@ use Rattle.paper.specs.Terms.{Head, head-of, is-rec, edge-to, edges-of, cyclic-
 use Rattle.paper.specs.Layout.{hex}
 use Rattle.paper.specs.Sheets as paper
 use Rattle.paper.specs.Sheets.{Stepped, stepped, start, at-sites, term-found, end-found, set-begun}
-use Rattle.term_table.specs.Table.{Square, terms, words, in-row, no-marks, no-edges, with-term, with-terms, with-edges, left, unflagged}
+use Rattle.term_table.specs.Table.{Square, terms, words, in-row, has-term, no-marks, no-edges, with-term, with-terms, with-edges, left, unflagged}
+use Rattle.term_table.specs.Heads.{Between, Sheeted, rec-marks}
 use Rattle.term_table.proofs.Lists.{no-way, keep-in, keep-out, keep-nil, keep-append, in-map, Mapped, mapped, of-map}
 use Rattle.term_table.proofs.Closing.{same-test}
 use Rattle.term_table.proofs.Marks.{none-row}
-use Rattle.term_table.proofs.Adding.{Between, edges-append, terms-marked}
-use Rattle.term_table.proofs.Found.{Sheeted, rec-marks}
+use Rattle.term_table.proofs.Adding.{edges-append, terms-marked}
 use Rattle.term_table.proofs.Sets.{From, site, edges-of-is}
 use Rattle.term_table.proofs.Sheet.{sheet-findings}
 use Rattle.sheet_findings.specs.Written.{ended-found, end-found-is}
-use Rattle.sheet_ended.specs.declared.Ended.{Ended}
-use Rattle.sheet_ended.specs.Sets.{no-sets, used-in, may-begin, edge-from, edges-from, marked-by, recs-with, fits-set, one-more, with-set, terms-text, found-text}
-
-abbrev term-in : Head → ℕ
-term-in h = h .term
-
--- the code's e, with the table t, holds the paper's p
-pub record Holds (e : Ended) (t : Square) (p : paper.Ended) : Type 0 where
-  pub sets : e .sets ≡ length (p .heads)
-  pub few : length (p .heads) ≤ max-sets
-  pub kept : e .kept ≡ p .kept
-  pub few-kept : p .kept ≤ max-rules * length (p .heads)
-  pub used : e .used ≡ with-terms no-marks (map term-in (p .heads))
-  pub recs : e .recs ≡ rec-marks term-in is-rec (p .heads)
-  pub table : t ≡ with-edges no-edges (p .edges)
-  pub sheeted : Sheeted term-in is-rec (p .heads) (p .edges)
+use Rattle.sheet_ended.specs.declared.EndedSets.{EndedSets}
+use Rattle.sheet_ended.specs.Holds.{term-in, Holds, Endable, with-ended}
+use Rattle.sheet_ended.specs.Sets.{no-sets, may-begin, edge-from, edges-from, marked-by, recs-with, fits-set, one-more, with-set, terms-text, found-text}
 
 -- ---- none
 pub holds-none : Holds no-sets no-edges (start .ended)
@@ -91,8 +78,8 @@ no-words : length no-marks ≡ words
 unfolding no-marks
 no-words = length-replicate {A = ℕ} words 0
 
-pub used-is : (e : Ended) (t : Square) (p : paper.Ended) → Holds e t p → (x : ℕ) → used-in (e .used) x ≡ any (λ h. eqb (h .term) x) (p .heads)
-unfolding used-in
+pub used-is : (e : EndedSets) (t : Square) (p : paper.Ended) → Holds e t p → (x : ℕ) → has-term (e .used) x ≡ any (λ h. eqb (h .term) x) (p .heads)
+unfolding has-term
 used-is e t p H x = go (decLt x terms)
   where
     hs : List Head
@@ -118,7 +105,7 @@ used-is e t p H x = go (decLt x terms)
     go (no n) = rw (le-ltb x terms (omega arith)) (outside n)
 
 -- "01 term, flags": as the paper has it
-pub begun-is : (e : Ended) (t : Square) (p : paper.Ended) → Holds e t p → (at x f : ℕ) → set-begun p at x f ≡ (may-begin e x at >>= λ _. done (stepped p (at-sites (empty-set x f)) []))
+pub begun-is : (e : EndedSets) (t : Square) (p : paper.Ended) → Holds e t p → (at x f : ℕ) → set-begun p at x f ≡ (may-begin e x at >>= λ _. done (stepped p (at-sites (empty-set x f)) []))
 unfolding set-begun may-begin
 begun-is e t p H at x f = rw (used-is e t p H x, H .sets) (go (demand (not (any (λ h. eqb (h .term) x) (p .heads))) (Repeated at)) (demand (ltb (length (p .heads)) max-sets) (TooManySets (suc (length (p .heads))))))
   where
@@ -165,18 +152,7 @@ at-of : (t : Sites) (s : Site) → List·Memᴰ s t → (n : ℕ) × (getElem? t
 at-of [] s m = absurd (List·Memᴰ·not-nil m)
 at-of (x ∷ t) s m = ⊎-elim (λ e. (0, ap some (sym e))) (λ n. let r = at-of t s n in (suc (r .0), r .1)) (List·Memᴰ·cases-cons m)
 
--- the set that is ended: a term that no other had, in range, and sites as adding makes them
-pub record Endable (p : paper.Ended) (g : Set) : Type 0 where
-  pub fresh : any (λ h. eqb (h .term) (g .term)) (p .heads) ≡ false
-  pub term : g .term ≤ max-term
-  pub room : length (p .heads) < max-sets
-  pub rules : length (g .kept) ≤ max-rules
-  pub sites : Sound (g .sites)
-
-abbrev pub with-ended : paper.Ended → Set → paper.Ended
-with-ended p g = record { heads = p .heads ++ (head-of g ∷ []); edges = p .edges ++ edges-of g; kept = p .kept + length (g .kept) }
-
-module _ (e : Ended) (t : Square) (p : paper.Ended) (g : Set) (H : Holds e t p) (G : Endable p g) where
+module _ (e : EndedSets) (t : Square) (p : paper.Ended) (g : Set) (H : Holds e t p) (G : Endable p g) where
   abbrev hs : List Head
   hs = p .heads
 
@@ -281,7 +257,7 @@ unfolding terms-text joined
 terms-lines [] x = append-nil (hex x)
 terms-lines (t ∷ ts) x = ap (λ r. hex (term-found t) ++ r) (terms-lines ts x) ∙ sym (append-assoc (hex (term-found t)) _ (hex x))
 
-pub found-is : (e : Ended) (t : Square) (p : paper.Ended) → Holds e t p → found-text t e ≡ joined (map hex (map term-found (cyclic-findings (p .heads) (p .edges)) ++ (end-found p ∷ [])))
+pub found-is : (e : EndedSets) (t : Square) (p : paper.Ended) → Holds e t p → found-text t e ≡ joined (map hex (map term-found (cyclic-findings (p .heads) (p .edges)) ++ (end-found p ∷ [])))
 unfolding found-text
 found-is e t p H =
     let c : unflagged t (e .recs) ≡ cyclic-findings (p .heads) (p .edges) = rw (H .table, H .recs) (sheet-findings (p .heads) (p .edges) (H .sheeted)) in

@@ -13,6 +13,7 @@ use borrow.Author.Tests.{lt-ltb, le-ltb, le-leb, lt-leb, eq-eqb, ne-eqb}
 use Rattle.paper.specs.declared.Found.{Found}
 use Rattle.paper.specs.declared.Found.the-variants as found
 use Rattle.paper.specs.declared.Refusal.{Refusal}
+use Rattle.paper.specs.declared.Verdict.the-variants.{Fine, Refused}
 use Rattle.paper.specs.declared.Refusal.the-variants.{Repeated, TooManySets, TermTooHigh}
 use Rattle.paper.specs.Words.{if_then_else_, joined, below, keep, two, Edges, returns}
 use Rattle.paper.specs.Numbers.{max-sets, max-rules, max-term, Outcome, done, refused, _>>=_, demand}
@@ -20,7 +21,7 @@ use Rattle.paper.specs.Sites.{Site, Sites, term-of}
 use Rattle.paper.specs.Terms.{edge-to}
 use Rattle.paper.specs.Layout.{hex, digit-of}
 use Rattle.paper.specs.Sheets.{term-found}
-use Rattle.term_table.specs.Table.{Square, terms, words, in-row, no-marks, row-with, with-term, with-edge, with-edges, left, numbers, edges-in, unflagged, listed}
+use Rattle.term_table.specs.Table.{Square, terms, words, in-row, has-term, no-marks, row-with, with-term, with-edge, with-edges, left, numbers, edges-in, unflagged, listed}
 use Rattle.term_table.specs.declared.Listed.{Listed}
 use Rattle.term_table.proofs.Adding.{edges-append}
 use Rattle.term_table.proofs.Lists.{keep-in, keep-out, keep-nil}
@@ -30,40 +31,30 @@ use Rattle.sheet_findings.specs.declared.Room.the-variants.{To, Short}
 use Rattle.sites.specs.Slots.{put, site-of, slot-body, site-in, sites-in, found-as}
 use Rattle.sites.proofs.Put.{put-put, put-nil, length-put}
 use Rattle.sites.proofs.Bodies.{found-some, found-none}
-use Rattle.sheet_ended.specs.declared.Ended.{Ended}
-use Rattle.sheet_ended.specs.declared.Begun.{Begun}
-use Rattle.sheet_ended.specs.declared.Begun.the-variants.{Fine, Refused}
-use Rattle.sheet_ended.specs.Sets.{no-sets, begun-as, used-in, may-begin, edge-from, edges-from, marked-by, recs-with, fits-set, one-more, with-set, terms-text, to-or, end-room, found-text, said-at, written-after}
+use Rattle.sheet_ended.specs.declared.EndedSets.{EndedSets}
+use Rattle.sheet_ended.specs.Sets.{no-sets, verdict-as, may-begin, edge-from, edges-from, marked-by, recs-with, fits-set, one-more, with-set, terms-text, to-or, end-room, found-text, said-at, written-after}
 
 -- ---- no set
-pub none-ended : _≡_ {A = Ended} (record { sets = 0; kept = 0; used = 0 ∷ 0 ∷ 0 ∷ 0 ∷ []; recs = 0 ∷ 0 ∷ 0 ∷ 0 ∷ [] }) no-sets
+pub none-ended : _≡_ {A = EndedSets} (record { sets = 0; kept = 0; used = 0 ∷ 0 ∷ 0 ∷ 0 ∷ []; recs = 0 ∷ 0 ∷ 0 ∷ 0 ∷ [] }) no-sets
 unfolding no-sets no-marks
 none-ended = refl
 
 -- ---- may a set begin?
-pub used-over : (r : List ℕ) (t : ℕ) → terms ≤ t → false ≡ used-in r t
-unfolding used-in
-used-over r t h = rw (le-ltb t terms h)
-
-pub used-there : (r : List ℕ) (t : ℕ) (b : Bool) → t < terms → b ≡ in-row r t → b ≡ used-in r t
-unfolding used-in
-used-there r t b h e = rw (lt-ltb t terms h) e
-
-module _ (e : Ended) (t at : ℕ) (b : Bool) (q : b ≡ used-in (e .used) t) where
-  pub begins-used : b ≡ true → Refused (Repeated at) ≡ begun-as (may-begin e t at)
+module _ (e : EndedSets) (t at : ℕ) (b : Bool) (q : b ≡ has-term (e .used) t) where
+  pub begins-used : b ≡ true → Refused (Repeated at) ≡ verdict-as (may-begin e t at)
   unfolding may-begin
   begins-used x = rw (← q, x)
 
   module _ (x : b ≡ false) where
-    pub begins-many : (n : ℕ) → n ≡ suc (e .sets) → max-sets ≤ e .sets → Refused (TooManySets n) ≡ begun-as (may-begin e t at)
+    pub begins-many : (n : ℕ) → n ≡ suc (e .sets) → max-sets ≤ e .sets → Refused (TooManySets n) ≡ verdict-as (may-begin e t at)
     unfolding may-begin
     begins-many n z l = rw (← q, x, le-ltb (e .sets) max-sets l, z)
 
-    pub begins-high : e .sets < max-sets → max-term + 1 ≤ t → Refused (TermTooHigh t) ≡ begun-as (may-begin e t at)
+    pub begins-high : e .sets < max-sets → max-term + 1 ≤ t → Refused (TermTooHigh t) ≡ verdict-as (may-begin e t at)
     unfolding may-begin
     begins-high l h = rw (← q, x, lt-ltb (e .sets) max-sets l, lt-leb t max-term (omega arith))
 
-    pub begins-fine : e .sets < max-sets → t < max-term + 1 → Fine ≡ begun-as (may-begin e t at)
+    pub begins-fine : e .sets < max-sets → t < max-term + 1 → Fine ≡ verdict-as (may-begin e t at)
     unfolding may-begin
     begins-fine l h = rw (← q, x, lt-ltb (e .sets) max-sets l, le-leb t max-term (omega arith))
 
@@ -110,7 +101,7 @@ pub recs-so : (r out : List ℕ) (t f : ℕ) → f / 2 ≡ 1 → out ≡ left r 
 unfolding recs-with
 recs-so r out t f h e = rw (eq-eqb (f / 2) 1 h) e
 
-module _ (e : Ended) (t f rules : ℕ) where
+module _ (e : EndedSets) (t f rules : ℕ) where
   pub set-many : max-sets ≤ e .sets → e ≡ with-set e t f rules
   unfolding with-set fits-set
   set-many h = rw (le-ltb (e .sets) max-sets h)
@@ -123,7 +114,7 @@ module _ (e : Ended) (t f rules : ℕ) where
   unfolding with-set fits-set
   set-kept l m h = rw (lt-ltb (e .sets) max-sets l, le-leb rules max-rules m, lt-leb (e .kept) (max-sets * max-rules) h)
 
-  pub set-more : (used recs : List ℕ) → e .sets < max-sets → rules ≤ max-rules → e .kept ≤ max-sets * max-rules → used ≡ left (e .used) (with-term (e .used) t) → recs ≡ recs-with (e .recs) t f → _≡_ {A = Ended} (record { sets = e .sets + 1; kept = e .kept + rules; used = used; recs = recs }) (with-set e t f rules)
+  pub set-more : (used recs : List ℕ) → e .sets < max-sets → rules ≤ max-rules → e .kept ≤ max-sets * max-rules → used ≡ left (e .used) (with-term (e .used) t) → recs ≡ recs-with (e .recs) t f → _≡_ {A = EndedSets} (record { sets = e .sets + 1; kept = e .kept + rules; used = used; recs = recs }) (with-set e t f rules)
   unfolding with-set fits-set
   set-more used recs l m h u r = rw (lt-ltb (e .sets) max-sets l, le-leb rules max-rules m, le-leb (e .kept) (max-sets * max-rules) h, u, r)
 
@@ -228,7 +219,7 @@ end-long : (sets kept : ℕ) → length (hex (ended-found sets kept)) ≡ 11
 unfolding ended-found two
 end-long sets kept = length-hex _
 
-module _ (t : Square) (e : Ended) (room : List ℕ) (at : ℕ) where
+module _ (t : Square) (e : EndedSets) (room : List ℕ) (at : ℕ) where
   pub no-room : length room < at + end-room → (Short ≡ said-at room at (found-text t e)) × (room ≡ written-after room at (found-text t e))
   unfolding said-at written-after
   no-room h = (rw (lt-leb (at + end-room) (length room) h), rw (lt-leb (at + end-room) (length room) h))

@@ -6,6 +6,8 @@ use Prim.Native.Nat.{ℕ, zero, suc, _+_, _*_, _/_}
 use lib.ListN.{length}
 use lib.Dec.{eqb, ltb, leb}
 use Rattle.paper.specs.declared.Refusal.{Refusal}
+use Rattle.paper.specs.declared.Verdict.{Verdict}
+use Rattle.paper.specs.declared.Verdict.the-variants.{Fine, Refused}
 use Rattle.paper.specs.declared.Refusal.the-variants.{Repeated, TooManySets, TermTooHigh}
 use Rattle.paper.specs.Words.{if_then_else_, joined, Edges}
 use Rattle.paper.specs.Numbers.{max-sets, max-rules, max-term, Outcome, done, refused, _>>=_, demand}
@@ -13,29 +15,23 @@ use Rattle.paper.specs.Sites.{Site, Sites, term-of}
 use Rattle.paper.specs.Terms.{edge-to}
 use Rattle.paper.specs.Layout.{hex}
 use Rattle.paper.specs.Sheets.{term-found}
-use Rattle.term_table.specs.Table.{Square, terms, in-row, no-marks, with-term, left, unflagged}
+use Rattle.term_table.specs.Table.{Square, has-term, no-marks, with-term, left, unflagged}
 use Rattle.sheet_findings.specs.Written.{written-at, ended-found}
 use Rattle.sheet_findings.specs.declared.Room.{Room}
 use Rattle.sheet_findings.specs.declared.Room.the-variants.{To, Short}
-use Rattle.sheet_ended.specs.declared.Ended.{Ended}
-use Rattle.sheet_ended.specs.declared.Begun.{Begun}
-use Rattle.sheet_ended.specs.declared.Begun.the-variants.{Fine, Refused}
+use Rattle.sheet_ended.specs.declared.EndedSets.{EndedSets}
 
-unfoldable pub no-sets : Ended
+unfoldable pub no-sets : EndedSets
 no-sets = record { sets = 0; kept = 0; used = no-marks; recs = no-marks }
 
-abbrev pub begun-as : Outcome (Unit {0}) → Begun
-begun-as (done a) = Fine
-begun-as (refused r) = Refused r
-
--- a mark of a row; a term that is too high has none
-unfoldable pub used-in : List ℕ → ℕ → Bool
-used-in r t = ltb t terms && in-row r t
+abbrev pub verdict-as : Outcome (Unit {0}) → Verdict
+verdict-as (done a) = Fine
+verdict-as (refused r) = Refused r
 
 -- "9 for a term used before, then 7"
-unfoldable pub may-begin : Ended → ℕ → ℕ → Outcome (Unit {0})
+unfoldable pub may-begin : EndedSets → ℕ → ℕ → Outcome (Unit {0})
 may-begin e t at = do
-  _ ← demand (not (used-in (e .used) t)) (Repeated at)
+  _ ← demand (not (has-term (e .used) t)) (Repeated at)
   _ ← demand (ltb (e .sets) max-sets) (TooManySets (suc (e .sets)))
   demand (leb t max-term) (TermTooHigh t)
 
@@ -50,16 +46,16 @@ edges-from a ss = joined (map (edge-from a) ss)
 abbrev pub marked-by : List ℕ → ℕ → List ℕ
 marked-by r t = left r (with-term r t)
 
-unfoldable pub fits-set : Ended → ℕ → Bool
+unfoldable pub fits-set : EndedSets → ℕ → Bool
 fits-set e rules = ltb (e .sets) max-sets && (leb rules max-rules && leb (e .kept) (max-sets * max-rules))
 
 unfoldable pub recs-with : List ℕ → ℕ → ℕ → List ℕ
 recs-with r t f = if eqb (f / 2) 1 then marked-by r t else r
 
-abbrev pub one-more : Ended → ℕ → ℕ → ℕ → Ended
+abbrev pub one-more : EndedSets → ℕ → ℕ → ℕ → EndedSets
 one-more e t f rules = record { sets = e .sets + 1; kept = e .kept + rules; used = marked-by (e .used) t; recs = recs-with (e .recs) t f }
 
-unfoldable pub with-set : Ended → ℕ → ℕ → ℕ → Ended
+unfoldable pub with-set : EndedSets → ℕ → ℕ → ℕ → EndedSets
 with-set e t f rules = if fits-set e rules then one-more e t f rules else e
 
 -- ---- "at the end the 14s ascending, then 15"
@@ -73,7 +69,7 @@ to-or Short at = at
 abbrev pub end-room : ℕ
 end-room = 7 * (max-term + 1) + 11
 
-unfoldable pub found-text : Square → Ended → List ℕ
+unfoldable pub found-text : Square → EndedSets → List ℕ
 found-text t e = terms-text (unflagged t (e .recs)) ++ hex (ended-found (e .sets) (e .kept))
 
 unfoldable pub said-at : List ℕ → ℕ → List ℕ → Room

@@ -4,23 +4,26 @@ ghost use mathlib.Core.Path.{_≡_};
 ghost use mathlib.Core.Bool.{Bool, _&&_};
 ghost use Prim.Native.Nat.{ℕ, _+_, _*_, _≤_, _<_};
 ghost use lib.ListN.{length, take};
-ghost use Rattle.term_table.specs.Table.{with-edges, in-row};
+ghost use Rattle.term_table.specs.Table.{with-edges};
 ghost use Rattle.sites.specs.Slots.{site-of, sites-in};
 ghost use Rattle.sheet_findings.specs.Written.{written-at};
-ghost use Rattle.sheet_ended.specs.Sets.{no-sets, begun-as, used-in, may-begin, edge-from, edges-from, recs-with, with-set, to-or, terms-text, end-room, found-text, said-at, written-after};
+ghost use Rattle.sheet_ended.specs.Sets.{no-sets, verdict-as, may-begin, edge-from, edges-from, recs-with, with-set, to-or, terms-text, end-room, found-text, said-at, written-after};
 use paper::Found;
 use paper::RULES;
 use paper::Refusal;
 use paper::SETS;
 use paper::TERMS;
+use paper::Verdict;
 use sheet_findings::Room;
 use sheet_findings::write_end;
 use sheet_findings::write_term;
 use term_table::WORDS;
 use term_table::add;
 use term_table::flag;
+use term_table::has_term;
 
-pub struct Ended {
+// The sets that were ended. It is the `Ended` of 01's definitions in few words.
+pub struct EndedSets {
     pub sets: u16,
     pub kept: u16,
     // A mark for each term that was used, and for each that has rec.
@@ -28,19 +31,14 @@ pub struct Ended {
     pub recs: [u64; WORDS],
 }
 
-pub enum Begun {
-    Fine,
-    Refused(Refusal),
-}
-
 // Room that is enough at the end of any sheet: a line of 7 bytes for each term, and the last.
 pub const END_ROOM: usize = 7 * TERMS + 11;
 
 // No set was ended.
-pub fn no_sets() -> Ended
+pub fn no_sets() -> EndedSets
     ensures { λ r. ⌜ r ≡ no-sets ⌝ }
 {
-    Ended {
+    EndedSets {
         sets: 0,
         kept: 0,
         used: [0; WORDS],
@@ -48,43 +46,24 @@ pub fn no_sets() -> Ended
     }
 }
 
-fn in_row(r: &[u64; WORDS], j: usize) -> bool
-    requires { ⌜ j < 256 ⌝ }
-    ensures { λ b. ⌜ b ≡ in-row (now (r .entry)) j ⌝ }
-{
-    let w = r[j / 64];
-    (w >> (j % 64)) & 1 == 1
-}
-
-// Whether a term has its mark; a term that is too high has none.
-fn was_used(r: [u64; WORDS], term: u16) -> bool
-    ensures { λ b. ⌜ b ≡ used-in r term ⌝ }
-{
-    let t = term as usize;
-    if TERMS <= t {
-        return false;
-    }
-    in_row(&r, t)
-}
-
 // "01 term, flags": 9 for a term used before, then 7.
-pub fn may_begin(e: Ended, term: u16, line: u32) -> Begun
-    ensures { λ r. ⌜ r ≡ begun-as (may-begin e term line) ⌝ }
+pub fn may_begin(e: EndedSets, term: u16, line: u32) -> Verdict
+    ensures { λ r. ⌜ r ≡ verdict-as (may-begin e term line) ⌝ }
 {
     let used = e.used;
-    if was_used(used, term) {
-        return Begun::Refused(Refusal::Repeated { line: line });
+    if has_term(&used, term) {
+        return Verdict::Refused(Refusal::Repeated { line: line });
     }
     let sets = e.sets;
     if SETS <= sets as usize {
-        return Begun::Refused(Refusal::TooManySets {
+        return Verdict::Refused(Refusal::TooManySets {
             asked: sets as u32 + 1,
         });
     }
     if TERMS <= term as usize {
-        return Begun::Refused(Refusal::TermTooHigh { asked: term as u32 });
+        return Verdict::Refused(Refusal::TermTooHigh { asked: term as u32 });
     }
-    Begun::Fine
+    Verdict::Fine
 }
 
 // The edge that a site of the term's set gives.
@@ -123,7 +102,7 @@ fn rec_marks(r: [u64; WORDS], term: u16, flags: u8) -> [u64; WORDS]
 }
 
 // One set more, of this term with these flags and so many kept rules. What passes the numbers of a sheet is not counted.
-pub fn with_set(e: Ended, term: u16, flags: u8, rules: u32) -> Ended
+pub fn with_set(e: EndedSets, term: u16, flags: u8, rules: u32) -> EndedSets
     ensures { λ r. ⌜ r ≡ with-set e term flags rules ⌝ }
 {
     if SETS <= e.sets as usize {
@@ -139,7 +118,7 @@ pub fn with_set(e: Ended, term: u16, flags: u8, rules: u32) -> Ended
     flag(&mut used, term);
     let before = e.recs;
     let recs = rec_marks(before, term, flags);
-    Ended {
+    EndedSets {
         sets: e.sets + 1,
         kept: e.kept + rules as u16,
         used: used,
@@ -173,7 +152,7 @@ fn write_terms(terms: &[u16], n: usize, room: &mut [u8], at: usize) -> usize
 }
 
 // "at the end the 14s ascending, then 15", from `at` on; less room than END_ROOM is left as it was.
-pub fn write_found(t: &[[u64; WORDS]; TERMS], e: Ended, room: &mut [u8], at: usize) -> Room
+pub fn write_found(t: &[[u64; WORDS]; TERMS], e: EndedSets, room: &mut [u8], at: usize) -> Room
     ensures { λ r. ⌜ r ≡ said-at (now (room .entry)) at (found-text (now (t .entry)) e) ⌝ }
     ensures { λ _. ⌜ now (room .exit) ≡ written-after (now (room .entry)) at (found-text (now (t .entry)) e) ⌝ }
 {

@@ -11,12 +11,12 @@ use lib.ListN.{length, getD, set, take, drop, length-set, replicate, length-repl
 use lib.Dec.{eqb, leb}
 use lib.Seq.{sets, sets-eq, length-sets, paste, paste-zero, paste-suc, take-at, take-paste, length-paste, take-all}
 use borrow.Author.Tests.{eq-eqb, ne-eqb, le-leb, lt-leb, leb-true}
-use Rattle.sheet_ended.specs.declared.Ended.{Ended}
-use Rattle.sheet_step.specs.declared.OpenSet.{OpenSet}
-use Rattle.sheet_step.specs.declared.Awaited.{Awaited}
-use Rattle.sheet_step.specs.declared.Reader.{Reader}
-use Rattle.sheet_step.specs.declared.Stands.{Stands}
-use Rattle.sheet_step.specs.declared.Stands.the-variants.{Outside, Sites, Rules, Items}
+use Rattle.sheet_ended.specs.declared.EndedSets.{EndedSets}
+use Rattle.sheet_reader.specs.declared.OpenSet.{OpenSet}
+use Rattle.sheet_reader.specs.declared.Awaited.{Awaited}
+use Rattle.sheet_reader.specs.declared.Reader.{Reader}
+use Rattle.sheet_reader.specs.declared.Stands.{Stands}
+use Rattle.sheet_reader.specs.declared.Stands.the-variants.{Outside, Sites, Rules, Items}
 use Rattle.sheet_lines.specs.Fed.{max-held}
 use Rattle.sheet_lines.specs.declared.Held.{Held}
 use Rattle.sheet_read.specs.declared.State.{State}
@@ -48,7 +48,7 @@ pub both-put : (m n o : List ℕ) (k : ℕ) (g : OpenSet) (a : Awaited) (left : 
 unfolding both-words set-words rule-words
 both-put m n o k g a left p q = q ∙ ap (λ (x : List ℕ). sets x 6 (a .place ∷ a .priority ∷ a .count ∷ left ∷ [])) p
 
-stands-then : (m : List ℕ) (s : Stands) (e : Ended) → sets (sets m 1 (stands-words s)) 10 (ended-words e) ≡ sets m 1 (stands-words s ++ ended-words e)
+stands-then : (m : List ℕ) (s : Stands) (e : EndedSets) → sets (sets m 1 (stands-words s)) 10 (ended-words e) ≡ sets m 1 (stands-words s ++ ended-words e)
 unfolding stands-words both-words set-words rule-words ended-words
 stands-then m Outside e = refl
 stands-then m (Sites g) e = refl
@@ -81,17 +81,17 @@ pub row-is : (s : List ℕ) (at a b c d : ℕ) → a ≡ getD s at 0 → b ≡ g
 unfolding row-in
 row-is s at a b c d p q r t = cc
 
-abbrev ended : ℕ → ℕ → List ℕ → List ℕ → Ended
+abbrev ended : ℕ → ℕ → List ℕ → List ℕ → EndedSets
 ended a b u v = record { sets = a; kept = b; used = u; recs = v }
 
 pub ended-is : (s : List ℕ) (a b v w : ℕ) (u r : List ℕ) → v ≡ getD s 10 0 → a ≡ v % 65536 → w ≡ getD s 11 0 → b ≡ w % 65536 → u ≡ row-in s 12 → r ≡ row-in s 16 → ended a b u r ≡ ended-in s
 unfolding ended-in
 ended-is s a b v w u r e p f q g h = cc
 
-abbrev reader : ℕ → Stands → Ended → Reader
+abbrev reader : ℕ → Stands → EndedSets → Reader
 reader l t e = record { line = l; stands = t; ended = e }
 
-pub reader-is : (s : List ℕ) (l v : ℕ) (t : Stands) (e : Ended) → v ≡ getD s 0 0 → l ≡ v % 4294967296 → t ≡ stands-in s → e ≡ ended-in s → reader l t e ≡ reader-in s
+pub reader-is : (s : List ℕ) (l v : ℕ) (t : Stands) (e : EndedSets) → v ≡ getD s 0 0 → l ≡ v % 4294967296 → t ≡ stands-in s → e ≡ ended-in s → reader l t e ≡ reader-in s
 unfolding reader-in
 reader-is s l v t e p q r u = cc
 
@@ -120,7 +120,7 @@ pub rule-put : (m : List ℕ) (a b c : ℕ) (w : Awaited) (l : ℕ) → a ≡ w 
 unfolding rule-words
 rule-put m a b c w l p q r = rw (p, q, r)
 
-pub ended-put : (m : List ℕ) (a b : ℕ) (e : Ended) → a ≡ e .sets → b ≡ e .kept
+pub ended-put : (m : List ℕ) (a b : ℕ) (e : EndedSets) → a ≡ e .sets → b ≡ e .kept
     → set (set (set (set (set (set (set (set (set (set m 10 a) 11 b) 12 (getD (e .used) 0 0)) 13 (getD (e .used) 1 0)) 14 (getD (e .used) 2 0)) 15 (getD (e .used) 3 0)) 16 (getD (e .recs) 0 0)) 17 (getD (e .recs) 1 0)) 18 (getD (e .recs) 2 0)) 19 (getD (e .recs) 3 0)
     ≡ sets m 10 (ended-words e)
 unfolding ended-words
@@ -154,7 +154,7 @@ SmallStands (Sites g) = SmallSet g
 SmallStands (Rules g) = SmallSet g
 SmallStands (Items g a left) = SmallSet g × SmallRule a × (left < 256)
 
-pub record SmallEnded (e : Ended) : Type 0 where
+pub record SmallEnded (e : EndedSets) : Type 0 where
   pub sets : e .sets < 65536
   pub kept : e .kept < 65536
   pub used : length (e .used) ≡ 4
@@ -179,10 +179,10 @@ set-again g h = rw (mod-eq-of-lt (h .term), mod-eq-of-lt (h .flags), mod-eq-of-l
 rule-again : (a : Awaited) → SmallRule a → awaited (a .place % 4294967296) (a .priority) (a .count % 256) ≡ a
 rule-again a h = rw (mod-eq-of-lt (h .place), mod-eq-of-lt (h .count))
 
-ended-again : (e : Ended) → SmallEnded e → ended (e .sets % 65536) (e .kept % 65536) (getD (e .used) 0 0 ∷ getD (e .used) 1 0 ∷ getD (e .used) 2 0 ∷ getD (e .used) 3 0 ∷ []) (getD (e .recs) 0 0 ∷ getD (e .recs) 1 0 ∷ getD (e .recs) 2 0 ∷ getD (e .recs) 3 0 ∷ []) ≡ e
+ended-again : (e : EndedSets) → SmallEnded e → ended (e .sets % 65536) (e .kept % 65536) (getD (e .used) 0 0 ∷ getD (e .used) 1 0 ∷ getD (e .used) 2 0 ∷ getD (e .used) 3 0 ∷ []) (getD (e .recs) 0 0 ∷ getD (e .recs) 1 0 ∷ getD (e .recs) 2 0 ∷ getD (e .recs) 3 0 ∷ []) ≡ e
 ended-again e h = rw (mod-eq-of-lt (h .sets), mod-eq-of-lt (h .kept), four-of (e .used) (h .used), four-of (e .recs) (h .recs))
 
-stands-again : (l : ℕ) (s : Stands) (e : Ended) (rest : List ℕ) → SmallStands s → stands-in ((l ∷ (stands-words s ++ ended-words e)) ++ rest) ≡ s
+stands-again : (l : ℕ) (s : Stands) (e : EndedSets) (rest : List ℕ) → SmallStands s → stands-in ((l ∷ (stands-words s ++ ended-words e)) ++ rest) ≡ s
 unfolding stands-in stands-words both-words set-words rule-words ended-words set-in rule-in SmallStands
 stands-again l Outside e rest h = refl
 stands-again l (Sites g) e rest h = ap Sites (set-again g h)
@@ -192,7 +192,7 @@ stands-again l (Items g a left) e rest h =
     ∙ ap (λ (x : Awaited). Items g x (left % 256)) (rule-again a (h .1))
     ∙ ap (λ (x : ℕ). Items g a x) (mod-eq-of-lt (h .2))
 
-ended-there : (l : ℕ) (s : Stands) (e : Ended) (rest : List ℕ) → SmallEnded e → ended-in ((l ∷ (stands-words s ++ ended-words e)) ++ rest) ≡ e
+ended-there : (l : ℕ) (s : Stands) (e : EndedSets) (rest : List ℕ) → SmallEnded e → ended-in ((l ∷ (stands-words s ++ ended-words e)) ++ rest) ≡ e
 unfolding ended-in row-in stands-words both-words set-words rule-words ended-words
 ended-there l Outside e rest h = ended-again e h
 ended-there l (Sites g) e rest h = ended-again e h
@@ -214,11 +214,11 @@ unfolding reader-in reader-words
 read-again r rest h =
     ap (λ (x : ℕ). reader x (stands-in (reader-words r ++ rest)) (ended-in (reader-words r ++ rest))) (mod-eq-of-lt (h .line))
     ∙ ap (λ (x : Stands). reader (r .line) x (ended-in (reader-words r ++ rest))) (stands-again (r .line) (r .stands) (r .ended) rest (h .stands))
-    ∙ ap (λ (x : Ended). reader (r .line) (r .stands) x) (ended-there (r .line) (r .stands) (r .ended) rest (h .ended))
+    ∙ ap (λ (x : EndedSets). reader (r .line) (r .stands) x) (ended-there (r .line) (r .stands) (r .ended) rest (h .ended))
 
 -- ---- the whole state
 
-words-then : (m : List ℕ) (l : ℕ) (s : Stands) (e : Ended) (a b : ℕ) → set (set (sets m 0 (l ∷ (stands-words s ++ ended-words e))) 20 a) 21 b ≡ sets m 0 ((l ∷ (stands-words s ++ ended-words e)) ++ (a ∷ b ∷ []))
+words-then : (m : List ℕ) (l : ℕ) (s : Stands) (e : EndedSets) (a b : ℕ) → set (set (sets m 0 (l ∷ (stands-words s ++ ended-words e))) 20 a) 21 b ≡ sets m 0 ((l ∷ (stands-words s ++ ended-words e)) ++ (a ∷ b ∷ []))
 unfolding stands-words both-words set-words rule-words ended-words
 words-then m l Outside e a b = refl
 words-then m l (Sites g) e a b = refl

@@ -6,18 +6,18 @@ use lib.ListN.{length, length-map}
 use mir.Val.{Val}
 use denote.Shadow.{shadow}
 use Rattle.sheet_lines.specs.Fed.{max-held}
-use Rattle.sheet_ended.specs.declared.Ended.{Ended}
-use Rattle.sheet_step.specs.declared.OpenSet.{OpenSet}
-use Rattle.sheet_step.specs.declared.Awaited.{Awaited}
-use Rattle.sheet_step.specs.declared.Reader.{Reader}
-use Rattle.sheet_step.specs.declared.Stands.{Stands}
-use Rattle.sheet_step.specs.declared.Stands.the-variants.{Outside, Sites, Rules, Items}
+use Rattle.sheet_ended.specs.declared.EndedSets.{EndedSets}
+use Rattle.sheet_reader.specs.declared.OpenSet.{OpenSet}
+use Rattle.sheet_reader.specs.declared.Awaited.{Awaited}
+use Rattle.sheet_reader.specs.declared.Reader.{Reader}
+use Rattle.sheet_reader.specs.declared.Stands.{Stands}
+use Rattle.sheet_reader.specs.declared.Stands.the-variants.{Outside, Sites, Rules, Items}
 use Rattle.sheet_read.specs.declared.State.{State}
-use Rattle.sheet_ended.proofs.Ended as ended
-use Rattle.sheet_step.proofs.OpenSet as set
-use Rattle.sheet_step.proofs.Awaited as awaited
-use Rattle.sheet_step.proofs.Stands as stands
-use Rattle.sheet_step.proofs.Reader as reader
+use Rattle.sheet_ended.proofs.EndedSets as ended
+use Rattle.sheet_reader.proofs.OpenSet as set
+use Rattle.sheet_reader.proofs.Awaited as awaited
+use Rattle.sheet_reader.proofs.Stands as stands
+use Rattle.sheet_reader.proofs.Reader as reader
 use Rattle.sheet_state.proofs.Reading.{SmallSet, SmallRule, SmallStands, SmallEnded, SmallReader, SmallState}
 
 small-set : (g : OpenSet) (vs : List Val) → shadow (set.the-field .row .own (set.the-type .to g) vs) → SmallSet g
@@ -36,7 +36,7 @@ small-stands (Items g a left) vs h = (small-set g _ (h .1 .1 .1 .1 .0), small-ru
 array-long : {A : Type 0} (xs : List ℕ) (f : ℕ → A) (n : ℕ) → length (map f xs) ≡ n → length xs ≡ n
 array-long xs f n e = sym (length-map xs f) ∙ e
 
-small-ended : (e : Ended) (vs : List Val) → shadow (ended.the-field .row .own (ended.the-type .to e) vs) → SmallEnded e
+small-ended : (e : EndedSets) (vs : List Val) → shadow (ended.the-field .row .own (ended.the-type .to e) vs) → SmallEnded e
 small-ended e vs h = record {
   sets = h .1 .1 .0 .1;
   kept = h .1 .1 .1 .0 .1;

@@ -8,12 +8,12 @@ use lib.ListN.{length, getD, take, drop, replicate}
 use lib.Seq.{sets}
 use lib.Dec.{eqb, leb}
 use Rattle.paper.specs.Words.{if_then_else_}
-use Rattle.sheet_ended.specs.declared.Ended.{Ended}
-use Rattle.sheet_step.specs.declared.OpenSet.{OpenSet}
-use Rattle.sheet_step.specs.declared.Awaited.{Awaited}
-use Rattle.sheet_step.specs.declared.Reader.{Reader}
-use Rattle.sheet_step.specs.declared.Stands.{Stands}
-use Rattle.sheet_step.specs.declared.Stands.the-variants.{Outside, Sites, Rules, Items}
+use Rattle.sheet_ended.specs.declared.EndedSets.{EndedSets}
+use Rattle.sheet_reader.specs.declared.OpenSet.{OpenSet}
+use Rattle.sheet_reader.specs.declared.Awaited.{Awaited}
+use Rattle.sheet_reader.specs.declared.Reader.{Reader}
+use Rattle.sheet_reader.specs.declared.Stands.{Stands}
+use Rattle.sheet_reader.specs.declared.Stands.the-variants.{Outside, Sites, Rules, Items}
 use Rattle.sheet_lines.specs.Fed.{max-held}
 use Rattle.sheet_read.specs.declared.State.{State}
 
@@ -41,7 +41,7 @@ stands-in s =
 unfoldable pub row-in : List ℕ → ℕ → List ℕ
 row-in s at = getD s at 0 ∷ getD s (at + 1) 0 ∷ getD s (at + 2) 0 ∷ getD s (at + 3) 0 ∷ []
 
-unfoldable pub ended-in : List ℕ → Ended
+unfoldable pub ended-in : List ℕ → EndedSets
 ended-in s = record { sets = getD s 10 0 % 65536; kept = getD s 11 0 % 65536; used = row-in s 12; recs = row-in s 16 }
 
 unfoldable pub reader-in : List ℕ → Reader
@@ -81,7 +81,7 @@ stands-words (Sites g) = both-words 1 g no-rule 0
 stands-words (Rules g) = both-words 2 g no-rule 0
 stands-words (Items g a left) = both-words 3 g a left
 
-unfoldable pub ended-words : Ended → List ℕ
+unfoldable pub ended-words : EndedSets → List ℕ
 ended-words e =
     e .sets ∷ e .kept ∷ getD (e .used) 0 0 ∷ getD (e .used) 1 0 ∷ getD (e .used) 2 0 ∷ getD (e .used) 3 0
     ∷ getD (e .recs) 0 0 ∷ getD (e .recs) 1 0 ∷ getD (e .recs) 2 0 ∷ getD (e .recs) 3 0 ∷ []

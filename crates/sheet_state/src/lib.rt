@@ -9,15 +9,20 @@ ghost use Rattle.paper.specs.Words.{if_then_else_};
 ghost use Rattle.sheet_lines.specs.Fed.{max-held};
 ghost use Rattle.sheet_state.specs.State.{state-words, keeps, bit, set-in, rule-in, stands-in, row-in, ended-in, reader-in, stopped-in, bytes-in, state-in, set-words, rule-words, both-words, stands-words, ended-words, reader-words, state-put, held-put};
 use rule_words::word;
-use sheet_ended::Ended;
+use sheet_ended::EndedSets;
 use sheet_lines::HELD;
 use sheet_lines::Held;
 use sheet_read::State;
-use sheet_step::Awaited;
-use sheet_step::OpenSet;
-use sheet_step::Reader;
-use sheet_step::Stands;
+use sheet_reader::Awaited;
+use sheet_reader::OpenSet;
+use sheet_reader::Reader;
+use sheet_reader::Stands;
 use term_table::WORDS;
+use widths::size64;
+use widths::word_of_size;
+use widths::word8;
+use widths::word16;
+use widths::word32;
 
 // Words that the state takes: the line; where the reader stands, the open set, the awaited rule and the items left; the sets that were ended; how many
 // bytes of a line are held; whether the sheet stopped.
@@ -99,12 +104,12 @@ fn row_in(state: &[u64], at: usize) -> [u64; WORDS]
     ]
 }
 
-fn ended_in(state: &[u64]) -> Ended
+fn ended_in(state: &[u64]) -> EndedSets
     ensures { λ r. ⌜ r ≡ ended-in (now (state .entry)) ⌝ }
 {
     let used = row_in(state, 12);
     let recs = row_in(state, 16);
-    Ended {
+    EndedSets {
         sets: two_bytes(word(state, 10)),
         kept: two_bytes(word(state, 11)),
         used,
@@ -123,12 +128,6 @@ fn reader_in(state: &[u64]) -> Reader
         stands,
         ended,
     }
-}
-
-fn index(x: u64) -> usize
-    ensures { λ r. ⌜ r ≡ x ⌝ }
-{
-    x as usize
 }
 
 // The first bytes of what is lent for the held line.
@@ -170,30 +169,12 @@ pub fn state_in(state: &[u64], held: &[u8]) -> State
 {
     let reader = reader_in(state);
     let bytes = bytes_in(held);
-    let length = index(word(state, 20));
+    let length = size64(word(state, 20));
     State {
         reader,
         held: Held { length, bytes },
         stopped: stopped_in(state),
     }
-}
-
-fn wide(x: u16) -> u64
-    ensures { λ r. ⌜ r ≡ x ⌝ }
-{
-    x as u64
-}
-
-fn wide32(x: u32) -> u64
-    ensures { λ r. ⌜ r ≡ x ⌝ }
-{
-    x as u64
-}
-
-fn wide8(x: u8) -> u64
-    ensures { λ r. ⌜ r ≡ x ⌝ }
-{
-    x as u64
 }
 
 // The words 1 to 5: where the reader stands, and the open set.
@@ -202,10 +183,10 @@ fn put_set(state: &mut [u64], k: u64, g: OpenSet)
     ensures { λ _. ⌜ now (state .exit) ≡ sets (now (state .entry)) 1 (set-words k g) ⌝ }
 {
     state[1] = k;
-    state[2] = wide(g.term);
-    state[3] = wide8(g.flags);
-    state[4] = wide(g.sites);
-    state[5] = wide32(g.rules);
+    state[2] = word16(g.term);
+    state[3] = word8(g.flags);
+    state[4] = word16(g.sites);
+    state[5] = word32(g.rules);
 }
 
 // The words 6 to 9: the awaited rule, and the items left.
@@ -213,10 +194,10 @@ fn put_rule(state: &mut [u64], a: Awaited, left: u8)
     requires { ⌜ state-words ≤ length (now state) ⌝ }
     ensures { λ _. ⌜ now (state .exit) ≡ sets (now (state .entry)) 6 (rule-words a left) ⌝ }
 {
-    state[6] = wide32(a.place);
+    state[6] = word32(a.place);
     state[7] = a.priority;
-    state[8] = wide8(a.count);
-    state[9] = wide8(left);
+    state[8] = word8(a.count);
+    state[9] = word8(left);
 }
 
 const NO_SET: OpenSet = OpenSet {
@@ -253,14 +234,14 @@ fn put_stands(state: &mut [u64], s: Stands)
 }
 
 // The words 10 to 19: the sets that were ended.
-fn put_ended(state: &mut [u64], e: Ended)
+fn put_ended(state: &mut [u64], e: EndedSets)
     requires { ⌜ state-words ≤ length (now state) ⌝ }
     ensures { λ _. ⌜ now (state .exit) ≡ sets (now (state .entry)) 10 (ended-words e) ⌝ }
 {
     let used = e.used;
     let recs = e.recs;
-    state[10] = wide(e.sets);
-    state[11] = wide(e.kept);
+    state[10] = word16(e.sets);
+    state[11] = word16(e.kept);
     state[12] = used[0];
     state[13] = used[1];
     state[14] = used[2];
@@ -278,15 +259,9 @@ fn put_reader(state: &mut [u64], r: Reader)
 {
     let stands = r.stands;
     let ended = r.ended;
-    state[0] = wide32(r.line);
+    state[0] = word32(r.line);
     put_stands(state, stands);
     put_ended(state, ended);
-}
-
-fn wide64(x: usize) -> u64
-    ensures { λ r. ⌜ r ≡ x ⌝ }
-{
-    x as u64
 }
 
 fn bit(b: bool) -> u64
@@ -303,7 +278,7 @@ fn put_words(state: &mut [u64], s: State)
     let reader = s.reader;
     let held = s.held;
     put_reader(state, reader);
-    state[20] = wide64(held.length);
+    state[20] = word_of_size(held.length);
     state[STOPPED] = bit(s.stopped);
 }
 

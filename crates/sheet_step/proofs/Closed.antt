@@ -1,58 +1,41 @@
 -- 06: what each return asks.
 use mathlib.Core.Path.{_≡_, refl, sym, ap, _∙_}
-use mathlib.Core.Bool.{Bool, true, false, not}
-use mathlib.Core.Option.{Option, none, some}
 use mathlib.Core.List.{List, [], _∷_, _++_, map, append-nil}
-use Prim.Native.Nat.{ℕ, zero, suc, _+_, _-_, _*_, _≤_, _<_, min}
+use Prim.Native.Nat.{ℕ, zero, suc, _+_, _-_, _≤_}
 use native.Mathlib.Omega.{arith}
-use lib.ListN.{length, length-append}
-use lib.Dec.{eqb, ltb, leb}
-use borrow.Author.Tests.{lt-ltb, le-ltb, le-leb, lt-leb, ltb-true, leb-true, leb-false}
-use Rattle.paper.specs.declared.Item.{Item}
-use Rattle.paper.specs.declared.Refusal.{Refusal}
-use Rattle.paper.specs.declared.Refusal.the-variants.{Layout, Repeated}
-use Rattle.paper.specs.Words.{if_then_else_, any, joined}
-use Rattle.paper.specs.Numbers.{max-sets, max-rules, max-items, max-sites, Outcome, done, refused}
-use Rattle.paper.specs.Layout.{hex, whole, site-read, begin-set, a-site, a-rule, an-item, end-set}
-use Rattle.paper.specs.Sites.{Site, Sound}
-use Rattle.paper.specs.Loading.{Set, Written, written, load, with-sites}
+use lib.ListN.{length}
+use borrow.Author.Tests.{le-ltb}
+use Rattle.paper.specs.declared.Refusal.the-variants.{Layout}
+use Rattle.paper.specs.Words.{joined}
+use Rattle.paper.specs.Numbers.{max-rules, done}
+use Rattle.paper.specs.Layout.{hex, end-set}
+use Rattle.paper.specs.Loading.{Set}
 use Rattle.paper.specs.Sheets as paper
-use Rattle.paper.specs.Sheets.{stepped, Open, outside, at-sites, at-rules, at-items, refusal-found, rule-read, items-left, with-item, site-read-in, rule-begun, item-read, set-ended, act, listed-found}
+use Rattle.paper.specs.Sheets.{stepped, outside, set-ended, act, listed-found}
 use Rattle.term_table.specs.Table.{Square}
-use Rattle.sheet_findings.specs.Written.{written-at, room-said, room-after}
-use Rattle.sheet_findings.specs.declared.Room.{Room}
-use Rattle.sites.specs.Slots.{sites-in, added-in, numbered-as, after-add}
-use Rattle.sites.specs.declared.Numbered.{Numbered}
-use Rattle.sites.specs.declared.Numbered.the-variants as numbered
-use Rattle.sites.proofs.After.{after-add-is, after-add-sound}
-use Rattle.rule_words.specs.Stored.{run, kept-first}
-use Rattle.sheet_ended.specs.Sets.{to-or}
-use Rattle.sheet_ended.proofs.Laws.{said-to, after-is}
-use Rattle.sheet_ended.proofs.Holds.{Holds, Endable}
-use Rattle.sheet_step.specs.State.{Lent, lent, Roomy, set-in, rule-in, stands-in, Fine, Tells, step-room, sites-room, kept-room, items-room}
-use Rattle.sheet_step.specs.Answers.{Answers, Acts, Reads, Stops, went, act-event, next-of, next-rule-of, minus-of, item-kept, site-set, rule-set, open-rule, rule-event, items-event, item-event}
-use Rattle.sheet_step.specs.declared.OpenSet.{OpenSet}
-use Rattle.sheet_step.specs.declared.Awaited.{Awaited}
-use Rattle.sheet_step.specs.declared.Stands.{Stands}
-use Rattle.sheet_step.specs.declared.Stands.the-variants.{Outside, Sites, Rules, Items}
-use Rattle.sheet_step.specs.declared.Reader.{Reader}
-use Rattle.sheet_step.specs.declared.Event.{Event}
-use Rattle.sheet_step.specs.declared.Event.the-variants as event
-use Rattle.sheet_step.specs.declared.Stepped.{Stepped}
-use Rattle.sheet_step.specs.declared.Where.{Where}
-use Rattle.sheet_step.specs.declared.Where.the-variants.{In, Not}
-use Rattle.sheet_step.specs.declared.Awaits.{Awaits}
-use Rattle.sheet_step.specs.declared.Awaits.the-variants.{Rule, NoRule}
+use Rattle.sheet_findings.specs.Written.{written-at, room-after}
+use Rattle.sites.specs.Slots.{sites-in}
+use Rattle.rule_words.specs.Stored.{kept-first}
+use Rattle.sheet_ended.specs.Holds.{Holds}
+use Rattle.sheet_reader.specs.State.{Lent, lent, set-in, stands-in, Tells, step-room}
+use Rattle.sheet_reader.specs.Answers.{Acts, Stops, rule-set}
+use Rattle.sheet_reader.specs.declared.OpenSet.{OpenSet}
+use Rattle.sheet_reader.specs.declared.Stands.the-variants.{Outside}
+use Rattle.sheet_reader.specs.declared.Reader.{Reader}
+use Rattle.sheet_reader.specs.declared.Event.the-variants as event
+use Rattle.sheet_reader.specs.declared.Stepped.{Stepped}
+use Rattle.sheet_reader.specs.declared.Where.{Where}
+use Rattle.sheet_reader.specs.declared.Where.the-variants.{In, Not}
 use lib.ListN.{take, drop, length-drop}
-use lib.Seq.{drop-drop, take-all}
+use lib.Seq.{drop-drop}
 use borrow.Rule.Slice.PartMut.{putMid, post-is}
 use mathlib.Core.List.{append-assoc}
-use Rattle.paper.specs.Words.{Edges}
 use Rattle.paper.specs.Rules.{report, report-for}
 use Rattle.term_table.specs.Table.{with-edges}
 use Rattle.sheet_ended.specs.Sets.{edges-from, with-set}
-use Rattle.sheet_ended.specs.declared.Ended.{Ended}
-use Rattle.sheet_ended.proofs.Holds.{with-ended, holds-more}
+use Rattle.sheet_ended.specs.declared.EndedSets.{EndedSets}
+use Rattle.sheet_ended.specs.Holds.{with-ended}
+use Rattle.sheet_ended.proofs.Holds.{holds-more}
 use Rattle.report.specs.Lines.{report-text, report-room, reported}
 use Rattle.report.specs.Lines as lines
 use Rattle.report.specs.declared.Reported.{Reported}
@@ -61,10 +44,10 @@ use Rattle.report.proofs.ListLaws.{map-map}
 use Rattle.report.proofs.ReportLaws.{room-enough}
 use Rattle.sites.proofs.Put.{rest-eq}
 use Rattle.sheet_lines.specs.Fed.{after-line}
-use Rattle.sheet_step.specs.Answers.{text-of, count-of, report-end, report-after}
-use Rattle.sheet_step.proofs.Acts.{stopped}
-use Rattle.sheet_step.proofs.Loaded.{length-kept}
-use Rattle.sheet_step.proofs.Itemed.{end-out, Inside, inside}
+use Rattle.sheet_reader.specs.Answers.{text-of}
+use Rattle.sheet_step.specs.Parts.{count-of, report-end, report-after}
+use Rattle.sheet_reader.proofs.Acts.{stopped}
+use Rattle.sheet_reader.proofs.Standing.{end-out, inside, length-kept}
 
 -- ---- the report from `at` on
 drop-none : (n : ℕ) (l : List ℕ) → length l ≤ n → drop n l ≡ []
@@ -115,7 +98,7 @@ module _ (r : Reader) (m ws : List ℕ) (t : Square) (room : List ℕ) (at : ℕ
   pub end-not : (room′ : List ℕ) → v ≡ Not → Stops r (Layout (r .line)) room room′ at a → (i : List ℕ) (p : paper.Ended) → Tells r (lent m ws i t) p → Acts r (lent m ws i t) (lent m ws i t) room room′ at p end-set a
   end-not room′ e S i p T = stopped (Layout (r .line)) (end-out p (r .line) (lent m ws i t) (r .stands) (sym ev ∙ e)) S
 
-  pub end-ended : (g : OpenSet) (room′ : List ℕ) (t′ : Square) (to : ℕ) (E : Ended) → v ≡ In g → at + step-room ≤ length room → (to ≡ report-end ws (g .rules) (g .flags) room at) × (room′ ≡ report-after ws (g .rules) (g .flags) room at) → t′ ≡ with-edges t (edges-from (g .term) (sites-in m (g .sites))) → E ≡ with-set (r .ended) (g .term) (g .flags) (g .rules) → a ≡ record { reader = record { line = r .line + 1; stands = Outside; ended = E }; event = event.Ended; to = to } → (i : List ℕ) (p : paper.Ended) → Tells r (lent m ws i t) p → Acts r (lent m ws i t) (lent m ws i t′) room room′ at p end-set a
+  pub end-ended : (g : OpenSet) (room′ : List ℕ) (t′ : Square) (to : ℕ) (E : EndedSets) → v ≡ In g → at + step-room ≤ length room → (to ≡ report-end ws (g .rules) (g .flags) room at) × (room′ ≡ report-after ws (g .rules) (g .flags) room at) → t′ ≡ with-edges t (edges-from (g .term) (sites-in m (g .sites))) → E ≡ with-set (r .ended) (g .term) (g .flags) (g .rules) → a ≡ record { reader = record { line = r .line + 1; stands = Outside; ended = E }; event = event.Ended; to = to } → (i : List ℕ) (p : paper.Ended) → Tells r (lent m ws i t) p → Acts r (lent m ws i t) (lent m ws i t′) room room′ at p end-set a
   end-ended g room′ t′ to E eg h er et ee ea i p T =
       let k = lent m ws i t in
       let k′ = lent m ws i t′ in

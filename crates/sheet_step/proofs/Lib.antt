@@ -1,9 +1,2 @@
-pub mod Small
-pub mod Added
-pub mod Loaded
-pub mod Acts
-pub mod Sited
-pub mod Ruled
-pub mod Itemed
 pub mod Closed
 pub mod Lined

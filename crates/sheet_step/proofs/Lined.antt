@@ -1,62 +1,38 @@
 -- A line: what each return of `step` asks.
 use mathlib.Core.Path.{_≡_, refl, sym, ap, _∙_}
-use mathlib.Core.Bool.{Bool, true, false, not}
 use mathlib.Core.Option.{Option, none, some}
-use mathlib.Core.List.{List, [], _∷_, _++_, map, append-nil}
-use Prim.Native.Nat.{ℕ, zero, suc, _+_, _-_, _*_, _≤_, _<_, min}
+use mathlib.Core.List.{List, [], _∷_}
+use Prim.Native.Nat.{ℕ, zero, suc, _+_, _-_, _≤_, _<_}
 use native.Mathlib.Omega.{arith}
-use lib.ListN.{length, length-append}
-use lib.Dec.{eqb, ltb, leb}
-use borrow.Author.Tests.{lt-ltb, le-ltb, le-leb, lt-leb, ltb-true, leb-true}
+use lib.ListN.{length}
+use borrow.Author.Tests.{le-leb, lt-leb}
 use Rattle.paper.specs.declared.Item.{Item}
-use Rattle.paper.specs.declared.Refusal.{Refusal}
-use Rattle.paper.specs.declared.Refusal.the-variants.{Layout, Repeated}
-use Rattle.paper.specs.Words.{if_then_else_, any, joined}
-use Rattle.paper.specs.Numbers.{max-sets, max-rules, max-items, max-sites, Outcome, done, refused}
-use Rattle.paper.specs.Layout.{hex, whole, site-read, begin-set, a-site, a-rule, an-item, end-set}
-use Rattle.paper.specs.Sites.{Site, Sound}
-use Rattle.paper.specs.Loading.{Set, Written, written, load, with-sites}
+use Rattle.paper.specs.declared.Refusal.the-variants.{Layout}
+use Rattle.paper.specs.Numbers.{refused}
+use Rattle.paper.specs.Layout.{whole, site-read, begin-set, a-site, a-rule, an-item, end-set}
+use Rattle.paper.specs.Sites.{Site}
 use Rattle.paper.specs.Sheets as paper
-use Rattle.paper.specs.Sheets.{stepped, Open, outside, at-sites, at-rules, at-items, refusal-found, rule-read, items-left, with-item, site-read-in, rule-begun, item-read, act, act-on, step}
+use Rattle.paper.specs.Sheets.{step}
 use Rattle.term_table.specs.Table.{Square}
-use Rattle.sheet_findings.specs.Written.{written-at, room-said, room-after}
-use Rattle.sheet_findings.specs.declared.Room.{Room}
-use Rattle.sites.specs.Slots.{sites-in, added-in, numbered-as, after-add}
-use Rattle.sites.specs.declared.Numbered.{Numbered}
-use Rattle.sites.specs.declared.Numbered.the-variants as numbered
-use Rattle.sites.proofs.After.{after-add-is, after-add-sound}
-use Rattle.rule_words.specs.Stored.{run, kept-first}
-use Rattle.sheet_ended.specs.Sets.{to-or}
-use Rattle.sheet_ended.proofs.Laws.{said-to, after-is}
-use Rattle.sheet_ended.proofs.Holds.{Holds, Endable}
-use Rattle.sheet_step.specs.State.{Lent, lent, Roomy, set-in, rule-in, stands-in, Fine, Tells, step-room, sites-room, kept-room, items-room}
-use Rattle.sheet_step.specs.Answers.{Answers, Acts, Reads, Stops, went, act-event, next-of, next-rule-of, minus-of, item-kept, site-set, rule-set, open-rule, rule-event, items-event, item-event}
-use Rattle.sheet_step.specs.declared.OpenSet.{OpenSet}
-use Rattle.sheet_step.specs.declared.Awaited.{Awaited}
-use Rattle.sheet_step.specs.declared.Stands.{Stands}
-use Rattle.sheet_step.specs.declared.Stands.the-variants.{Outside, Sites, Rules, Items}
-use Rattle.sheet_step.specs.declared.Reader.{Reader}
-use Rattle.sheet_step.specs.declared.Event.{Event}
-use Rattle.sheet_step.specs.declared.Event.the-variants as event
-use Rattle.sheet_step.specs.declared.Stepped.{Stepped}
-use Rattle.sheet_step.specs.declared.Where.{Where}
-use Rattle.sheet_step.specs.declared.Where.the-variants.{In, Not}
-use Rattle.sheet_step.specs.declared.Awaits.{Awaits}
-use Rattle.sheet_step.specs.declared.Awaits.the-variants.{Rule, NoRule}
-use lib.ListN.{take, drop, length-take, length-drop}
+use Rattle.sheet_reader.specs.State.{Lent, lent, Tells, step-room}
+use Rattle.sheet_reader.specs.Answers.{Acts, Stops}
+use Rattle.sheet_reader.specs.declared.Reader.{Reader}
+use Rattle.sheet_reader.specs.declared.Stepped.{Stepped}
+use Rattle.sheet_reader.specs.declared.Awaits.the-variants.{Rule}
+use lib.ListN.{take, drop, length-take}
 use lib.Seq.{take-all}
 use Rattle.paper.specs.Words.{or-else}
-use Rattle.paper.specs.Numbers.{last-line, _>>=_, demand}
+use Rattle.paper.specs.Numbers.{last-line, _>>=_}
 use Rattle.paper.specs.Layout as layout
-use Rattle.paper.specs.Layout.{frame-of, frame-read, byte}
+use Rattle.paper.specs.Layout.{frame-of}
 use Rattle.paper.specs.Sites.{constPrim}
 use Rattle.sheet_frames.specs.Said.{max-bytes, reading-of}
 use Rattle.sheet_frames.specs.Back.{body-in, frame-back, line-back, bytes-long}
 use Rattle.sheet_frames.specs.declared.Read.{Read}
 use Rattle.sheet_frames.specs.declared.Frame.the-variants as said
-use Rattle.sheet_step.specs.State.{reader-of}
-use Rattle.sheet_step.specs.Answers.{Steps, Stepping, unread, line-event}
-use Rattle.sheet_step.proofs.Acts.{stopped}
+use Rattle.sheet_reader.specs.State.{reader-of}
+use Rattle.sheet_reader.specs.Answers.{Steps, Stepping, unread}
+use Rattle.sheet_reader.proofs.Acts.{stopped}
 
 -- ---- what a line says
 module _ (l : List ℕ) (got : Read) (e : got ≡ reading-of l) where
@@ -156,12 +132,6 @@ module _ (r : Reader) (m ws it : List ℕ) (t : Square) (m′ room room′ : Lis
       let f = line-site l got e q in
       let b = body-of (got .length) (got .bytes) c in
       step-acts r (lent m ws it t) (lent m′ ws it t) room room′ at l a h (a-site (f .0)) g (f .2) (λ p T. A ws it t p (f .0) (ap (λ z. whole (site-read z)) b ∙ f .1) T)
-
--- ---- a line of no bytes is no site
-pub no-site : (r : Reader) (b m room room′ : List ℕ) (at : ℕ) (a : Stepped) → length b ≡ 0 → (w i : List ℕ) (t : Square) (p : paper.Ended) (x : Site) → whole (site-read (take (length b - 1) (drop 1 b))) ≡ some x → Tells r (lent m w i t) p → Acts r (lent m w i t) (lent m w i t) room room′ at p (a-site x) a
-unfolding site-read
-no-site r [] m room room′ at a h w i t p x q T = let z : _≡_ {A = ℕ} 0 1 = cc in absurd (omega arith)
-no-site r (y ∷ b) m room room′ at a h w i t p x q T = absurd (omega arith)
 
 -- ---- the bytes of a line as a part of their array
 pub prefix-fits : (l : List ℕ) (got : Read) → (got ≡ reading-of l) × (got .length ≤ max-bytes) → got .length ≤ length (got .bytes)

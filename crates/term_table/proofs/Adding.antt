@@ -13,6 +13,7 @@ use Rattle.paper.specs.Words.{keep, Edges, Walk, one, more, returns}
 use Rattle.paper.proofs.Walks.{returns-is}
 use Rattle.paper.specs.Numbers.{done, refused}
 use Rattle.term_table.specs.Table.{terms, words, Square, in-row, marked, row-with, with-mark, no-marks, no-edges, numbers, edges-in, with-edge, with-term, left, with-edges, with-terms, cyclic-terms}
+use Rattle.term_table.specs.Heads.{Between}
 use Rattle.term_table.proofs.Lists.{no-way, keep-same}
 use Rattle.term_table.proofs.Turns.{from-over, to-over, both-within, term-over, term-within}
 use Rattle.term_table.proofs.Marks.{Whole, put-row, put-whole, put-marks, none-row, none-whole, none-marks}
@@ -97,10 +98,6 @@ pub edges-append : (es fs : Edges) (t : Square) → with-edges t (es ++ fs) ≡ 
 unfolding with-edges
 edges-append [] fs t = refl
 edges-append (e ∷ es) fs t = edges-append es fs _
-
--- edges between terms
-unfoldable pub Between : Edges → Type 0
-Between es = (a b : ℕ) → List·Memᴰ (a, b) es → (a < terms) × (b < terms)
 
 -- from the empty table: just the edges that were added
 pub edges-held : (es : Edges) → Between es → (a b : ℕ) → List·Memᴰ (a, b) (edges-in (with-edges no-edges es)) ↔ List·Memᴰ (a, b) es

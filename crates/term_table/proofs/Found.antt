@@ -9,35 +9,25 @@ use lib.ListN.{length, length-replicate}
 use Rattle.paper.specs.Words.{keep, ascending, Edges, Walk, one, more, returns}
 use Rattle.paper.proofs.Walks.{returns-is}
 use Rattle.term_table.specs.Table.{terms, words, in-row, no-marks, no-edges, numbers, edges-in, with-edges, with-terms, unflagged}
+use Rattle.term_table.specs.Heads.{rec-marks, Sheeted}
 use Rattle.term_table.proofs.Lists.{no-way, keep-same, mem-keep, mem-numbers, in-map, Mapped, mapped, of-map}
 use Rattle.term_table.proofs.Marks.{none-row}
 use Rattle.term_table.proofs.Closing.{same-test}
-use Rattle.term_table.proofs.Adding.{Between, cyclic-held, terms-marked}
+use Rattle.term_table.proofs.Adding.{cyclic-held, terms-marked}
 use Rattle.term_table.proofs.Ascending.{asc-same, mem-ascending, asc-ascending, asc-numbers, asc-keep}
 
 no-words : length no-marks ≡ words
 unfolding no-marks
 no-words = length-replicate {A = ℕ} words 0
 
--- the row after one call for each set that has rec
-abbrev pub rec-marks : {H : Type 0} → (H → ℕ) → (H → Bool) → List H → List ℕ
-rec-marks term rec hs = with-terms no-marks (map term (keep rec hs))
-
 module _ {H : Type 0} (term : H → ℕ) (rec : H → Bool) (hs : List H) (es : Edges) where
-  -- sets as a sheet gives them: terms to 255, each used once, and an edge starts at a set's term
-  pub record Sheeted : Type 0 where
-    pub fits : (h : H) → List·Memᴰ h hs → term h < terms
-    pub once : (h k : H) → List·Memᴰ h hs → List·Memᴰ k hs → term h ≡ term k → rec h ≡ rec k
-    pub between : Between es
-    pub starts : (a b : ℕ) → List·Memᴰ (a, b) es → List·Memᴰ a (map term hs)
-
   abbrev recs : List ℕ
   recs = rec-marks term rec hs
 
   abbrev found : List ℕ
   found = ascending (map term (keep (λ h. not (rec h) && returns es (term h)) hs))
 
-  module _ (S : Sheeted) where
+  module _ (S : Sheeted term rec hs es) where
     rec-row : (h : H) → List·Memᴰ h hs → in-row recs (term h) ≡ rec h
     rec-row h m = same-test (in-row recs (term h)) (rec h) of to
       where

@@ -15,8 +15,8 @@ use borrow.Author.Tests.{eqb-true, eqb-false, eq-eqb}
 use Rattle.paper.specs.Words.{keep, Walk, one, more, returns}
 use Rattle.paper.proofs.Walks.{returns-is}
 use Rattle.paper.specs.Numbers.{Outcome, done, refused}
-use Rattle.term_table.specs.declared.Added.{Added}
-use Rattle.term_table.specs.declared.Added.the-variants as Added-is
+use Rattle.paper.specs.declared.Verdict.{Verdict}
+use Rattle.paper.specs.declared.Verdict.the-variants as Verdict-is
 use Rattle.term_table.specs.declared.Asked.{Asked}
 use Rattle.term_table.specs.declared.Asked.the-variants as Asked-is
 use Rattle.term_table.specs.Table.{terms, words, Square, row, in-row, marked, numbers, edges-in, is-cyclic, Closure, cyclic-terms, unflagged, added, asked}
@@ -48,12 +48,12 @@ listed-is t a = (
 
 -- ---- no second answer
 
-pub one-added : (x y : Added) → added x ≡ added y → x ≡ y
+pub one-added : (x y : Verdict) → added x ≡ added y → x ≡ y
 unfolding added
-one-added Added-is.Done Added-is.Done e = refl
-one-added Added-is.Done (Added-is.Refused s) e = no-way (cc)
-one-added (Added-is.Refused r) Added-is.Done e = no-way (cc)
-one-added (Added-is.Refused r) (Added-is.Refused s) e = cc
+one-added Verdict-is.Fine Verdict-is.Fine e = refl
+one-added Verdict-is.Fine (Verdict-is.Refused s) e = no-way (cc)
+one-added (Verdict-is.Refused r) Verdict-is.Fine e = no-way (cc)
+one-added (Verdict-is.Refused r) (Verdict-is.Refused s) e = cc
 
 pub one-asked : (x y : Asked) → asked x ≡ asked y → x ≡ y
 unfolding asked

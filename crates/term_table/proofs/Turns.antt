@@ -8,16 +8,16 @@ use native.Mathlib.Decide.{ℕ-discrete}
 use native.Mathlib.Numerals.{add-one}
 use native.Mathlib.Nat.{one-mul}
 use lib.ListN.{getD, set}
-use lib.Dec.{eqb, leb}
+use lib.Dec.{eqb, ltb, leb}
 use lib.Bits.{bitAnd, bitOr, and-mask}
 use lib.Pow.{shl-exact}
-use borrow.Author.Tests.{le-leb, lt-leb}
+use borrow.Author.Tests.{lt-ltb, le-ltb, le-leb, lt-leb}
 use Rattle.paper.specs.Words.{if_then_else_, returns}
 use Rattle.paper.specs.Numbers.{max-term, Outcome, done, refused, _>>=_, demand}
 use Rattle.paper.specs.declared.Refusal.the-variants.{TermTooHigh}
-use Rattle.term_table.specs.declared.Added.the-variants as Added-is
+use Rattle.paper.specs.declared.Verdict.the-variants as Verdict-is
 use Rattle.term_table.specs.declared.Asked.the-variants as Asked-is
-use Rattle.term_table.specs.Table.{terms, Square, row, in-row, marked, row-with, with-mark, edges-in, if-term, with-edge, with-term, has-edge, is-cyclic, left, bare, added, asked}
+use Rattle.term_table.specs.Table.{terms, Square, row, in-row, has-term, marked, row-with, with-mark, edges-in, if-term, with-edge, with-term, has-edge, is-cyclic, left, bare, added, asked}
 use Rattle.term_table.specs.Loops.{both-of, has-some, Unmarked-to, join-at, join-by, join-to, widen, pass, reach-to, on-diagonal}
 
 -- ---- a mark, read and written
@@ -29,6 +29,14 @@ read-row r b = ap (λ (v : ℕ). eqb v 1) (and-mask (getD r (b / 64) 0 / 2 ^ (b 
 pub read : (t : Square) (a b : ℕ) → eqb (bitAnd (getD (getD t a []) (b / 64) 0 / 2 ^ (b % 64)) 1) 1 ≡ marked t a b
 unfolding marked
 read t a b = read-row (getD t a []) b
+
+pub term-past : (r : List ℕ) (t : ℕ) → terms ≤ t → false ≡ has-term r t
+unfolding has-term
+term-past r t h = rw (le-ltb t terms h)
+
+pub term-there : (r : List ℕ) (t : ℕ) (b : Bool) → t < terms → b ≡ in-row r t → b ≡ has-term r t
+unfolding has-term
+term-there r t b h e = rw (lt-ltb t terms h) e
 
 one-bit : (s : ℕ) → s < 64 → (1 * 2 ^ s) % 2 ^ 64 ≡ 2 ^ s
 one-bit s h = shl-exact {a = 1} 1 s 64 (omega arith) (omega arith) ∙ one-mul (2 ^ s)
@@ -60,16 +68,16 @@ module _ (t : Square) (a b : ℕ) where
   unfolding with-edge
   both-within h k = within a _ h ∙ within b _ k
 
-  pub add-from : terms ≤ a → (added (Added-is.Refused (TermTooHigh a)) ≡ bare (with-edge t a b)) × (t ≡ left t (with-edge t a b))
+  pub add-from : terms ≤ a → (added (Verdict-is.Refused (TermTooHigh a)) ≡ bare (with-edge t a b)) × (t ≡ left t (with-edge t a b))
   unfolding added
   add-from h = (sym (ap bare (from-over h)), sym (ap (left t) (from-over h)))
 
-  pub add-to : a < terms → terms ≤ b → (added (Added-is.Refused (TermTooHigh b)) ≡ bare (with-edge t a b)) × (t ≡ left t (with-edge t a b))
+  pub add-to : a < terms → terms ≤ b → (added (Verdict-is.Refused (TermTooHigh b)) ≡ bare (with-edge t a b)) × (t ≡ left t (with-edge t a b))
   unfolding added
   add-to h k = (sym (ap bare (to-over h k)), sym (ap (left t) (to-over h k)))
 
   pub add-done : a < terms → b < terms
-      → (added Added-is.Done ≡ bare (with-edge t a b))
+      → (added Verdict-is.Fine ≡ bare (with-edge t a b))
       × (set t a (set (getD t a []) (b / 64) (bitOr (getD (getD t a []) (b / 64) 0) ((1 * 2 ^ (b % 64)) % 2 ^ 64))) ≡ left t (with-edge t a b))
   unfolding added with-mark
   add-done h k = (sym (ap bare (both-within h k)), ap (set t a) (write-row (getD t a []) b) ∙ sym (ap (left t) (both-within h k)))
@@ -95,12 +103,12 @@ module _ (r : List ℕ) (a : ℕ) where
   unfolding with-term
   term-within h = within a _ h
 
-  pub flag-over : terms ≤ a → (added (Added-is.Refused (TermTooHigh a)) ≡ bare (with-term r a)) × (r ≡ left r (with-term r a))
+  pub flag-over : terms ≤ a → (added (Verdict-is.Refused (TermTooHigh a)) ≡ bare (with-term r a)) × (r ≡ left r (with-term r a))
   unfolding added
   flag-over h = (sym (ap bare (term-over h)), sym (ap (left r) (term-over h)))
 
   pub flag-done : a < terms
-      → (added Added-is.Done ≡ bare (with-term r a))
+      → (added Verdict-is.Fine ≡ bare (with-term r a))
       × (set r (a / 64) (bitOr (getD r (a / 64) 0) ((1 * 2 ^ (a % 64)) % 2 ^ 64)) ≡ left r (with-term r a))
   unfolding added
   flag-done h = (sym (ap bare (term-within h)), write-row r a ∙ sym (ap (left r) (term-within h)))

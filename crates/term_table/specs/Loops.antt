@@ -45,7 +45,11 @@ widen a j two = if in-row a j then two else a
 unfoldable pub pass : Square → ℕ → Square
 pass t k =
     if has-some (both-of (row t k) (row t (k + 1)))
-    then join-to terms t k (widen (row t k) (k + 1) (both-of (row t k) (row t (k + 1)))) (widen (row t (k + 1)) k (both-of (row t k) (row t (k + 1)))) (both-of (row t k) (row t (k + 1)))
+    then
+    join-to terms t k
+    (widen (row t k) (k + 1) (both-of (row t k) (row t (k + 1))))
+    (widen (row t (k + 1)) k (both-of (row t k) (row t (k + 1))))
+    (both-of (row t k) (row t (k + 1)))
     else t
 
 unfoldable pub reach-to : ℕ → Square → Square

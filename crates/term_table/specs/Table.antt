@@ -5,14 +5,14 @@ use mathlib.Core.Logic.{_↔_}
 use mathlib.Core.List.{List, [], _∷_, _++_, map}
 use Prim.Native.Nat.{ℕ, zero, suc, _+_, _-_, _/_, _%_, _^_, _<_, _≤_}
 use lib.ListN.{length, getD, set, replicate}
-use lib.Dec.{eqb, leb}
+use lib.Dec.{eqb, ltb, leb}
 use lib.Bits.{bitOr}
 use Rattle.paper.specs.Words.{keep, below, joined, Edges, Walk, returns}
 use Rattle.paper.specs.Numbers.{max-term, Outcome, done, refused, _>>=_, demand}
 use Rattle.paper.specs.declared.Refusal.{Refusal}
 use Rattle.paper.specs.declared.Refusal.the-variants.{TermTooHigh}
-use Rattle.term_table.specs.declared.Added.{Added}
-use Rattle.term_table.specs.declared.Added.the-variants as Added-is
+use Rattle.paper.specs.declared.Verdict.{Verdict}
+use Rattle.paper.specs.declared.Verdict.the-variants as Verdict-is
 use Rattle.term_table.specs.declared.Asked.{Asked}
 use Rattle.term_table.specs.declared.Asked.the-variants as Asked-is
 use Rattle.term_table.specs.declared.Listed.{Listed}
@@ -33,6 +33,10 @@ row t a = getD t a []
 -- mark b of a row is bit b % 64 of its word b / 64
 unfoldable pub in-row : List ℕ → ℕ → Bool
 in-row r b = eqb (getD r (b / 64) 0 / 2 ^ (b % 64) % 2) 1
+
+-- the same of any number: a term that is too high has no mark
+unfoldable pub has-term : List ℕ → ℕ → Bool
+has-term r t = ltb t terms && in-row r t
 
 unfoldable pub marked : Square → ℕ → ℕ → Bool
 marked t a b = in-row (row t a) b
@@ -104,9 +108,9 @@ unfoldable pub unflagged : Square → List ℕ → List ℕ
 unflagged t recs = keep (λ a. returns (edges-in t) a && not (in-row recs a)) numbers
 
 -- ---- what the answers mean, in paper's words (its `number` and `told` give 01's)
-unfoldable pub added : Added → Outcome (Unit {0})
-added Added-is.Done = done tt
-added (Added-is.Refused r) = refused r
+unfoldable pub added : Verdict → Outcome (Unit {0})
+added Verdict-is.Fine = done tt
+added (Verdict-is.Refused r) = refused r
 
 unfoldable pub asked : Asked → Outcome Bool
 asked (Asked-is.Answer b) = done b

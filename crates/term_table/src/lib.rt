@@ -3,20 +3,15 @@
 // A term table is `[[u64; WORDS]; TERMS]`: row a has a mark for each term that an edge from a runs to.
 use paper::Refusal;
 use paper::TERMS;
+use paper::Verdict;
 ghost use mathlib.Core.Path.{_≡_};
 ghost use mathlib.Core.Bool.{false};
 ghost use Prim.Native.Nat.{_+_, _<_};
-ghost use Rattle.term_table.specs.Table.{terms, in-row, marked, no-edges, with-edge, with-term, has-edge, is-cyclic, left, bare, Closure, cyclic-terms, unflagged, added, asked, listed};
+ghost use Rattle.term_table.specs.Table.{terms, in-row, has-term, marked, no-edges, with-edge, with-term, has-edge, is-cyclic, left, bare, Closure, cyclic-terms, unflagged, added, asked, listed};
 ghost use Rattle.term_table.specs.Loops.{both-of, has-some, Unmarked, join-at, join-by, join-to, widen, pass, on-diagonal, list-to};
 
 // The words of a row, 64 marks to a word.
 pub const WORDS: usize = TERMS / 64;
-
-// What a call that adds answers.
-pub enum Added {
-    Done,
-    Refused(Refusal),
-}
 
 // What a question answers.
 pub enum Asked {
@@ -46,6 +41,17 @@ fn in_row(r: &[u64; WORDS], j: usize) -> bool
     (w >> (j % 64)) & 1 == 1
 }
 
+// Whether a row has a term's mark; a term that is too high has none.
+pub fn has_term(r: &[u64; WORDS], term: u16) -> bool
+    ensures { λ b. ⌜ b ≡ has-term (now (r .entry)) term ⌝ }
+{
+    let t = term as usize;
+    if TERMS <= t {
+        return false;
+    }
+    in_row(r, t)
+}
+
 // Whether row i has the mark j.
 fn has(t: &[[u64; WORDS]; TERMS], i: usize, j: usize) -> bool
     requires { ⌜ (i < terms) × (j < terms) ⌝ }
@@ -56,37 +62,37 @@ fn has(t: &[[u64; WORDS]; TERMS], i: usize, j: usize) -> bool
 }
 
 // Adds the edge that runs from one term to another.
-pub fn add(t: &mut [[u64; WORDS]; TERMS], from: u16, to: u16) -> Added
+pub fn add(t: &mut [[u64; WORDS]; TERMS], from: u16, to: u16) -> Verdict
     ensures { λ r. ⌜ added r ≡ bare (with-edge (now (t .entry)) from to) ⌝ }
     ensures { λ r. ⌜ now (t .exit) ≡ left (now (t .entry)) (with-edge (now (t .entry)) from to) ⌝ }
 {
     let i = from as usize;
     let j = to as usize;
     if i >= TERMS {
-        return Added::Refused(Refusal::TermTooHigh { asked: from as u32 });
+        return Verdict::Refused(Refusal::TermTooHigh { asked: from as u32 });
     }
     if j >= TERMS {
-        return Added::Refused(Refusal::TermTooHigh { asked: to as u32 });
+        return Verdict::Refused(Refusal::TermTooHigh { asked: to as u32 });
     }
     let k = j / 64;
     let w = t[i][k];
     t[i][k] = w | (1 << (j % 64));
-    Added::Done
+    Verdict::Fine
 }
 
 // Marks a term in a row, as the terms that have rec.
-pub fn flag(r: &mut [u64; WORDS], term: u16) -> Added
+pub fn flag(r: &mut [u64; WORDS], term: u16) -> Verdict
     ensures { λ a. ⌜ added a ≡ bare (with-term (now (r .entry)) term) ⌝ }
     ensures { λ a. ⌜ now (r .exit) ≡ left (now (r .entry)) (with-term (now (r .entry)) term) ⌝ }
 {
     let j = term as usize;
     if j >= TERMS {
-        return Added::Refused(Refusal::TermTooHigh { asked: term as u32 });
+        return Verdict::Refused(Refusal::TermTooHigh { asked: term as u32 });
     }
     let k = j / 64;
     let w = r[k];
     r[k] = w | (1 << (j % 64));
-    Added::Done
+    Verdict::Fine
 }
 
 // Whether an edge runs from one term to another.

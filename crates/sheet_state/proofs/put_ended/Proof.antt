@@ -6,14 +6,14 @@ use Rattle.sheet_state.proofs.Reading.{ended-put}
 use Rattle.sheet_state.proofs.put_ended.Statement.{statement}
 use Rattle.sheet_state.proofs.put_ended.Tie as tie
 
-wide-requires : tie.Need-wide-requires
-wide-requires c κs = search needs
+word16-requires : tie.Need-word16-requires
+word16-requires c κs = search needs
 
 slice-write-state : tie.Need-slice-write-state
 slice-write-state c = search needs
 
-wide-requires-2 : tie.Need-wide-requires-2
-wide-requires-2 c κs = search needs
+word16-requires-2 : tie.Need-word16-requires-2
+word16-requires-2 c κs = search needs
 
 slice-write-state-2 : tie.Need-slice-write-state-2
 slice-write-state-2 c = simp length-set (omega (arith, c .before .before .before .before .before .pre))
@@ -70,15 +70,15 @@ same-length : tie.Need-same-length
 same-length c = simp length-set
 
 returns : tie.Need-returns
-returns c = ended-put _ _ _ _ (c .before .wide .ensures) (c .wide2 .ensures)
+returns c = ended-put _ _ _ _ (c .before .word16 .ensures) (c .word162 .ensures)
 
 pub put-ended-spec : {M : Type 1} → statement M
 put-ended-spec =
     tie.close
     (tie.spec
-    wide-requires
+    word16-requires
     slice-write-state
-    wide-requires-2
+    word16-requires-2
     slice-write-state-2
     array-read-state
     slice-write-state-3

@@ -6,8 +6,8 @@ use Rattle.sheet_state.proofs.Reading.{reader-put, sets-room, sets-leng
 use Rattle.sheet_state.proofs.put_reader.Statement.{statement}
 use Rattle.sheet_state.proofs.put_reader.Tie as tie
 
-wide32-requires : tie.Need-wide32-requires
-wide32-requires c κs = search needs
+word32-requires : tie.Need-word32-requires
+word32-requires c κs = search needs
 
 slice-write-state : tie.Need-slice-write-state
 slice-write-state c = search needs
@@ -16,19 +16,19 @@ put-stands-requires : tie.Need-put-stands-requires
 put-stands-requires c κs = search needs
 
 put-ended-requires : tie.Need-put-ended-requires
-put-ended-requires c κs = sets-room (now (c .before .before .before .before .before .before .before .before .args .state)) _ (c .before .before .before .before .before .wide32 .result) 1 22 (stands-words (c .before .before .before .before .before .before .before .before .args .r .stands)) (c .before .before .before .put-stands .ensures) (c .before .before .before .before .before .before .before .before .pre)
+put-ended-requires c κs = sets-room (now (c .before .before .before .before .before .before .before .before .args .state)) _ (c .before .before .before .before .before .word32 .result) 1 22 (stands-words (c .before .before .before .before .before .before .before .before .args .r .stands)) (c .before .before .before .put-stands .ensures) (c .before .before .before .before .before .before .before .before .pre)
 
 same-length : tie.Need-same-length
-same-length c = sets-length (now (c .before .before .before .before .before .before .before .before .before .before .before .args .state)) _ 0 (reader-words (c .before .before .before .before .before .before .before .before .before .before .before .args .r)) (reader-put (now (c .before .before .before .before .before .before .before .before .before .before .before .args .state)) _ _ _ (c .before .before .before .before .before .before .before .before .before .before .before .args .r) (c .before .before .before .before .before .before .before .before .wide32 .ensures) (c .before .before .before .before .before .before .put-stands .ensures) (c .before .before .put-ended .ensures))
+same-length c = sets-length (now (c .before .before .before .before .before .before .before .before .before .before .before .args .state)) _ 0 (reader-words (c .before .before .before .before .before .before .before .before .before .before .before .args .r)) (reader-put (now (c .before .before .before .before .before .before .before .before .before .before .before .args .state)) _ _ _ (c .before .before .before .before .before .before .before .before .before .before .before .args .r) (c .before .before .before .before .before .before .before .before .word32 .ensures) (c .before .before .before .before .before .before .put-stands .ensures) (c .before .before .put-ended .ensures))
 
 returns : tie.Need-returns
-returns c = reader-put _ _ _ _ _ (c .before .before .before .before .before .before .before .before .wide32 .ensures) (c .before .before .before .before .before .before .put-stands .ensures) (c .before .before .put-ended .ensures)
+returns c = reader-put _ _ _ _ _ (c .before .before .before .before .before .before .before .before .word32 .ensures) (c .before .before .before .before .before .before .put-stands .ensures) (c .before .before .put-ended .ensures)
 
 pub put-reader-spec : {M : Type 1} → statement M
 put-reader-spec =
     tie.close
     (tie.spec
-    wide32-requires
+    word32-requires
     slice-write-state
     put-stands-requires
     put-ended-requires

@@ -7,8 +7,8 @@ use Rattle.sheet_state.proofs.put_words.Tie as tie
 put-reader-requires : tie.Need-put-reader-requires
 put-reader-requires c κs = search needs
 
-wide64-requires : tie.Need-wide64-requires
-wide64-requires c κs = search needs
+word-of-size-requires : tie.Need-word-of-size-requires
+word-of-size-requires c κs = search needs
 
 slice-write-state : tie.Need-slice-write-state
 slice-write-state c = search needs
@@ -23,14 +23,14 @@ same-length : tie.Need-same-length
 same-length c = search needs
 
 returns : tie.Need-returns
-returns c = words-put _ _ _ _ (c .before .before .before .before .before .before .before .before .before .args .s) (c .before .before .before .before .put-reader .ensures) (c .before .wide64 .ensures) (c .bit .ensures)
+returns c = words-put _ _ _ _ (c .before .before .before .before .before .before .before .before .before .args .s) (c .before .before .before .before .put-reader .ensures) (c .before .word-of-size .ensures) (c .bit .ensures)
 
 pub put-words-spec : {M : Type 1} → statement M
 put-words-spec =
     tie.close
     (tie.spec
     put-reader-requires
-    wide64-requires
+    word-of-size-requires
     slice-write-state
     bit-requires
     slice-write-state-2

@@ -13,14 +13,14 @@ bytes-in-requires c κs = search needs
 word-requires : tie.Need-word-requires
 word-requires c κs = search needs
 
-index-requires : tie.Need-index-requires
-index-requires c κs = search needs
+size64-requires : tie.Need-size64-requires
+size64-requires c κs = search needs
 
 stopped-in-requires : tie.Need-stopped-in-requires
 stopped-in-requires c κs = search needs
 
 returns : tie.Need-returns
-returns c = state-is _ _ _ _ _ _ _ (c .before .before .before .before .reader-in .ensures) (c .before .before .before .bytes-in .ensures) (c .before .before .word .ensures) (c .before .index .ensures) (c .stopped-in .ensures)
+returns c = state-is _ _ _ _ _ _ _ (c .before .before .before .before .reader-in .ensures) (c .before .before .before .bytes-in .ensures) (c .before .before .word .ensures) (c .before .size64 .ensures) (c .stopped-in .ensures)
 
 pub state-in-spec : {M : Type 1} → statement M
 state-in-spec =
@@ -29,6 +29,6 @@ state-in-spec =
     reader-in-requires
     bytes-in-requires
     word-requires
-    index-requires
+    size64-requires
     stopped-in-requires
     returns)

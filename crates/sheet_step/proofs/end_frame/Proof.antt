@@ -8,54 +8,42 @@ use Rattle.sheet_step.proofs.end_frame.Lts as lts
 use Rattle.sheet_ended.proofs.add_edges.Reads as add-edges-reads
 use Rattle.sheet_ended.proofs.with_set.Reads as with-set-reads
 use Rattle.sheet_step.proofs.report_at.Reads as report-at-reads
-use Rattle.sheet_step.proofs.rule_set.Reads as rule-set-reads
-use Rattle.sheet_step.proofs.stop.Reads as stop-reads
+use Rattle.sheet_reader.proofs.rule_set.Reads as rule-set-reads
+use Rattle.sheet_reader.proofs.stop.Reads as stop-reads
 
--- src/lib.rt:432:26
 rule-set-requires : tie.Need-rule-set-requires
 rule-set-requires c κs = search needs
 
--- src/lib.rt:432:19
 enum-known-set : tie.Need-enum-known-set
 enum-known-set c = search needs
 
--- src/lib.rt:433:24
 enum-told : tie.Need-enum-told
 enum-told c = search needs
 
--- src/lib.rt:433:9
 stop-requires : tie.Need-stop-requires
 stop-requires c κs = search needs
 
--- src/lib.rt:433:9
 same-length : tie.Need-same-length
 same-length c = search needs
 
--- src/lib.rt:433:9
 returns : tie.Need-returns
-returns c = end-not (c .before .before .before .before .before .before .before .before .before .before .args .r) _ _ _ _ _ _ _ (c .before .before .before .before .before .before .rule-set .ensures) _ (c .before .before .before .before .enum-told .given .1) (c .before .before .stop .ensures)
+returns c = end-not (c .before .before .before .before .before .before .before .before .before .before .args .r) _ _ _ _ _ _ _ (c .before .before .before .before .before .before .rule-set .ensures) _ (c .before .before .before .before .enum-told .given .1) (c .before .before .stop .ensures (c .before .before .before .before .before .before .before .before .before .before .pre .0))
 
--- src/lib.rt:435:9
 report-at-requires : tie.Need-report-at-requires
 report-at-requires c κs = search needs
 
--- src/lib.rt:436:5
 add-edges-requires : tie.Need-add-edges-requires
 add-edges-requires c κs = search needs
 
--- src/lib.rt:438:9
 with-set-requires : tie.Need-with-set-requires
 with-set-requires c κs = search needs
 
--- src/lib.rt:441:19
 add-t21 : tie.Need-add-t21
 add-t21 c = search needs
 
--- src/lib.rt:419:1
 same-length-2 : tie.Need-same-length-2
 same-length-2 c = search needs
 
--- src/lib.rt:419:1
 returns-2 : tie.Need-returns-2
 returns-2 c = end-ended (c .before .before .before .before .before .before .before .before .before .before .before .before .before .before .before .args .r) _ _ _ _ _ _ _ (c .before .before .before .before .before .before .before .before .before .before .before .rule-set .ensures) _ _ _ _ _ (c .before .before .before .before .before .before .before .before .before .set .given .1) (c .before .before .before .before .before .before .before .before .before .before .before .before .before .before .before .pre .0) (c .before .before .before .before .before .before .report-at .ensures) (c .before .before .add-edges .ensures) (c .with-set .ensures) refl
 

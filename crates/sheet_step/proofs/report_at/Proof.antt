@@ -7,35 +7,27 @@ use Rattle.sheet_step.proofs.report_at.Lts as lts
 use Rattle.report.proofs.report.Reads as report-reads
 use Rattle.sheet_step.proofs.count_of.Reads as count-of-reads
 
--- src/lib.rt:414:40
 sub-report : tie.Need-sub-report
 sub-report c = search needs
 
--- src/lib.rt:414:40
 part-report-start : tie.Need-part-report-start
 part-report-start c = search needs
 
--- src/lib.rt:414:40
 part-report-end : tie.Need-part-report-end
 part-report-end c = search needs
 
--- src/lib.rt:414:9
 report-requires : tie.Need-report-requires
 report-requires c κs = search needs
 
--- src/lib.rt:415:10
 count-of-requires : tie.Need-count-of-requires
 count-of-requires c κs = search needs
 
--- src/lib.rt:415:5
 add-result : tie.Need-add-result
 add-result c = search needs
 
--- src/lib.rt:410:1
 same-length : tie.Need-same-length
 same-length c = search needs
 
--- src/lib.rt:410:1
 returns : tie.Need-returns
 returns c = report-says _ _ _ _ _ _ _ _ (c .before .before .before .before .before .before .before .pre) (c .before .before .before .report .ensures .0) (c .before .before .before .report .ensures .1) (c .count-of .ensures .0)
 

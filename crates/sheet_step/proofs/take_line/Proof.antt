@@ -12,7 +12,7 @@ same-length : tie.Need-same-length
 same-length c = search needs
 
 returns : tie.Need-returns
-returns c = step-late (c .before .before .before .before .before .before .before .before .before .before .args .r) _ _ _ _ _ _ (omega arith) (c .before .before .stop .ensures) (c .before .before .before .before .if1 .taken)
+returns c = step-late (c .before .before .before .before .before .before .before .before .before .before .args .r) _ _ _ _ _ _ (omega arith) (c .before .before .stop .ensures (c .before .before .before .before .before .before .before .before .before .before .pre)) (c .before .before .before .before .if1 .taken)
 
 read-line-requires : tie.Need-read-line-requires
 read-line-requires c κs = search needs
@@ -63,7 +63,7 @@ same-length-2 : tie.Need-same-length-2
 same-length-2 c = search needs
 
 returns-2 : tie.Need-returns-2
-returns-2 c = step-begin (c .before .before .before .before .before .before .before .before .before .before .before .before .before .before .before .args .r) _ _ _ _ [] _ _ _ _ _ (omega arith) (c .before .before .before .before .before .before .before .before .before .if1 .left) _ (c .before .before .before .before .before .before .before .before .read-line .ensures .0) _ _ (c .before .before .before .before .before .frame .given .1) (c .before .before .begin-frame .ensures)
+returns-2 c = step-begin (c .before .before .before .before .before .before .before .before .before .before .before .before .before .before .before .args .r) _ _ _ _ [] _ _ _ _ _ (omega arith) (c .before .before .before .before .before .before .before .before .before .if1 .left) _ (c .before .before .before .before .before .before .before .before .read-line .ensures .0) _ _ (c .before .before .before .before .before .frame .given .1) (c .before .before .begin-frame .ensures (c .before .before .before .before .before .before .before .before .before .before .before .before .before .before .before .pre, c .before .before .before .before .before .before .before .before .before .if1 .left))
 
 same-length-3 : tie.Need-same-length-3
 same-length-3 c = search needs
@@ -72,7 +72,7 @@ same-length-4 : tie.Need-same-length-4
 same-length-4 c = search needs
 
 returns-3 : tie.Need-returns-3
-returns-3 c = step-site (c .before .before .before .before .before .before .before .before .before .before .before .before .before .before .before .before .before .before .args .r) _ _ _ _ _ _ _ _ _ _ (omega arith) (c .before .before .before .before .before .before .before .before .before .before .before .before .if1 .left) _ (c .before .before .before .before .before .before .before .before .before .before .before .read-line .ensures .0) (prefix-fits _ _ (c .before .before .before .before .before .before .before .before .before .before .before .read-line .ensures)) (c .before .before .before .before .before .before .before .before .enum-told .given .1) (c .before .before .before .before .site-line .ensures)
+returns-3 c = step-site (c .before .before .before .before .before .before .before .before .before .before .before .before .before .before .before .before .before .before .args .r) _ _ _ _ _ _ _ _ _ _ (omega arith) (c .before .before .before .before .before .before .before .before .before .before .before .before .if1 .left) _ (c .before .before .before .before .before .before .before .before .before .before .before .read-line .ensures .0) (prefix-fits _ _ (c .before .before .before .before .before .before .before .before .before .before .before .read-line .ensures)) (c .before .before .before .before .before .before .before .before .enum-told .given .1) (c .before .before .before .before .site-line .ensures (c .before .before .before .before .before .before .before .before .before .before .before .before .before .before .before .before .before .before .pre, c .before .before .before .before .before .before .before .before .before .before .before .before .if1 .left))
 
 same-length-5 : tie.Need-same-length-5
 same-length-5 c = search needs
@@ -87,7 +87,7 @@ same-length-8 : tie.Need-same-length-8
 same-length-8 c = search needs
 
 returns-4 : tie.Need-returns-4
-returns-4 c = step-rule (c .before .before .before .before .before .before .before .before .before .before .before .before .before .before .before .before .before .before .before .before .before .before .args .r) _ _ _ _ _ _ _ _ _ _ (omega arith) (c .before .before .before .before .before .before .before .before .before .before .before .before .before .before .before .before .if1 .left) _ (c .before .before .before .before .before .before .before .before .before .before .before .before .before .before .before .read-line .ensures .0) _ _ _ _ (c .before .before .before .before .before .before .before .before .before .before .before .before .frame2 .given .1) (c .before .before .before .before .before .before .rule-frame .ensures)
+returns-4 c = step-rule (c .before .before .before .before .before .before .before .before .before .before .before .before .before .before .before .before .before .before .before .before .before .before .args .r) _ _ _ _ _ _ _ _ _ _ (omega arith) (c .before .before .before .before .before .before .before .before .before .before .before .before .before .before .before .before .if1 .left) _ (c .before .before .before .before .before .before .before .before .before .before .before .before .before .before .before .read-line .ensures .0) _ _ _ _ (c .before .before .before .before .before .before .before .before .before .before .before .before .frame2 .given .1) (c .before .before .before .before .before .before .rule-frame .ensures (c .before .before .before .before .before .before .before .before .before .before .before .before .before .before .before .before .before .before .before .before .before .before .pre, c .before .before .before .before .before .before .before .before .before .before .before .before .before .before .before .before .if1 .left))
 
 same-length-9 : tie.Need-same-length-9
 same-length-9 c = search needs
@@ -102,7 +102,7 @@ same-length-12 : tie.Need-same-length-12
 same-length-12 c = search needs
 
 returns-5 : tie.Need-returns-5
-returns-5 c = step-item (c .before .before .before .before .before .before .before .before .before .before .before .before .before .before .before .before .before .before .before .before .before .before .before .before .args .r) _ _ _ _ _ _ _ _ _ _ (omega arith) (c .before .before .before .before .before .before .before .before .before .before .before .before .before .before .before .before .before .before .if1 .left) _ (c .before .before .before .before .before .before .before .before .before .before .before .before .before .before .before .before .before .read-line .ensures .0) _ _ _ (c .before .before .before .before .before .before .before .before .before .before .before .before .before .before .frame3 .given .1) (c .before .before .before .before .before .before .before .before .item-frame .ensures)
+returns-5 c = step-item (c .before .before .before .before .before .before .before .before .before .before .before .before .before .before .before .before .before .before .before .before .before .before .before .before .args .r) _ _ _ _ _ _ _ _ _ _ (omega arith) (c .before .before .before .before .before .before .before .before .before .before .before .before .before .before .before .before .before .before .if1 .left) _ (c .before .before .before .before .before .before .before .before .before .before .before .before .before .before .before .before .before .read-line .ensures .0) _ _ _ (c .before .before .before .before .before .before .before .before .before .before .before .before .before .before .frame3 .given .1) (c .before .before .before .before .before .before .before .before .item-frame .ensures (c .before .before .before .before .before .before .before .before .before .before .before .before .before .before .before .before .before .before .before .before .before .before .before .before .pre, c .before .before .before .before .before .before .before .before .before .before .before .before .before .before .before .before .before .before .if1 .left))
 
 same-length-13 : tie.Need-same-length-13
 same-length-13 c = search needs
@@ -120,7 +120,7 @@ same-length-16 : tie.Need-same-length-16
 same-length-16 c = search needs
 
 returns-7 : tie.Need-returns-7
-returns-7 c = step-wrong (c .before .before .before .before .before .before .before .before .before .before .before .before .before .before .args .r) _ _ _ _ _ _ (omega arith) (c .before .before .stop2 .ensures) _ (c .before .before .before .before .before .before .before .read-line .ensures .0) (c .before .before .before .before .enum-told3 .given .1) (c .before .before .before .before .before .before .before .before .if1 .left)
+returns-7 c = step-wrong (c .before .before .before .before .before .before .before .before .before .before .before .before .before .before .args .r) _ _ _ _ _ _ (omega arith) (c .before .before .stop2 .ensures (c .before .before .before .before .before .before .before .before .before .before .before .before .before .before .pre)) _ (c .before .before .before .before .before .before .before .read-line .ensures .0) (c .before .before .before .before .enum-told3 .given .1) (c .before .before .before .before .before .before .before .before .if1 .left)
 
 pub take-line-spec : {M : Type 1} → statement M
 take-line-spec =

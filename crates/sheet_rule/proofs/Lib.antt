@@ -1,0 +1,4 @@
+pub mod Small
+pub mod Loaded
+pub mod Ruled
+pub mod Itemed

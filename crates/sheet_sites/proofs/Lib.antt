@@ -1,0 +1,4 @@
+pub mod Small
+pub mod Added
+pub mod Begun
+pub mod Sited
