@@ -24,8 +24,8 @@ use Rattle.paper.specs.declared.Rule.{Rule}
 use Rattle.paper.specs.Loading.{Set}
 use Rattle.rule_load.specs.declared.Loaded.{Loaded}
 use Rattle.rule_load.specs.Whole.{load-in, loaded-as, sites-after, words-after}
-use Rattle.term_table.specs.declared.Added.{Added as Edged}
-use Rattle.term_table.specs.declared.Added.the-variants as A
+use Rattle.paper.specs.declared.Verdict.{Verdict as Edged}
+use Rattle.paper.specs.declared.Verdict.the-variants as A
 use Rattle.term_table.specs.Table.{left, bare, added, no-marks, listed}
 use Rattle.box_answers.specs.declared.Said.{Said}
 use Rattle.box_answers.specs.Loads.{loaded-said}
@@ -163,8 +163,8 @@ unfolded-is (refused r) = refl
 
 pub added-is : {T : Type 0} (a : Edged) (o : Outcome T) → added a ≡ bare o → added-said a ≡ said-by (λ _. []) o
 unfolding added added-said said-by
-added-is A.Done (done x) e = refl
-added-is A.Done (refused r) e = let z : _≡_ {A = ℕ} 0 1 = cc in absurd (omega arith)
+added-is A.Fine (done x) e = refl
+added-is A.Fine (refused r) e = let z : _≡_ {A = ℕ} 0 1 = cc in absurd (omega arith)
 added-is (A.Refused q) (done x) e = let z : _≡_ {A = ℕ} 0 1 = cc in absurd (omega arith)
 added-is (A.Refused q) (refused r) e = let p : q ≡ r = cc in rw p
 

@@ -29,8 +29,8 @@ use Rattle.sites.specs.declared.Unfolded.{Unfolded}
 use Rattle.sites.specs.declared.Unfolded.the-variants as U
 use Rattle.report.specs.declared.Reported.{Reported}
 use Rattle.report.specs.Lines.{number-of, told-with}
-use Rattle.term_table.specs.declared.Added.{Added as Edged}
-use Rattle.term_table.specs.declared.Added.the-variants as A
+use Rattle.paper.specs.declared.Verdict.{Verdict as Edged}
+use Rattle.paper.specs.declared.Verdict.the-variants as A
 use Rattle.box_answers.specs.declared.Said.{Said}
 
 -- A number of the border alone, none of 01's: a lent slice is shorter than the call asks.
@@ -152,7 +152,7 @@ unfolded-said (U.Bytes n) = said 0 (n ∷ [])
 unfolded-said (U.Refused r) = refused-said r
 
 unfoldable pub added-said : Edged → Said
-added-said A.Done = said 0 []
+added-said A.Fine = said 0 []
 added-said (A.Refused r) = refused-said r
 
 unfoldable pub reported-said : Reported → Said

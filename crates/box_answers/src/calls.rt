@@ -19,7 +19,7 @@ use report::Reported;
 use rule_load::Loaded;
 use sites::Numbered;
 use sites::Unfolded;
-use term_table::Added;
+use paper::Verdict;
 use widths::word16;
 use widths::word32;
 
@@ -94,12 +94,12 @@ pub fn unfolded_said(u: Unfolded) -> Said
     }
 }
 
-pub fn added_said(a: Added) -> Said
+pub fn added_said(a: Verdict) -> Said
     ensures { λ s. ⌜ s ≡ added-said a ⌝ }
 {
     match a {
-        Added::Done => done(0, 0),
-        Added::Refused(r) => refused(r),
+        Verdict::Fine => done(0, 0),
+        Verdict::Refused(r) => refused(r),
     }
 }
 

@@ -20,7 +20,7 @@ use Rattle.sheet_ended.specs.Sets.{end-room, no-sets}
 use Rattle.sheet_lines.specs.Fed.{Reading, going, stopped, begun, fed, behind, fed-all, ended, max-held}
 use Rattle.sheet_lines.specs.Pieces.{as-lines, fed-append}
 use Rattle.sheet_lines.specs.Held.{no-line}
-use Rattle.sheet_step.specs.State.{Lent, lent, Roomy, step-room, sites-room, kept-room, items-room}
+use Rattle.sheet_reader.specs.State.{Lent, lent, Roomy, step-room, sites-room, kept-room, items-room}
 use Rattle.sheet_read.specs.declared.State.{State}
 use Rattle.sheet_read.specs.declared.Checked.{Checked}
 use Rattle.sheet_read.specs.declared.Checked.the-variants as checked

@@ -14,7 +14,7 @@ use Rattle.term_table.specs.Table.{Square}
 use Rattle.sheet_ended.specs.Sets.{end-room}
 use Rattle.sheet_lines.specs.Fed.{Reading, ended}
 use Rattle.sheet_lines.specs.Pieces.{as-lines}
-use Rattle.sheet_step.specs.State.{Lent, lent, step-room, sites-room, kept-room, items-room}
+use Rattle.sheet_reader.specs.State.{Lent, lent, step-room, sites-room, kept-room, items-room}
 use Rattle.sheet_state.specs.State.{state-in, state-put, held-put}
 use Rattle.sheet_read.specs.Whole.{Shows, Feeds}
 use Rattle.sheet_read.specs.declared.Checked.{Checked}

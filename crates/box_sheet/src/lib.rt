@@ -4,7 +4,7 @@ ghost use mathlib.Core.Path.{_≡_};
 ghost use Rattle.paper.specs.Words.{if_then_else_};
 ghost use Rattle.term_table.specs.Table.{no-edges};
 ghost use Rattle.sheet_ended.specs.Sets.{end-room};
-ghost use Rattle.sheet_step.specs.State.{lent, step-room};
+ghost use Rattle.sheet_reader.specs.State.{lent, step-room};
 ghost use Rattle.sheet_read.specs.Whole.{first-state};
 ghost use Rattle.box_answers.specs.Border.{both, after};
 ghost use Rattle.sheet_state.specs.State.{keeps, state-put, held-put};
@@ -25,7 +25,7 @@ use sheet_read::SITES_ROOM;
 use sheet_state::keeps;
 use sheet_state::put_state;
 use sheet_state::state_in;
-use sheet_step::STEP_ROOM;
+use sheet_reader::STEP_ROOM;
 use term_table::WORDS;
 use widths::word_of_size;
 

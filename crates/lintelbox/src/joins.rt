@@ -128,7 +128,7 @@ pub extern "C" fn lintel_remove_set_of(
     if answer.len() < ANSWER {
         return SHORT;
     }
-    let t = classes::remove_set_of_in(parents, count, site, members);
+    let t = class_removal::remove_set_of_in(parents, count, site, members);
     say(answer, taken_said(t))
 }
 

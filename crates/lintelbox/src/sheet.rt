@@ -3,7 +3,7 @@
 ghost use mathlib.Core.Path.{_≡_};
 ghost use Rattle.term_table.specs.Table.{no-edges};
 ghost use Rattle.sheet_ended.specs.Sets.{end-room};
-ghost use Rattle.sheet_step.specs.State.{lent, step-room};
+ghost use Rattle.sheet_reader.specs.State.{lent, step-room};
 ghost use Rattle.sheet_read.specs.Whole.{first-state};
 ghost use Rattle.box_answers.specs.Border.{both, after};
 ghost use Rattle.sheet_state.specs.State.{keeps, state-put, held-put};

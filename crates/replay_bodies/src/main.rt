@@ -53,17 +53,8 @@ fn refused(r: Refusal) {
     io::write_all(STDOUT_FILENO, b"refused 7");
 }
 
-fn upper(v: u8) -> u8
-    requires { ⌜ v < 16 ⌝ }
-{
-    if v < 10 {
-        return v + 48;
-    }
-    v + 55
-}
-
 fn show_byte(b: u8) {
-    let pair = [upper(b / 16), upper(b % 16)];
+    let pair = [sheet_digits::digit(b / 16), sheet_digits::digit(b % 16)];
     io::write_all(STDOUT_FILENO, &pair);
 }
 

@@ -20,7 +20,7 @@ use Rattle.rule_words.specs.Packing.{unpack, narrow, InRange}
 use Rattle.rule_words.specs.Stored.{constraint-at}
 use Rattle.rule_words.proofs.PackLaws.{narrow-same}
 use Rattle.rule_children.specs.Tail.{site-of-word, Spelt, site-there}
-use Rattle.rule_children.specs.WordLaws.{word-parent, word-orphan, spelt-as}
+use Rattle.rule_children.proofs.WordLaws.{word-parent, word-orphan, spelt-as}
 use Rattle.rule_rows.specs.Holding.{shape-in}
 use Rattle.rule_lists.specs.Entries.{entries, found-as}
 use Rattle.rule_lists.proofs.Placing.{look-none}

@@ -11,7 +11,7 @@ use lib.Dec.{eqb}
 use Rattle.paper.specs.Words.{Table, below, look, put}
 use Rattle.paper.proofs.Tables.{look-in}
 use Rattle.paper.proofs.Closure.{of-below, in-below}
-use Rattle.rule_children.specs.ScanLaws.{length-below}
+use Rattle.sites.specs.Slots.{length-below}
 use Rattle.rule_rows.specs.Holding.{shape-in}
 use Rattle.rule_lists.specs.Entries.{entries, Puts}
 use Rattle.rule_hanging.specs.Seen.{shown}

@@ -14,8 +14,8 @@ use Rattle.paper.proofs.Outcomes.{done-once, bind-done}
 use Rattle.paper.proofs.Laws.{number-front}
 use Rattle.paper.proofs.Adding.{Has, Numbered, nowhere, numbered, Placed, present, next, add-done, add-all-has}
 use Rattle.paper.proofs.Closure.{in-below}
-use Rattle.sites.specs.Slots.{children-as}
-use Rattle.sites.specs.declared.Given.the-variants as given
+use Rattle.rule_children.specs.Tail.{children-as}
+use Rattle.rule_children.specs.declared.Given.the-variants as given
 
 number-add : (t : Sites) (at : ℕ) (s : Site) (a : Added) → add t at s ≡ done a → (x : Site) (n : ℕ) → number-of t x ≡ some n → number-of (a .sites) x ≡ some n
 number-add t at s a e x n q = go (add-done t at s a e .how)

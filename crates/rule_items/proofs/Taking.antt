@@ -16,13 +16,14 @@ use Rattle.paper.specs.Numbers.{max-sites, max-fields, max-items, done, refused
 use Rattle.paper.specs.Sites.{Sites, child, child-count, children, child-number, number-of, known, add-all}
 use Rattle.paper.specs.Loading.{Loading, constrain}
 use Rattle.rule_words.specs.Packing.{InRange, head, second, third}
-use Rattle.sites.specs.Slots.{children-as}
-use Rattle.sites.specs.declared.Children.{Children}
-use Rattle.sites.specs.declared.Given.the-variants as given
+use Rattle.rule_children.specs.Tail.{children-as}
+use Rattle.rule_children.specs.declared.Children.{Children}
+use Rattle.rule_children.specs.declared.Given.the-variants as given
 use Rattle.rule_children.specs.Tail.{table, grown, holds}
-use Rattle.rule_children.specs.ScanLaws.{table-length, length-below, number-inside}
-use Rattle.rule_children.specs.AnswerLaws.{grown-adds}
-use Rattle.rule_children.specs.GrowLaws.{all-length}
+use Rattle.rule_children.proofs.ScanLaws.{table-length, number-inside}
+use Rattle.sites.specs.Slots.{length-below}
+use Rattle.rule_children.proofs.AnswerLaws.{grown-adds}
+use Rattle.rule_children.proofs.GrowLaws.{all-length}
 use Rattle.rule_rows.specs.Holding.{shape-in, kid-in, eqs-in, Inside}
 use Rattle.rule_rows.proofs.Agreeing.{getD-below}
 use Rattle.rule_lists.specs.Entries.{Puts}

@@ -25,7 +25,7 @@ use Rattle.rule_items.specs.declared.Progress.{Progress}
 use Rattle.rule_hanging.proofs.Names.{found-nothing, found-there}
 use Rattle.paper.specs.Sites.{argument, site-at}
 use Rattle.rule_children.specs.Tail.{site-there}
-use Rattle.rule_children.specs.ScanLaws.{table-is}
+use Rattle.rule_children.proofs.ScanLaws.{table-is}
 use Rattle.rule_rows.proofs.Agreeing.{getD-below}
 use Rattle.rule_items.proofs.Taking.{way-size}
 use Rattle.item_words.specs.Items.{items-in as held-items}

@@ -26,7 +26,7 @@ use paper::SITES;
 use paper::Verdict;
 use rule_words::Packed;
 use rule_words::word;
-use sites::Given;
+use rule_children::Given;
 use widths::size16;
 
 // How the rule fares; how many words the tail has, how many sites are constrained, how many numbers the equalities have.

@@ -22,17 +22,15 @@ use Rattle.paper.proofs.Tables.{Rising}
 use Rattle.sites.specs.Slots.{sites-in}
 use Rattle.sites.proofs.Places.{sites-length}
 use Rattle.rule_children.specs.Tail.{table}
-use Rattle.rule_check.specs.declared.Verdict.{Verdict}
-use Rattle.rule_check.specs.declared.Verdict.the-variants as verdict
-use Rattle.rule_check.specs.Holding.{Held, held, shape-in, kid-count, kid-in, holder-in, holders-to, holders-in, eqs-in, class-check, stray, checked, verdict-of}
-use Rattle.rule_check.specs.Growing.{Inside}
-use Rattle.rule_check.proofs.Agreeing.{class-lines}
+use Rattle.paper.specs.declared.Verdict.{Verdict}
+use Rattle.paper.specs.declared.Verdict.the-variants as verdict
+use Rattle.rule_rows.specs.Holding.{Held, held, shape-in, kid-count, kid-in, holder-in, holders-to, holders-in, eqs-in, class-check, stray, checked, verdict-of, Inside}
+use Rattle.rule_rows.proofs.Agreeing.{class-lines}
 use Rattle.item_words.specs.Items.{items-in as held-items}
 use Rattle.item_words.proofs.Laws.{items-length}
-use Rattle.rule_lists.specs.declared.Answer.{Answer}
-use Rattle.rule_lists.specs.declared.Answer.the-variants as answer
 use Rattle.rule_items.specs.declared.Progress.{Progress}
-use Rattle.rule_items.specs.Shown.{shown, Row, Shown, roomy, items-in, Told}
+use Rattle.rule_hanging.specs.Seen.{shown}
+use Rattle.rule_items.specs.Shown.{Row, Shown, roomy, items-in, Told}
 use Rattle.rule_rounds.specs.declared.Solved.{Solved}
 use Rattle.rule_rounds.specs.Rounding.{GoodRow, Proper, Listed, Rounds, solved}
 use Rattle.rule_load.specs.Parts.{worked, Lent, Left, SameTo}
@@ -147,7 +145,7 @@ module _ (m : List ℕ) (n : ℕ) (tail : List ℕ) (t : ℕ) (sites rows words 
   solved-is at = rw (S .sites-are, S .constraints-are, S .equalities-are)
 
 -- ---- the answers
-never-both : (a : Answer) (e : Refusal) → a ≡ answer.Fine → a ≡ answer.Refused e → ⊥
+never-both : (a : Verdict) (e : Refusal) → a ≡ verdict.Fine → a ≡ verdict.Refused e → ⊥
 never-both a e p q = let z : _≡_ {A = ℕ} 0 1 = cc in omega arith
 
 -- the equal sites in lists that begin alike
@@ -165,16 +163,16 @@ pub rounds-by : (m : List ℕ) (n : ℕ) (tail sites rows words equal low : List
 rounds-by m n tail sites rows words equal low x o p e h = rw e h
 
 module _ (m : List ℕ) (n : ℕ) (tail sites rows words kids eqs : List ℕ) (x : Progress) where
-  told-done : (o : Outcome Loading) → Told m n tail sites rows words kids eqs x o → x .answer ≡ answer.Fine → (l : Loading) × (o ≡ done l) × Shown m n tail (x .tail) sites rows words kids (x .held) eqs (x .equal) l
+  told-done : (o : Outcome Loading) → Told m n tail sites rows words kids eqs x o → x .answer ≡ verdict.Fine → (l : Loading) × (o ≡ done l) × Shown m n tail (x .tail) sites rows words kids (x .held) eqs (x .equal) l
   told-done (done l) T f = (l, refl, T .1)
   told-done (refused e) T f = absurd (never-both (x .answer) e f T)
 
-  told-refused : (o : Outcome Loading) (e : Refusal) → Told m n tail sites rows words kids eqs x o → x .answer ≡ answer.Refused e → o ≡ refused e
+  told-refused : (o : Outcome Loading) (e : Refusal) → Told m n tail sites rows words kids eqs x o → x .answer ≡ verdict.Refused e → o ≡ refused e
   told-refused (done l) e T f = absurd (never-both (x .answer) e (T .0) f)
   told-refused (refused d) e T f = let z : d ≡ e = cc in ap refused z
 
   -- the items refuse the rule
-  pub items-refuse : (count : ℕ) (is : List Item) (room : Bool) (e : Refusal) (a : Answer) → room ≡ true → Told m n tail sites rows words kids eqs x (items-in room m n count is) → x .answer ≡ a → a ≡ answer.Refused e → worked m n count is ≡ refused e
+  pub items-refuse : (count : ℕ) (is : List Item) (room : Bool) (e : Refusal) (a : Verdict) → room ≡ true → Told m n tail sites rows words kids eqs x (items-in room m n count is) → x .answer ≡ a → a ≡ verdict.Refused e → worked m n count is ≡ refused e
   unfolding worked
   items-refuse count is room e a q T f g =
       let t : items-in true m n count is ≡ refused e = ap (λ b. items-in b m n count is) (sym q) ∙ told-refused (items-in room m n count is) e T (f ∙ g) in
@@ -229,7 +227,7 @@ module _ (m : List ℕ) (n : ℕ) (tail sites rows words kids eqs : List ℕ) (x
         go (done u) (done w) h = let z : _≡_ {A = ℕ} 0 1 = cc in absurd (omega arith)
 
     -- or passes it on to the rounds
-    pub left-solved : (v : Verdict) → verdict-of v ≡ checked (take (x .equal) eqs) (held (take (x .held) sites) (take (x .held) rows) words kids) → v ≡ verdict.Passes → worked m n count is ≡ solved m n tail (x .tail) count sites rows words (x .held) (take (x .equal) eqs)
+    pub left-solved : (v : Verdict) → verdict-of v ≡ checked (take (x .equal) eqs) (held (take (x .held) sites) (take (x .held) rows) words kids) → v ≡ verdict.Fine → worked m n count is ≡ solved m n tail (x .tail) count sites rows words (x .held) (take (x .equal) eqs)
     unfolding worked
     left-solved v p q =
         rw (found .1) (go (check-4 (closure (found .0)) (holders (found .0)) (conflict (closure (found .0)) (holders (found .0)))) (no-endless (endless (steps (closure (found .0)) (holders (found .0))))) (sym checked-so ∙ sym p ∙ ap verdict-of q))
@@ -254,7 +252,7 @@ zeros-inside zero k = omega arith
 zeros-inside (suc n) zero = omega arith
 zeros-inside (suc n) (suc k) = zeros-inside n k
 
-pub left-so : (m : List ℕ) (n : ℕ) (tail sites rows words kids eqs equal low : List ℕ) (x : Progress) (count : ℕ) (ws : List ℕ) (room : Bool) → room ≡ true → Told m n tail sites rows words kids eqs x (items-in room m n count (held-items ws (min count max-items))) → x .answer ≡ answer.Fine → Inside kids
+pub left-so : (m : List ℕ) (n : ℕ) (tail sites rows words kids eqs equal low : List ℕ) (x : Progress) (count : ℕ) (ws : List ℕ) (room : Bool) → room ≡ true → Told m n tail sites rows words kids eqs x (items-in room m n count (held-items ws (min count max-items))) → x .answer ≡ verdict.Fine → Inside kids
     → (tail₀ sites₀ rows₀ : List ℕ) → Lent tail₀ sites₀ rows₀ → length tail ≡ length tail₀ → length sites ≡ length sites₀ → length rows ≡ length rows₀
     → max-equal ≤ length equal → max-equal ≤ length low → Left m n tail sites rows words kids eqs equal low x count (held-items ws (min count max-items))
 left-so m n tail sites rows words kids eqs equal low x count ws room q T f k tail₀ sites₀ rows₀ L et es er d e =

@@ -10,7 +10,7 @@ use borrow.Author.Tests.{lt-ltb, le-ltb, le-leb, lt-leb}
 use Rattle.paper.specs.declared.Refusal.the-variants.{TooManySites, TooManyRules, TooManyItems, TooManyConstrained, TooManyEqual, PlaceUsed}
 use Rattle.paper.specs.Numbers.{Outcome, done, refused, _>>=_, demand}
 use Rattle.rule_words.specs.Stored.{base, stride}
-use Rattle.rule_lists.specs.declared.Answer.the-variants.{Fine, Refused}
+use Rattle.paper.specs.declared.Verdict.the-variants.{Fine, Refused}
 use Rattle.rule_load.specs.Parts.{answer-as, has-place, admitted, settled}
 
 module _ (n : ℕ) (ws : List ℕ) (k place count : ℕ) where

@@ -25,9 +25,9 @@ use Rattle.rule_words.specs.Stored as stored
 use Rattle.sites.specs.Slots.{slot, no-site, sites-in, store}
 use Rattle.sites.proofs.Places.{sites-length}
 use Rattle.rule_children.specs.Tail.{site-of-word, table}
-use Rattle.rule_lists.specs.declared.Answer.{Answer}
-use Rattle.rule_lists.specs.declared.Answer.the-variants as answer
-use Rattle.rule_items.specs.Shown.{shown}
+use Rattle.paper.specs.declared.Verdict.{Verdict}
+use Rattle.paper.specs.declared.Verdict.the-variants as verdict
+use Rattle.rule_hanging.specs.Seen.{shown}
 use Rattle.rule_rounds.specs.declared.Solved.{Solved}
 use Rattle.rule_rounds.specs.declared.Ended.{Ended}
 use Rattle.rule_rounds.specs.declared.Ended.the-variants as end
@@ -42,11 +42,11 @@ use Rattle.rule_load.proofs.Widening.{NewSite, Widens, Turned, classes-
 use Rattle.rule_load.proofs.Parting.{first-length, ended, by-parts, parts, after-rounds}
 use Rattle.rule_load.proofs.Laying.{table-long, table-new, shown-long, laid-sites, laid-words, laid-equal, laid-low}
 
-fine-done : {A : Type 0} (o : Outcome A) → answer-as o ≡ answer.Fine → (a : A) × (o ≡ done a)
+fine-done : {A : Type 0} (o : Outcome A) → answer-as o ≡ verdict.Fine → (a : A) × (o ≡ done a)
 fine-done (done a) e = (a, refl)
 fine-done (refused r) e = let z : _≡_ {A = ℕ} 0 1 = cc in absurd (omega arith)
 
-refused-so : {A : Type 0} (o : Outcome A) (r : Refusal) → answer-as o ≡ answer.Refused r → o ≡ refused r
+refused-so : {A : Type 0} (o : Outcome A) (r : Refusal) → answer-as o ≡ verdict.Refused r → o ≡ refused r
 refused-so (done a) r e = let z : _≡_ {A = ℕ} 0 1 = cc in absurd (omega arith)
 refused-so (refused d) r e = let z : d ≡ r = cc in ap refused z
 
@@ -81,16 +81,16 @@ new-words m n tail t u e W i l =
 -- ---- the checks of the result, and what is written
 
 module _ (m : List ℕ) (n : ℕ) (ws : List ℕ) (k place priority count : ℕ) (tail sites rows words equal low : List ℕ) (x : Solved) (F : Finishable n tail sites rows words equal low x) (total : ℕ) (e : total ≡ n + x .tail)
-    (b : Answer) (g : b ≡ answer-as (settled total (x .held) (x .equal) (length m) count)) where
+    (b : Verdict) (g : b ≡ answer-as (settled total (x .held) (x .equal) (length m) count)) where
   abbrev Ends-as : Loaded → List ℕ → List ℕ → Type 0
   Ends-as out m′ ws′ = Finishes m n ws k place priority tail sites rows words equal low x out m′ ws′ (settled (n + x .tail) (x .held) (x .equal) (length m) count)
 
-  pub finish-refuses : (d : Refusal) → b ≡ answer.Refused d → Ends-as (loaded.Refused d) m ws
+  pub finish-refuses : (d : Refusal) → b ≡ verdict.Refused d → Ends-as (loaded.Refused d) m ws
   finish-refuses d h =
       let z : settled (n + x .tail) (x .held) (x .equal) (length m) count ≡ refused d = ap (λ i. settled i (x .held) (x .equal) (length m) count) (sym e) ∙ refused-so (settled total (x .held) (x .equal) (length m) count) d (sym g ∙ h) in
       rw z (refl, (refl, refl))
 
-  module _ (h : b ≡ answer.Fine) where
+  module _ (h : b ≡ verdict.Fine) where
     settles : settled total (x .held) (x .equal) (length m) count ≡ done tt
     settles = fine-done (settled total (x .held) (x .equal) (length m) count) (sym g ∙ h) .1
 
@@ -145,7 +145,7 @@ module _ (m : List ℕ) (n : ℕ) (ws : List ℕ) (k : ℕ) (r : Rule) (w : Writ
   refuses e q = rw q (refl, (refl, refl))
 
   -- ---- before the items
-  pub first-refuses : (a : Answer) (e : Refusal) → a ≡ answer-as (admitted n ws k (w .place) (w .count)) → a ≡ answer.Refused e → Answers m n ws k r (loaded.Refused e) m ws
+  pub first-refuses : (a : Verdict) (e : Refusal) → a ≡ answer-as (admitted n ws k (w .place) (w .count)) → a ≡ verdict.Refused e → Answers m n ws k r (loaded.Refused e) m ws
   first-refuses a e p q =
       let z = refused-so (admitted n ws k (w .place) (w .count)) e (sym p ∙ q) in
       refuses e (goes ∙ ap (λ o. o >>= λ _. (worked m n (w .count) (w .items) >>= ended m n ws k w)) z)
@@ -267,7 +267,7 @@ lent-all = let a = length-replicate {A = ℕ} 1024 0 in record { long-tail = ome
 pub never-scant : Scant (replicate 1024 0) (replicate 1024 0) → ⊥
 never-scant s = let a = length-replicate {A = ℕ} 1024 0 in ⊎-elim (λ (h : length {A = ℕ} (replicate 1024 0) < max-sites). omega arith) (λ (h : length {A = ℕ} (replicate 1024 0) < max-sites). omega arith) s
 
-pub admits-so : (n : ℕ) (ws : List ℕ) (k place count : ℕ) (a : Answer) → a ≡ answer-as (admitted n ws k place count) → a ≡ answer.Fine → admitted n ws k place count ≡ done tt
+pub admits-so : (n : ℕ) (ws : List ℕ) (k place count : ℕ) (a : Verdict) → a ≡ answer-as (admitted n ws k place count) → a ≡ verdict.Fine → admitted n ws k place count ≡ done tt
 admits-so n ws k place count a p q = fine-done (admitted n ws k place count) (sym p ∙ q) .1
 
 -- ---- for the proofs of the code

@@ -15,10 +15,10 @@ use Rattle.rule_words.proofs.PackLaws.{pack-unpack}
 use Rattle.sites.specs.Slots.{sites-in}
 use Rattle.sites.proofs.Places.{sites-length}
 use Rattle.rule_children.specs.Tail.{site-of-word, table}
-use Rattle.rule_check.specs.Holding.{shape-in}
-use Rattle.rule_check.proofs.Turning.{length-below}
-use Rattle.rule_check.proofs.Agreeing.{below-is}
-use Rattle.rule_items.specs.Shown.{shown}
+use Rattle.rule_rows.specs.Holding.{shape-in}
+use Rattle.rule_rows.proofs.Holders.{length-below}
+use Rattle.rule_rows.proofs.Agreeing.{below-is}
+use Rattle.rule_hanging.specs.Seen.{shown}
 use Rattle.rule_rounds.specs.Rounding.{Listed}
 use Rattle.rule_load.specs.Parts.{new-sites, gathered}
 use Rattle.rule_load.specs.Whole.{three}

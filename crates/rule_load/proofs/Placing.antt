@@ -14,7 +14,7 @@ use Rattle.paper.specs.Sites.{Site, parent, body, body-by}
 use Rattle.sites.specs.Slots.{slot, no-site, put, store}
 use Rattle.sites.proofs.Put.{length-put, put-put}
 use Rattle.rule_children.specs.Tail.{site-of-word}
-use Rattle.rule_check.proofs.Turning.{length-below}
+use Rattle.rule_rows.proofs.Holders.{length-below}
 use Rattle.rule_load.specs.Parts.{ChildWord, new-sites}
 
 -- ---- stores one after the other

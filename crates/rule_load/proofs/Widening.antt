@@ -23,7 +23,7 @@ use Rattle.paper.proofs.Outcomes.{done-once, bind-done, demand-done}
 use Rattle.paper.proofs.Adding.{get-inside, Numbered, here, nowhere, numbered}
 use Rattle.paper.proofs.Closure.{of-below}
 use Rattle.paper.proofs.Tables.{Rising, put-rising, above, in-look, Fine, none-fine, join-all-fine, dissolve-fine}
-use Rattle.sites.specs.Kinds.{laid}
+use Rattle.site_body.proofs.Tables.{laid}
 use Rattle.sites.specs.Slots.{slot, no-site}
 use Rattle.sites.proofs.After.{Storable, All-storable, Grows}
 use Rattle.rule_items.proofs.Numbering.{length-all}

@@ -15,9 +15,9 @@ use Rattle.paper.specs.Loading.{Kept, Solving, closure, holders, conflict, chec
 use Rattle.rule_words.specs.Stored.{base, stride, kept-first, written}
 use Rattle.sites.specs.Slots.{slot, no-site, store}
 use Rattle.rule_children.specs.Tail.{site-of-word}
-use Rattle.rule_check.specs.Growing.{Inside}
-use Rattle.rule_lists.specs.declared.Answer.{Answer}
-use Rattle.rule_lists.specs.declared.Answer.the-variants as answer
+use Rattle.rule_rows.specs.Holding.{Inside}
+use Rattle.paper.specs.declared.Verdict.{Verdict}
+use Rattle.paper.specs.declared.Verdict.the-variants as verdict
 use Rattle.rule_items.specs.declared.Progress.{Progress}
 use Rattle.rule_items.specs.Shown.{items-in, Told}
 use Rattle.rule_rounds.specs.declared.Solved.{Solved}
@@ -28,9 +28,9 @@ use Rattle.rule_load.specs.declared.Tried.the-variants as tried
 use Rattle.rule_rounds.specs.Rounding.{Scant}
 use Rattle.rule_load.specs.Whole.{load-in, loaded-as, sites-after, words-after}
 
-abbrev pub answer-as : {A : Type 0} → Outcome A → Answer
-answer-as (done a) = answer.Fine
-answer-as (refused e) = answer.Refused e
+abbrev pub answer-as : {A : Type 0} → Outcome A → Verdict
+answer-as (done a) = verdict.Fine
+answer-as (refused e) = verdict.Refused e
 
 -- a kept rule has the place
 unfoldable pub has-place : List ℕ → ℕ → ℕ → Bool
@@ -84,7 +84,7 @@ gathered rows shapes k = below k (λ i. getD shapes (3 * getD rows (i / 3) 0 + i
 pub record Left (m : List ℕ) (n : ℕ) (tail sites rows words kids eqs equal low : List ℕ) (x : Progress) (count : ℕ) (items : List Item) : Type 0 where
   pub told : Told m n tail sites rows words kids eqs x (items-in Bool.true m n count items)
   pub few : length items ≤ count
-  pub fine : x .answer ≡ answer.Fine
+  pub fine : x .answer ≡ verdict.Fine
   pub inside : Inside kids
   pub long-tail : 8 * max-items ≤ length tail
   pub long-sites : max-items ≤ length sites

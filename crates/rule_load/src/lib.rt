@@ -24,9 +24,8 @@ use paper::RULES;
 use paper::Refusal;
 use paper::Rule;
 use paper::SITES;
-use rule_check::Verdict;
+use paper::Verdict;
 use rule_items::Progress;
-use rule_lists::Answer;
 use rule_rounds::Ended;
 use rule_rounds::Rounded;
 use rule_rounds::Solved;
@@ -80,32 +79,32 @@ fn used(words: &[u64], kept: u32, place: u32) -> bool
 }
 
 // The checks before the items: 7 for the rule count, then for the item count; 8.
-fn admit(n: u16, words: &[u64], kept: u32, place: u32, count: u8) -> Answer
+fn admit(n: u16, words: &[u64], kept: u32, place: u32, count: u8) -> Verdict
     ensures { λ r. ⌜ r ≡ answer-as (admitted n (now (words .entry)) kept place count) ⌝ }
 {
     if RULES <= kept as usize {
-        return Answer::Refused(Refusal::TooManyRules {
+        return Verdict::Refused(Refusal::TooManyRules {
             asked: RULES as u32 + 1,
         });
     }
     if words.len() < rule_words::start(kept) + rule_words::STRIDE {
-        return Answer::Refused(Refusal::TooManyRules { asked: kept + 1 });
+        return Verdict::Refused(Refusal::TooManyRules { asked: kept + 1 });
     }
     if SITES < size16(n) {
-        return Answer::Refused(Refusal::TooManySites {
+        return Verdict::Refused(Refusal::TooManySites {
             asked: n as u32,
             at: count as u32,
         });
     }
     if ITEMS < count as usize {
-        return Answer::Refused(Refusal::TooManyItems {
+        return Verdict::Refused(Refusal::TooManyItems {
             asked: count as u32,
         });
     }
     if used(words, kept, place) {
-        return Answer::Refused(Refusal::PlaceUsed { place });
+        return Verdict::Refused(Refusal::PlaceUsed { place });
     }
-    Answer::Fine
+    Verdict::Fine
 }
 
 fn refuse(why: Refusal) -> Solved
@@ -273,7 +272,7 @@ fn solve(
         count,
     );
     let answer = a.answer;
-    if let Answer::Refused(why) = answer {
+    if let Verdict::Refused(why) = answer {
         return refuse(why);
     }
     normalise(
@@ -295,25 +294,25 @@ fn solve(
 }
 
 // The checks of the result: 7 if it passes a number, then if the lent bytes can't hold its table.
-fn settle(total: usize, held: usize, equal: usize, room: usize, count: u8) -> Answer
+fn settle(total: usize, held: usize, equal: usize, room: usize, count: u8) -> Verdict
     requires { ⌜ (total ≤ max-sites) × (held < 4294967296) × (equal < 4294967296) ⌝ }
     ensures { λ r. ⌜ r ≡ answer-as (settled total held equal room count) ⌝ }
 {
     if CONSTRAINED < held {
-        return Answer::Refused(Refusal::TooManyConstrained { asked: held as u32 });
+        return Verdict::Refused(Refusal::TooManyConstrained { asked: held as u32 });
     }
     if EQUALS < equal {
-        return Answer::Refused(Refusal::TooManyEqual {
+        return Verdict::Refused(Refusal::TooManyEqual {
             asked: equal as u32,
         });
     }
     if room < total * SLOT {
-        return Answer::Refused(Refusal::TooManySites {
+        return Verdict::Refused(Refusal::TooManySites {
             asked: total as u32,
             at: count as u32,
         });
     }
-    Answer::Fine
+    Verdict::Fine
 }
 
 // The words of the constraints, three a site, in the order of the sites.
@@ -446,7 +445,7 @@ fn finish(
     let total = size16(n) + size16(s.tail);
     let room = m.len();
     let last = settle(total, s.held, s.equal, room, count);
-    if let Answer::Refused(why) = last {
+    if let Verdict::Refused(why) = last {
         return Loaded::Refused(why);
     }
     keep(
@@ -592,7 +591,7 @@ pub fn load_handed(
         (load-in (now (m .entry)) n (now (words .entry)) kept (rule-in (now (items .entry)) place priority count)) ⌝ }
 {
     let first = admit(n, words, kept, place, count);
-    if let Answer::Refused(why) = first {
+    if let Verdict::Refused(why) = first {
         return Loaded::Refused(why);
     }
     let mut tail = [0u64; FEW_CHILDREN];

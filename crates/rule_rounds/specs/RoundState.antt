@@ -14,10 +14,10 @@ use Rattle.paper.specs.Loading.{Constraints, Labels, Solving, lowest, join-all,
 use Rattle.classes.specs.Answers.{rep}
 use Rattle.classes.specs.Well.{has-up}
 use Rattle.rule_children.specs.Tail.{table}
-use Rattle.rule_check.specs.Holding.{shape-in}
+use Rattle.rule_rows.specs.Holding.{shape-in}
 use Rattle.rule_lists.specs.Entries.{entries}
 use Rattle.rule_lists.specs.Among.{Among, Climbs}
-use Rattle.rule_items.specs.Shown.{shown}
+use Rattle.rule_hanging.specs.Seen.{shown}
 use Rattle.class_labels.specs.Tied.{Tied}
 use Rattle.class_labels.specs.Rows.{row}
 use Rattle.class_labels.specs.Taking.{LabelsBelow}

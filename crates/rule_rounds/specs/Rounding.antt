@@ -13,8 +13,8 @@ use Rattle.paper.proofs.Tables.{Rising}
 use Rattle.paper.specs.Loading.{Solving, Labels, join-all, rounds}
 use Rattle.rule_words.specs.Packing.{InRange}
 use Rattle.rule_children.specs.Tail.{table}
-use Rattle.rule_check.specs.Holding.{shape-in, eqs-in}
-use Rattle.rule_items.specs.Shown.{shown}
+use Rattle.rule_rows.specs.Holding.{shape-in, eqs-in}
+use Rattle.rule_hanging.specs.Seen.{shown}
 use Rattle.rule_rounds.specs.declared.Solved.{Solved}
 use Rattle.rule_rounds.specs.declared.Start.{Start}
 use Rattle.rule_rounds.specs.declared.Rounded.{Rounded}

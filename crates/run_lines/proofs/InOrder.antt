@@ -15,10 +15,10 @@ use Rattle.paper.specs.Numbers.{Outcome}
 use Rattle.paper.specs.Sheets as paper
 use Rattle.sheet_findings.specs.Written.{written-at}
 use Rattle.sheet_lines.specs.Cut.{part-of, first-there}
-use Rattle.sheet_step.specs.State.{Lent, Tells, stands-in, reader-of, step-room}
-use Rattle.sheet_step.specs.Answers.{Answers, Goes, Steps, line-event, told, text-of}
-use Rattle.sheet_step.specs.declared.Reader.{Reader}
-use Rattle.sheet_step.specs.declared.Event.{Event}
+use Rattle.sheet_reader.specs.State.{Lent, Tells, stands-in, reader-of, step-room}
+use Rattle.sheet_reader.specs.Answers.{Answers, Goes, Steps, line-event, told, text-of}
+use Rattle.sheet_reader.specs.declared.Reader.{Reader}
+use Rattle.sheet_reader.specs.declared.Event.{Event}
 use Rattle.tell_text.specs.Written.{Room, wrote}
 use Rattle.run_answers.specs.declared.How.{How}
 use Rattle.run_answers.specs.declared.How.the-variants as how

@@ -11,7 +11,7 @@ use Rattle.sheet_lines.specs.declared.Cut.{Cut}
 use Rattle.sheet_lines.specs.Held.{no-line, held-more}
 use Rattle.sheet_lines.specs.Cut.{part-of, Fits, line-from, line-with, cut-at, drop-all, Left-of, open-left, line-split, cut-open, cut-ended, line-cut}
 use Rattle.term_table.specs.Table.{Square, no-edges}
-use Rattle.sheet_step.specs.State.{Lent, lent}
+use Rattle.sheet_reader.specs.State.{Lent, lent}
 use Rattle.run_answers.specs.declared.How.{How}
 use Rattle.run_lines.specs.declared.Flow.{Flow}
 use Rattle.run_lines.specs.Taken.{Closed, fresh-flow}

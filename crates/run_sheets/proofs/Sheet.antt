@@ -25,11 +25,11 @@ use Rattle.sheet_lines.specs.Fed.{Reading, going, stopped, Fed, max-held, line-
 use Rattle.sheet_lines.specs.Pieces.{as-lines, lines-append, fed-append}
 use Rattle.sheet_lines.specs.Ends.{Free, fed-part, fed-line}
 use Rattle.sheet_lines.specs.Cut.{part-of, line-with, step-with}
-use Rattle.sheet_step.specs.State.{Lent, Roomy, Tells, stands-in, reader-of, step-room}
-use Rattle.sheet_step.specs.Answers.{Answers, Goes, rule-event, items-event, item-event, frame-event, act-event, line-event, told, text-of}
-use Rattle.sheet_step.specs.declared.Reader.{Reader}
-use Rattle.sheet_step.specs.declared.Event.{Event}
-use Rattle.sheet_step.specs.declared.Event.the-variants as event
+use Rattle.sheet_reader.specs.State.{Lent, Roomy, Tells, stands-in, reader-of, step-room}
+use Rattle.sheet_reader.specs.Answers.{Answers, Goes, rule-event, items-event, item-event, frame-event, act-event, line-event, told, text-of}
+use Rattle.sheet_reader.specs.declared.Reader.{Reader}
+use Rattle.sheet_reader.specs.declared.Event.{Event}
+use Rattle.sheet_reader.specs.declared.Event.the-variants as event
 use Rattle.sheet_read.specs.declared.State.{State}
 use Rattle.sheet_read.specs.Whole.{first-state, Going, Shows, Ends, Ending}
 use Rattle.sheet_read.proofs.Feeding.{shows-first}

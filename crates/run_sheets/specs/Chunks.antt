@@ -7,7 +7,7 @@ use Rattle.paper.specs.Layout.{Lines, nothing, unended, line, lines}
 use Rattle.sheet_lines.specs.declared.Held.{Held}
 use Rattle.sheet_lines.specs.Held.{no-line, held-more}
 use Rattle.sheet_lines.specs.Cut.{line-with}
-use Rattle.sheet_step.specs.State.{Lent}
+use Rattle.sheet_reader.specs.State.{Lent}
 use Rattle.run_answers.specs.declared.How.{How}
 use Rattle.run_lines.specs.declared.Flow.{Flow}
 use Rattle.run_lines.specs.Taken.{Closed, fresh-flow, Taken}

@@ -5,7 +5,7 @@ ghost use mathlib.Core.Bool.{Bool};
 ghost use Rattle.paper.specs.Layout.{lines};
 ghost use Rattle.sheet_lines.specs.Held.{no-line};
 ghost use Rattle.term_table.specs.Table.{no-edges};
-ghost use Rattle.sheet_step.specs.State.{lent};
+ghost use Rattle.sheet_reader.specs.State.{lent};
 ghost use Rattle.run_sheets.specs.Chunks.{stand, Took-lines, Read, Ran};
 use item_words::ITEMS_ROOM;
 use paper::TERMS;
@@ -21,7 +21,7 @@ use sheet_lines::nothing;
 use sheet_lines::part;
 use sheet_read::KEPT_ROOM;
 use sheet_read::SITES_ROOM;
-use sheet_step::STEP_ROOM;
+use sheet_reader::STEP_ROOM;
 use term_table::WORDS;
 
 // Room for answers.

@@ -30,7 +30,7 @@ use Rattle.sheet_findings.specs.declared.Room.{Room}
 use Rattle.sheet_findings.specs.declared.Room.the-variants.{To, Short}
 use Rattle.sites.specs.Slots.{put, site-of, slot-body, site-in, sites-in, found-as}
 use Rattle.sites.proofs.Put.{put-put, put-nil, length-put}
-use Rattle.sites.proofs.Bodies.{found-some, found-none}
+use Rattle.site_body.proofs.Bodies.{found-some, found-none}
 use Rattle.sheet_ended.specs.declared.EndedSets.{EndedSets}
 use Rattle.sheet_ended.specs.Sets.{no-sets, verdict-as, may-begin, edge-from, edges-from, marked-by, recs-with, fits-set, one-more, with-set, terms-text, to-or, end-room, found-text, said-at, written-after}
 

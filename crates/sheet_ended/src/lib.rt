@@ -70,7 +70,7 @@ pub fn may_begin(e: EndedSets, term: u16, line: u32) -> Verdict
 fn add_edge(t: &mut [[u64; WORDS]; TERMS], term: u16, b: &[u8])
     ensures { λ _. ⌜ now (t .exit) ≡ with-edges (now (t .entry)) (edge-from term (site-of (now (b .entry)))) ⌝ }
 {
-    let named = sites::term(b);
+    let named = site_body::term(b);
     let Found::At(to) = named else {
         return;
     };

@@ -30,13 +30,13 @@ use Rattle.sheet_lines.specs.Held.{held-in, no-line, Holds, nothing-holds, more
 use Rattle.sheet_lines.specs.Cut.{part-of, Fits, line-from, line-with, cut-at, part-there, line-inside, cut-open, cut-ended, line-cut, step-with}
 use Rattle.sheet_lines.specs.declared.Cut.{Cut}
 use Rattle.sheet_lines.specs.declared.Held.{Held}
-use Rattle.sheet_step.specs.State.{Lent, lent, Roomy, Tells, reader-of, stands-in, step-room}
-use Rattle.sheet_step.specs.Answers.{Answers, Steps, Stepping, Goes, told, text-of, line-event, act-event, frame-event, items-event, item-event, rule-event}
-use Rattle.sheet_step.specs.declared.Reader.{Reader}
-use Rattle.sheet_step.specs.declared.Event.{Event}
-use Rattle.sheet_step.specs.declared.Event.the-variants as event
-use Rattle.sheet_step.specs.declared.Stepped.{Stepped}
-use Rattle.sheet_step.specs.declared.Stands.the-variants.{Outside}
+use Rattle.sheet_reader.specs.State.{Lent, lent, Roomy, Tells, reader-of, stands-in, step-room}
+use Rattle.sheet_reader.specs.Answers.{Answers, Steps, Stepping, Goes, told, text-of, line-event, act-event, frame-event, items-event, item-event, rule-event}
+use Rattle.sheet_reader.specs.declared.Reader.{Reader}
+use Rattle.sheet_reader.specs.declared.Event.{Event}
+use Rattle.sheet_reader.specs.declared.Event.the-variants as event
+use Rattle.sheet_reader.specs.declared.Stepped.{Stepped}
+use Rattle.sheet_reader.specs.declared.Stands.the-variants.{Outside}
 use Rattle.sheet_read.specs.declared.State.{State}
 use Rattle.sheet_read.specs.Whole.{first-state, is-stopped, Going, Shows, Fedding, Feeds, Pauses}
 

@@ -23,11 +23,12 @@ use Rattle.sheet_ended.proofs.Holds.{found-is}
 use Rattle.sheet_lines.specs.Fed.{Reading, going, stopped, Fed, begun, fed, behind, fed-all, ended, closed, findings-fed}
 use Rattle.sheet_lines.specs.Pieces.{as-lines, lines-append, fed-append}
 use Rattle.sheet_lines.specs.Held.{held-in}
-use Rattle.sheet_step.specs.State.{Lent, lent, Roomy, Tells, stands-in, step-room}
-use Rattle.sheet_step.specs.declared.Stands.{Stands}
-use Rattle.sheet_step.specs.declared.Stands.the-variants.{Outside, Sites, Rules, Items}
+use Rattle.sheet_reader.specs.State.{Lent, lent, Roomy, Tells, stands-in, step-room}
+use Rattle.sheet_reader.specs.declared.Stands.{Stands}
+use Rattle.sheet_reader.specs.declared.Stands.the-variants.{Outside, Sites, Rules, Items}
 use Rattle.sheet_read.specs.declared.State.{State}
-use Rattle.sheet_read.specs.Whole.{first-state, is-outside, Going, Shows, Fedding, Feeds, Ending, Ends, Pauses, Enough}
+use Rattle.sheet_reader.specs.Answers.{is-outside}
+use Rattle.sheet_read.specs.Whole.{first-state, Going, Shows, Fedding, Feeds, Ending, Ends, Pauses, Enough}
 
 no-way : {A : Type 0} → true ≡ false → A
 no-way e = let z : _≡_ {A = ℕ} 0 1 = cc in absurd (omega arith)

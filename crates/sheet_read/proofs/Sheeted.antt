@@ -19,7 +19,7 @@ use Rattle.sheet_ended.specs.Sets.{end-room}
 use Rattle.sheet_ended.proofs.Laws.{written-then, written-length}
 use Rattle.sheet_lines.specs.Fed.{Reading, going, stopped, Fed, begun, fed, behind, fed-all, ended, closed, findings-fed}
 use Rattle.sheet_lines.specs.Pieces.{as-lines, lines-append, fed-append}
-use Rattle.sheet_step.specs.State.{Lent, lent, Roomy, step-room, sites-room, kept-room, items-room}
+use Rattle.sheet_reader.specs.State.{Lent, lent, Roomy, step-room, sites-room, kept-room, items-room}
 use Rattle.sheet_read.specs.declared.State.{State}
 use Rattle.sheet_read.specs.Whole.{first-state, Going, Shows, Fedding, Feeds, Ending, Ends, Pauses, Checks}
 use Rattle.sheet_read.specs.declared.Checked.the-variants as checked

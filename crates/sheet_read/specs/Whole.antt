@@ -16,12 +16,12 @@ use Rattle.sheet_lines.specs.Pieces.{as-lines}
 use Rattle.sheet_lines.specs.Held.{held-in, no-line}
 use Rattle.sheet_lines.specs.declared.Held.{Held}
 use Rattle.sheet_ended.specs.Sets.{no-sets, end-room}
-use Rattle.sheet_step.specs.State.{Lent, Tells, stands-in, step-room, sites-room, kept-room, items-room}
-use Rattle.sheet_step.specs.declared.Reader.{Reader}
-use Rattle.sheet_step.specs.declared.Event.{Event}
-use Rattle.sheet_step.specs.declared.Event.the-variants as event
-use Rattle.sheet_step.specs.declared.Stands.{Stands}
-use Rattle.sheet_step.specs.declared.Stands.the-variants.{Outside, Sites, Rules, Items}
+use Rattle.sheet_reader.specs.State.{Lent, Tells, stands-in, step-room, sites-room, kept-room, items-room}
+use Rattle.sheet_reader.specs.declared.Reader.{Reader}
+use Rattle.sheet_reader.specs.declared.Event.{Event}
+use Rattle.sheet_reader.specs.declared.Event.the-variants as event
+use Rattle.sheet_reader.specs.declared.Stands.{Stands}
+use Rattle.sheet_reader.specs.declared.Stands.the-variants.{Outside, Sites, Rules, Items}
 use Rattle.sheet_read.specs.declared.State.{State}
 use Rattle.sheet_read.specs.declared.Checked.{Checked}
 use Rattle.sheet_read.specs.declared.Checked.the-variants as checked
@@ -38,12 +38,6 @@ is-stopped (event.Refused p q x) = false
 is-stopped event.Ended = false
 is-stopped (event.Stopped x) = true
 is-stopped event.NoRoom = false
-
-abbrev pub is-outside : Stands → Bool
-is-outside Outside = true
-is-outside (Sites s) = false
-is-outside (Rules s) = false
-is-outside (Items s r n) = false
 
 -- before the end of line `at`, of which h is held
 pub record Going (s : State) (k : Lent) (d : paper.Reader) (at : ℕ) (h : List ℕ) : Type 0 where

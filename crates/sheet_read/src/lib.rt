@@ -5,11 +5,11 @@ ghost use mathlib.Core.List.{List, []};
 ghost use mathlib.Core.Logic.{_⊎_};
 ghost use Prim.Native.Nat.{ℕ, _+_, _-_, _≤_, _<_};
 ghost use lib.ListN.{length, take, drop};
-ghost use Rattle.sheet_step.specs.State.{lent, step-room};
+ghost use Rattle.sheet_reader.specs.State.{lent, step-room};
 ghost use Rattle.sheet_ended.specs.Sets.{end-room};
 ghost use Rattle.term_table.specs.Table.{no-edges};
 ghost use Rattle.sheet_lines.specs.Fed.{Reading};
-ghost use Rattle.sheet_read.specs.Whole.{first-state, Feeds, Ends, Pauses, Checks, is-stopped, is-outside};
+ghost use Rattle.sheet_read.specs.Whole.{first-state, Feeds, Ends, Pauses, Checks, is-stopped};
 use item_words::ITEMS_ROOM;
 use paper::RULES;
 use paper::Refusal;
@@ -26,10 +26,11 @@ use sheet_lines::cut_line;
 use sheet_lines::line_of;
 use sheet_lines::nothing;
 use sheet_lines::part;
-use sheet_step::Event;
-use sheet_step::Reader;
-use sheet_step::STEP_ROOM;
-use sheet_step::Stands;
+use sheet_reader::Event;
+use sheet_reader::Reader;
+use sheet_reader::STEP_ROOM;
+use sheet_reader::Stands;
+use sheet_reader::outside;
 use sheet_step::step;
 use sites::SLOT;
 use term_table::WORDS;
@@ -207,21 +208,6 @@ pub fn feed(
         state: state,
         read: i,
         to: to,
-    }
-}
-
-fn outside(s: Stands) -> bool
-    ensures { λ r. ⌜ r ≡ is-outside s ⌝ }
-{
-    match s {
-        Stands::Outside => true,
-        Stands::Sites(_) => false,
-        Stands::Rules(_) => false,
-        Stands::Items {
-            set: _,
-            rule: _,
-            left: _,
-        } => false,
     }
 }
 

@@ -27,7 +27,7 @@ use Rattle.paper.specs.Layout as layout
 use Rattle.paper.specs.Layout.{frame-of}
 use Rattle.paper.specs.Sites.{constPrim}
 use Rattle.sheet_frames.specs.Said.{max-bytes, reading-of}
-use Rattle.sheet_frames.specs.Back.{body-in, frame-back, line-back, bytes-long}
+use Rattle.sheet_frames.proofs.Back.{body-in, frame-back, line-back, bytes-long}
 use Rattle.sheet_frames.specs.declared.Read.{Read}
 use Rattle.sheet_frames.specs.declared.Frame.the-variants as said
 use Rattle.sheet_reader.specs.State.{reader-of}

@@ -3,7 +3,7 @@ use Prim.Native.Nat.{_-_}
 use native.Mathlib.Omega.{arith}
 use lib.ListN.{length}
 use borrow.Author.Needs.{needs}
-use Rattle.sheet_step.specs.State.{lent}
+use Rattle.sheet_reader.specs.State.{lent}
 use Rattle.sheet_read.proofs.Feeding.{cut-inside}
 use Rattle.run_sheets.specs.Chunks.{stand}
 use Rattle.run_sheets.proofs.ChunkLaws.{Stands-for, no-turn, chunk-turn, chunk-open, chunk-done}

@@ -1,5 +1,5 @@
 use Rattle.run_sheets.proofs.ChunkLaws.{none-read, more-read, all-read}
-use Rattle.sheet_step.specs.State.{lent}
+use Rattle.sheet_reader.specs.State.{lent}
 use Rattle.run_sheets.specs.Chunks.{stand, Read}
 use borrow.Author.Needs.{needs}
 use mathlib.Core.Path.{_≡_}

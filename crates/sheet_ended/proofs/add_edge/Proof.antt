@@ -5,7 +5,7 @@ use Rattle.sheet_ended.proofs.add_edge.Tie as tie
 use Rattle.sheet_ended.proofs.add_edge.Reads as reads
 use Rattle.sheet_ended.proofs.add_edge.Lts as lts
 use Rattle.term_table.proofs.add.Reads as add-reads
-use Rattle.sites.proofs.term.Reads as term-reads
+use Rattle.site_body.proofs.term.Reads as term-reads
 
 -- src/lib.rt:86:9
 term-requires : tie.Need-term-requires

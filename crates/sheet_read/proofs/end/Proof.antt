@@ -7,7 +7,7 @@ use Rattle.sheet_read.proofs.end.Reads as reads
 use Rattle.sheet_read.proofs.end.Lts as lts
 use Rattle.sheet_ended.proofs.write_found.Reads as write-found-reads
 use Rattle.sheet_findings.proofs.write_stop.Reads as write-stop-reads
-use Rattle.sheet_read.proofs.outside.Reads as outside-reads
+use Rattle.sheet_reader.proofs.outside.Reads as outside-reads
 
 -- src/lib.rt:224:9
 returns : tie.Need-returns

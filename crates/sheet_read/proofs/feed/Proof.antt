@@ -3,7 +3,7 @@ use Prim.Native.Nat.{_-_}
 use lib.ListN.{length}
 use native.Mathlib.Omega.{arith}
 use borrow.Author.Needs.{needs}
-use Rattle.sheet_step.specs.State.{lent}
+use Rattle.sheet_reader.specs.State.{lent}
 use Rattle.sheet_read.proofs.Feeding.{Fedto, fedto-none, fedto-turn, fedto-pauses, all-read}
 use Rattle.sheet_read.proofs.feed.Statement.{statement}
 use Rattle.sheet_read.proofs.feed.Tie as tie
