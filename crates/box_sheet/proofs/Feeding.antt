@@ -12,6 +12,7 @@ use lib.Dec.{leb}
 use borrow.Author.Tests.{leb-true}
 use Rattle.paper.specs.Words.{if_then_else_, joined}
 use Rattle.paper.specs.Sheets.{findings}
+use Rattle.paper.proofs.Lists.{no-way}
 use Rattle.sheet_findings.specs.Written.{written-at}
 use Rattle.sheet_findings.specs.declared.Room.{Room}
 use Rattle.sheet_findings.specs.declared.Room.the-variants as rooms
@@ -32,9 +33,6 @@ use Rattle.box_answers.specs.declared.Said.{Said}
 use Rattle.box_answers.specs.Border.{short, answer-words, said, has-room, both, answered, after}
 use Rattle.box_sheet.specs.Sheet.{lends, writes, begun-number, Fed, Unfed, FeedSays, ended-said, Closed, EndSays, checked-said, Found, Crowded, Unread, CheckSays}
 use Rattle.box_answers.proofs.Crossing.{stayed, went, enough}
-
-no-way : {A : Type 0} → true ≡ false → A
-no-way e = let z : _≡_ {A = ℕ} 0 1 = cc in absurd (omega arith)
 
 -- ---- a sheet that stopped: what comes behind is read, and nothing is found
 

@@ -10,6 +10,7 @@ use Rattle.paper.specs.Words.{keep, below, Table, look}
 use Rattle.paper.specs.Loading.{Labels}
 use Rattle.paper.proofs.Tables.{of-keep, in-keep, Rising, keep-rising, look-in, above}
 use Rattle.paper.proofs.Closure.{of-below, in-below}
+use Rattle.paper.proofs.Lists.{map-last}
 use Rattle.classes.specs.Well.{cnt, bit}
 use Rattle.classes.proofs.Tables.{Once}
 
@@ -113,10 +114,6 @@ beside g z = (z, g z)
 
 unfoldable pub row : {A : Type 0} → ℕ → (ℕ → A) → (ℕ → Bool) → Table A
 row c g f = map (beside g) (keep f (below c (λ z. z)))
-
-map-last : {A B : Type 0} (f : A → B) (xs : List A) (y : A) → map f (xs ++ (y ∷ [])) ≡ map f xs ++ (f y ∷ [])
-map-last f [] y = refl
-map-last f (x ∷ xs) y = ap (λ l. f x ∷ l) (map-last f xs y)
 
 pairs-keep : {A : Type 0} (g : ℕ → A) (f : ℕ → Bool) (xs : List ℕ) → map (beside g) (keep f xs) ≡ keep (λ p. f (p .0)) (map (beside g) xs)
 unfolding keep

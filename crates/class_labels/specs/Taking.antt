@@ -19,6 +19,7 @@ use Rattle.paper.specs.Classes.{Classes, classes, up, find-in, is-at, Removed, 
 use Rattle.paper.specs.Loading.{Labels, lowest, members, dissolve}
 use Rattle.paper.proofs.Labels.{never}
 use Rattle.paper.proofs.Tables.{Fine, of-keep, in-keep, keep-rising, look-in, in-look, lowest-is, dissolved, undissolved, dissolve-fine}
+use Rattle.paper.proofs.Lists.{no-way}
 use Rattle.classes.specs.declared.Taken.{Taken}
 use Rattle.classes.specs.declared.Taken.the-variants as K
 use Rattle.classes.specs.Answers.{or-self, rep, over, taken, taken-by}
@@ -32,9 +33,6 @@ use Rattle.class_removal.proofs.Listed.{Listed, remove-listed, remove-few}
 use Rattle.classes.proofs.Tables.{remove-dissolves}
 use Rattle.class_labels.specs.Tied.{has-label, Tied, tied-fine, label-some, label-none, some-label}
 use Rattle.class_labels.specs.Rows.{rising-same, rising-once, keep-most, below-length, row, row-rising, in-row, of-row, row-firsts}
-
-no-bool : {A : Type 0} → true ≡ false → A
-no-bool e = let z : _≡_ {A = ℕ} 0 1 = cc in absurd (omega arith)
 
 -- what a call is told of the room: every labelled site is below c
 abbrev pub LabelsBelow : Labels → ℕ → Type 0
@@ -51,7 +49,7 @@ module _ {p r : List ℕ} {n : ℕ} {k : Labels} (T : Tied p r n k) where
 
       go : (f : Found) → find-in p z .found ≡ f → find-in p z .found ≡ At (or-self z (find-in p z .found))
       go (At s) q = rw q
-      go Nothing q = no-bool (sym e ∙ (sym (T .joined z h) ∙ (there ∙ ap is-joined q)))
+      go Nothing q = no-way (sym e ∙ (sym (T .joined z h) ∙ (there ∙ ap is-joined q)))
 
   lone : (z : ℕ) → z < max-sites → has-label k z ≡ false → find-in p z .found ≡ Nothing
   lone z h e = go (find-in p z .found) refl
@@ -60,7 +58,7 @@ module _ {p r : List ℕ} {n : ℕ} {k : Labels} (T : Tied p r n k) where
       there = joined-has (classes p r n) (T .well) z h
 
       go : (f : Found) → find-in p z .found ≡ f → find-in p z .found ≡ Nothing
-      go (At s) q = no-bool (sym (sym e ∙ (sym (T .joined z h) ∙ (there ∙ ap is-joined q))))
+      go (At s) q = no-way (sym (sym e ∙ (sym (T .joined z h) ∙ (there ∙ ap is-joined q))))
       go Nothing q = q
 
   found-rep : (z s : ℕ) → find-in p z .found ≡ At s → rep p z ≡ s
@@ -79,7 +77,7 @@ module _ {p r : List ℕ} {n : ℕ} {k : Labels} (T : Tied p r n k) where
     yours z h e = go (look k z) refl
       where
         go : (o : Option ℕ) → look k z ≡ o → look k z ≡ some low
-        go none q = no-bool (sym (sym (ap (λ (f : Found). is-at f (At (rep p low))) (lone z h (label-none k z q))) ∙ e))
+        go none q = no-way (sym (sym (ap (λ (f : Found). is-at f (At (rep p low))) (lone z h (label-none k z q))) ∙ e))
         go (some v) q =
             let w = root z h (label-some k z v q) in
             let u = eqb-true (rep p z) (rep p low) (sym (ap (λ (f : Found). is-at f (At (rep p low))) w) ∙ e) in

@@ -14,6 +14,7 @@ use Rattle.paper.specs.declared.Found.the-variants.{At}
 use Rattle.paper.specs.Words.{if_then_else_, any, has, keep, below}
 use Rattle.paper.specs.Numbers.{max-sites}
 use Rattle.paper.specs.Classes.{Classes, classes, up, find-in, halve-in, is-at, Swept, sweep, unjoin, removed}
+use Rattle.paper.proofs.Lists.{or-false}
 use Rattle.classes.specs.Well.{Well, WellMade, members, joined-in, has-up, in-class, cnt, bit, dropped}
 use Rattle.classes.specs.Equal.{sites-below, TakesOut}
 use Rattle.classes.proofs.Counting.{cnt-ext}
@@ -70,10 +71,6 @@ has-last (x ∷ xs) y z = go (eqb z x) (has-last xs y z)
     go : (b : Bool) → has (xs ++ (y ∷ [])) z ≡ (has xs z || eqb z y) → (b || has (xs ++ (y ∷ [])) z) ≡ ((b || has xs z) || eqb z y)
     go true e = refl
     go false e = e
-
-or-false : (b : Bool) → (b || false) ≡ b
-or-false true = refl
-or-false false = refl
 
 has-none : (z : ℕ) → has [] z ≡ false
 unfolding has any

@@ -22,6 +22,7 @@ use Rattle.paper.proofs.Labels.{never}
 use Rattle.paper.proofs.Adding.{add-extends}
 use Rattle.paper.proofs.Tables.{look-in, in-look}
 use Rattle.paper.proofs.Making.{made-sound}
+use Rattle.paper.proofs.Lists.{and-both}
 use Rattle.meaning.specs.Values.{proj-at}
 use Rattle.meaning.specs.Kinds.{child-of, kind-in, Held, input-is}
 use Rattle.meaning.specs.Model.{Rooted, Solved, model-exists, forced-shape, forced-equal}
@@ -88,10 +89,6 @@ module _ (t : Sites) (S : Sound t) (k : Kept) (W : Stands t k) where
           (rep a, label-of (k .equals) (W .well) a b (e .same) d, label-of (k .equals) (W .well) b a (sym (e .same)) (λ z. d (sym z)) ∙ ap some (sym (e .same)))
 
 -- ---- the tests, as facts
-
-and-both : (a b : Bool) → (a && b) ≡ true → (a ≡ true) × (b ≡ true)
-and-both true b e = (refl, e)
-and-both false b e = let z : _≡_ {A = ℕ} 0 1 = cc in absurd (omega arith)
 
 every-is : {A : Type 0} (p : A → Bool) (xs : List A) → every p xs ≡ true → (x : A) → List·Memᴰ x xs → p x ≡ true
 unfolding every

@@ -13,6 +13,7 @@ use Rattle.paper.specs.declared.Constraint.the-variants.{Variant, Struct, Const
 use Rattle.paper.specs.Sites.{child-count}
 use Rattle.paper.specs.Inputs.{Value, bool, int, name, variant, structure, absent, present, Values, nil, more, count, value-at, shape, variant-field, struct-field, inner-of, and-then}
 use Rattle.paper.proofs.Labels.{never}
+use Rattle.paper.proofs.Lists.{and-both}
 
 -- the first n values of a function
 pub tab : ℕ → (ℕ → Value) → Values
@@ -136,10 +137,6 @@ when-inv : (b : Bool) (f i : ℕ) → when b f ≡ some i → (b ≡ true) × (f
 when-inv true f i e = (refl, cc)
 when-inv false f i e = absurd (never e)
 
-and-inv : (a b : Bool) → (a && b) ≡ true → (a ≡ true) × (b ≡ true)
-and-inv true b e = (refl, e)
-and-inv false b e = let z : _≡_ {A = ℕ} 0 1 = cc in absurd (omega arith)
-
 -- a shape has exactly its own children's projections
 pub field-of-proj-at : (c : Constraint) (i : ℕ) → i < child-count c → field-of c (proj-at c i) ≡ some i
 field-of-proj-at (Variant t v n) i h = rw (eq-eqb v v refl, lt-ltb i n h)
@@ -153,7 +150,7 @@ field-of-proj-at Some (suc i) h = absurd (omega arith)
 pub field-of-inv : (c : Constraint) (p : Proj) (i : ℕ) → field-of c p ≡ some i → (p ≡ proj-at c i) × (i < child-count c)
 field-of-inv (Variant t v n) (variant-at w f) i e =
     let w0 = when-inv (eqb w v && ltb f n) f i e in
-    let w1 = and-inv (eqb w v) (ltb f n) (w0 .0) in
+    let w1 = and-both (eqb w v) (ltb f n) (w0 .0) in
     let q : w ≡ v = eqb-true w v (w1 .0) in
     let r : f ≡ i = w0 .1 in
     let l : f < n = ltb-true f n (w1 .1) in

@@ -17,6 +17,7 @@ use Rattle.paper.specs.declared.Overlap.the-variants.{Yes, Subset}
 use Rattle.paper.specs.Words.{if_then_else_, any, look}
 use Rattle.paper.specs.Sites.{same-constraint}
 use Rattle.paper.specs.Rules.{differ, other-there, no-equals, compare-with}
+use Rattle.paper.proofs.Lists.{or-true}
 use Rattle.rule_words.specs.Stored.{first-constrained, constrained-word, constrained-count, run, constraint-at, constrained-at, kept-at}
 use Rattle.overlap.specs.declared.Seen.{Seen}
 use Rattle.overlap.specs.declared.Seen.the-variants.{Told, Unclear}
@@ -99,10 +100,6 @@ module _ (g : ℕ → ℕ × Constraint) (m s : ℕ) where
 
   look-first : (y : ℕ) → y < m → ((k : ℕ) → k < y → g k .0 ≡ s → ⊥) → g y .0 ≡ s → look (run g 0 m) s ≡ some (g y .1)
   look-first y h n e = look-hit g m s y h e (look-past y (omega arith) n)
-
-or-true : (t : Bool) → (t || true) ≡ true
-or-true true = refl
-or-true false = refl
 
 -- one that differs is enough, whatever the others are
 any-run : {A : Type 0} (t : A → Bool) (f : ℕ → A) (k i x : ℕ) → x < k → t (f (i + x)) ≡ true → any t (run f i k) ≡ true

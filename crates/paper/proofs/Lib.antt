@@ -12,3 +12,4 @@ pub mod Taking
 pub mod Ends
 pub mod Making
 pub mod Bounds
+pub mod Lists

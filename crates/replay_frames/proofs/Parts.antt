@@ -10,6 +10,7 @@ use Rattle.sheet_frames.specs.Said.{padded, reading-of}
 use Rattle.sheet_lines.specs.declared.Ends.{Ends}
 use Rattle.sheet_lines.specs.declared.Ends.the-variants.{At}
 use Rattle.sheet_lines.specs.Ends.{line-end, ends-at}
+use Rattle.paper.proofs.Lists.{array-long}
 
 pub body-fits : (l : List ℕ) (r : Read) → r ≡ reading-of l → r .length ≤ length (r .bytes)
 unfolding reading-of padded
@@ -21,8 +22,6 @@ length-taken (suc n) [] h = absurd (omega arith)
 length-taken (suc n) (x ∷ s) h = ap suc (length-taken n s (omega arith))
 
 -- the array of a value has its length
-pub array-long : {A : Type 0} (s : List ℕ) (f : ℕ → A) (n : ℕ) → length (map f s) ≡ n → length s ≡ n
-array-long s f n e = sym (length-map s f) ∙ e
 
 pub end-fits : (s : List ℕ) (from e : ℕ) (r : Ends) → from ≤ length s → r ≡ line-end from (drop from s) → r ≡ At e → (from ≤ e) × (e < length s)
 end-fits s from e r h p q =

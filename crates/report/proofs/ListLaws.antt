@@ -7,6 +7,7 @@ use native.Mathlib.Omega.{arith}
 use lib.ListN.{length, getD, length-append, length-map}
 use lib.Dec.{ltb}
 use Rattle.paper.specs.Words.{keep, below, joined, place-by, sort-by, flag}
+use Rattle.paper.proofs.Lists.{map-append}
 use Rattle.rule_words.specs.Stored.{run}
 use Rattle.report.specs.Rows.{bits}
 use Rattle.report.proofs.RowLaws.{tally, ones-bits, bits-none}
@@ -44,9 +45,6 @@ keep-map {A} {B} t f (x ∷ xs) = go (t (f x)) refl (keep-map t f xs)
     go false e h = keep-no t (f x) (map f xs) e ∙ rw (keep-no (λ x. t (f x)) x xs e, h)
 
 -- ---- map, joined, below
-pub map-append : {A B : Type 0} (f : A → B) (xs ys : List A) → map f (xs ++ ys) ≡ map f xs ++ map f ys
-map-append f [] ys = refl
-map-append f (x ∷ xs) ys = rw (map-append f xs ys)
 
 pub map-map : {A B C : Type 0} (f : B → C) (g : A → B) (xs : List A) → map f (map g xs) ≡ map (λ x. f (g x)) xs
 map-map f g [] = refl

@@ -11,8 +11,9 @@ use borrow.Author.Tests.{eqb-true, eqb-false, eq-eqb, ne-eqb, lt-ltb, le-ltb}
 use Rattle.paper.specs.Words.{if_then_else_, keep, below, joined, flag}
 use Rattle.paper.specs.Loading.{Kept}
 use Rattle.paper.specs.Rules.{Listed, overlap, mask, Graph, edge, linked, neighbours, busiest, without, take-places, overlap-lists, mask-lists, masked-by, listed-from, by-place, report-of, no-rule}
+use Rattle.paper.proofs.Lists.{map-append}
 use Rattle.report.specs.Named.{count, named-in, times, named-by, times-in}
-use Rattle.report.proofs.ListLaws.{numbers, keep-yes, keep-no, keep-map, kept-next, map-append, joined-append, joined-one, joined-none, below-next, below-none}
+use Rattle.report.proofs.ListLaws.{numbers, keep-yes, keep-no, keep-map, kept-next, joined-append, joined-one, joined-none, below-next, below-none}
 use Rattle.report.proofs.TakeLaws.{Lists, firsts, places-at, places-stop, places-none}
 use Rattle.report.proofs.OnceLaws.{edges-once, busiest-less, keep-none, count-append, count-single, count-none}
 

@@ -10,10 +10,11 @@ use lib.Dec.{eqb, ltb, leb}
 use borrow.Author.Tests.{eqb-true, eqb-false, eq-eqb, ne-eqb, leb-true, leb-false}
 use Rattle.paper.specs.Words.{if_then_else_, keep, below, flag}
 use Rattle.paper.specs.Rules.{Graph, neighbours, degree, better, busiest, without, take-places}
+use Rattle.paper.proofs.Lists.{and-false, none-in}
 use Rattle.report.specs.Named.{count, named-in, times}
 use Rattle.report.proofs.RowLaws.{tally}
 use Rattle.report.proofs.ListLaws.{numbers, keep-yes, keep-no, keep-append, kept-next, below-none, count-kept}
-use Rattle.report.proofs.TakeLaws.{places-at, places-stop, places-none, without-is, none-at, neighbours-are, no-edge}
+use Rattle.report.proofs.TakeLaws.{places-at, places-stop, places-none, without-is, neighbours-are, no-edge}
 
 -- ---- counting a number among those that pass a test
 pub count-append : (j : ℕ) (xs ys : List ℕ) → count j (xs ++ ys) ≡ count j xs + count j ys
@@ -108,7 +109,7 @@ module _ (n : ℕ) (g : Graph) where
     where
       counted : flag (g i j) ≡ 0
       counted =
-          sym (count-in (g i) j n h) ∙ (ap (count j) (sym (neighbours-are n g i) ∙ none-at (neighbours n g i) (sym (degree-is i) ∙ e)) ∙ count-none j)
+          sym (count-in (g i) j n h) ∙ (ap (count j) (sym (neighbours-are n g i) ∙ none-in (neighbours n g i) (sym (degree-is i) ∙ e)) ∙ count-none j)
 
       go : (t : Bool) → g i j ≡ t → g i j ≡ false
       go true q = absurd (omega (arith, sym (ap flag q) ∙ counted))
@@ -231,10 +232,6 @@ without-sym b g s i j = without-is b g i j ∙ (rw (s i j) (swap (not (eqb i b))
     swap false true z = refl
     swap false false z = refl
 
-no-more : (x : Bool) → (x && false) ≡ false
-no-more true = refl
-no-more false = refl
-
 -- a turn's list and what is left together name a pair as often as there was an edge
 turn-names : (n : ℕ) (g : Graph) (b i j : ℕ) → ((i j : ℕ) → g i j ≡ g j i) → i < n → j < n → (i ≡ j → ⊥) → named-in i j (b, keep (g b) (numbers n)) + flag (without b g i j) ≡ flag (g i j)
 turn-names n g b i j s li lj ne = go (ℕ-discrete b i) (ℕ-discrete b j)
@@ -244,7 +241,7 @@ turn-names n g b i j s li lj ne = go (ℕ-discrete b i) (ℕ-discrete b j)
         let w : without b g i j ≡ false = without-is b g i j ∙ rw (eq-eqb i b (sym e)) in
         omega (arith, named-first i j b (keep (g b) (numbers n)) e, count-in (g b) j n lj, ap flag w, ap (λ z. flag (g z j)) e)
     go (no e) (yes d) =
-        let w : without b g i j ≡ false = without-is b g i j ∙ rw (eq-eqb j b (sym d)) (no-more (not (eqb i b))) in
+        let w : without b g i j ≡ false = without-is b g i j ∙ rw (eq-eqb j b (sym d)) (and-false (not (eqb i b))) in
         omega (arith, named-second i j b (keep (g b) (numbers n)) e d, count-in (g b) i n li, ap flag w, ap (λ z. flag (g z i)) d, ap flag (s i j))
     go (no e) (no d) =
         let w : without b g i j ≡ g i j = without-is b g i j ∙ rw (ne-eqb i b (λ q. e (sym q)), ne-eqb j b (λ q. d (sym q))) in

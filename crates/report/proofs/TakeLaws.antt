@@ -14,6 +14,7 @@ use borrow.Author.Tests.{eqb-true, eqb-false, eq-eqb, ne-eqb}
 use Rattle.paper.specs.Numbers.{max-rules}
 use Rattle.paper.specs.Words.{if_then_else_, keep}
 use Rattle.paper.specs.Rules.{Graph, neighbours, degree, better, busiest, without, take-places}
+use Rattle.paper.proofs.Lists.{none-in}
 use Rattle.report.specs.Rows.{bits, bit-at, degree-of, better-of, busiest-of, cleared, take-from}
 use Rattle.report.proofs.RowLaws.{bits-same, bits-at, bits-bound, bits-none, bit-of, and-wide, ones-bits, tally, busiest-small}
 use Rattle.report.proofs.ListLaws.{numbers, keep-yes, keep-no, count-kept, none-counted}
@@ -67,10 +68,6 @@ cleared-bits f b h = go (f b) refl
 some-at : (xs : List ℕ) → (length xs ≡ 0 → ⊥) → (m : ℕ) × ((ms : List ℕ) × (xs ≡ m ∷ ms))
 some-at [] e = absurd (e refl)
 some-at (m ∷ ms) e = (m, (ms, refl))
-
-pub none-at : (xs : List ℕ) → length xs ≡ 0 → xs ≡ []
-none-at [] e = refl
-none-at (x ∷ xs) e = absurd (omega arith)
 
 ones-none : ones 0 ≡ 0
 unfolding ones
@@ -142,7 +139,7 @@ module _ (n : ℕ) (g : Graph) (rows : List ℕ) (left : ℕ) (h : Held n g rows
   turn = go (ℕ-discrete (bitAnd (getD rows (busiest-of rows left n) 0) left) 0)
     where
       go : Dec (bitAnd (getD rows (busiest-of rows left n) 0) left ≡ 0) → Turn
-      go (yes z) = stops z (none-at (neighbours n g (busiest n g n)) (counted ∙ (sym (ones-bits (g (busiest-of rows left n)) n) ∙ (ap ones (sym (near-bits (busiest-of rows left n) small) ∙ z) ∙ ones-none))))
+      go (yes z) = stops z (none-in (neighbours n g (busiest n g n)) (counted ∙ (sym (ones-bits (g (busiest-of rows left n)) n) ∙ (ap ones (sym (near-bits (busiest-of rows left n) small) ∙ z) ∙ ones-none))))
       go (no z) =
           let f = some-at (neighbours n g (busiest n g n)) (λ q. z (near-bits (busiest-of rows left n) small ∙ none-counted (g (busiest-of rows left n)) n (sym counted ∙ q))) in
           goes small z (f .0) (f .1 .0) (f .1 .1)

@@ -17,6 +17,7 @@ use Rattle.paper.specs.Layout.{hex}
 use Rattle.paper.specs.Sheets.{listed-found}
 use Rattle.paper.specs.Loading.{Kept}
 use Rattle.paper.specs.Rules.{Listed, overlap, mask, Graph, edge, masks, linked, by-place, take-places, overlap-lists, masked-by, mask-lists, listed-from, report-of, no-rule}
+use Rattle.paper.proofs.Lists.{map-append, none-in, and-true}
 use Rattle.rule_words.specs.Stored.{run, base, place-at, kept-at, kept-in, kept-first}
 use Rattle.rule_words.proofs.StoreLaws.{run-same}
 use Rattle.sheet_digits.specs.Digits.{digits-of}
@@ -24,7 +25,7 @@ use Rattle.sheet_digits.proofs.DigitLaws.{digits-append, hex-digits}
 use Rattle.report.specs.Rows.{bits, bit-at, filled, place-in, named, earlier, lower-word, either, row-word, take-from}
 use Rattle.report.specs.Lines.{place-text, places-text, rest-text, overlap-text, mask-text, masks-in, rule-text, lists-text}
 use Rattle.report.proofs.RowLaws.{bits-at, bits-same, bits-none, ones-bits, filled-at, filled-length, tally}
-use Rattle.report.proofs.ListLaws.{numbers, keep-yes, keep-no, keep-map, kept-next, map-append, map-map, joined-append, joined-one, joined-cons, joined-none, below-next, below-none, below-map, run-below, count-kept, none-counted, sort-map, map-run, getD-any}
+use Rattle.report.proofs.ListLaws.{numbers, keep-yes, keep-no, keep-map, kept-next, map-map, joined-append, joined-one, joined-cons, joined-none, below-next, below-none, below-map, run-below, count-kept, none-counted, sort-map, map-run, getD-any}
 use Rattle.report.proofs.OrderLaws.{sort-length}
 use Rattle.report.proofs.TakeLaws.{Held, Taken, never, once, live, firsts, Lists}
 
@@ -111,10 +112,6 @@ module _ (names : List ℕ) (P : ℕ → ℕ) (f : ℕ → Bool) (n : ℕ) (few 
 all-ones : 18446744073709551615 ≡ bits (λ q. true) 64
 unfolding bits
 all-ones = refl
-
-and-true : (t : Bool) → (t && true) ≡ t
-and-true true = refl
-and-true false = refl
 
 row-is : (low : List ℕ) (n p : ℕ) → row-word low n p ≡ bits (either low p) n
 unfolding row-word
@@ -204,10 +201,6 @@ unfolding mask-lists
 some-masks p [] h = absurd (h refl)
 some-masks p (m ∷ ms) h = refl
 
-nothing-in : (xs : List ℕ) → length xs ≡ 0 → xs ≡ []
-nothing-in [] e = refl
-nothing-in (x ∷ xs) e = absurd (omega arith)
-
 ones-zero : ones 0 ≡ 0
 unfolding ones
 ones-zero = refl
@@ -231,7 +224,7 @@ mask-all all P f n p few same = go (ℕ-discrete (bits f n) 0)
 
     go : Dec (bits f n ≡ 0) → mask-text all p (bits f n) n ≡ text (mask-lists p (map P (keep f (numbers n))))
     go (yes z) =
-        let e : map P (keep f (numbers n)) ≡ [] = nothing-in (map P (keep f (numbers n))) (counted ∙ (sym (ones-bits f n) ∙ (ap ones z ∙ ones-zero))) in
+        let e : map P (keep f (numbers n)) ≡ [] = none-in (map P (keep f (numbers n))) (counted ∙ (sym (ones-bits f n) ∙ (ap ones z ∙ ones-zero))) in
         mask-empty all p (bits f n) n z ∙ sym (ap (λ y. text (mask-lists p y)) e ∙ (ap text (no-masks p) ∙ joined-none))
     go (no z) =
         mask-is all P f n few same p z

@@ -11,11 +11,12 @@ use lib.Seq.{getD-set-same, getD-set-other}
 use lib.Dec.{eqb}
 use borrow.Author.Tests.{eq-eqb}
 use Rattle.paper.specs.Numbers.{max-sites}
+use Rattle.paper.proofs.Lists.{no-way}
 use Rattle.classes.specs.Answers.{rep}
 use Rattle.rule_rows.specs.Holding.{Held, chart, kid-count, kid-in, count-of, kid-of, Inside}
 use Rattle.rule_classes.specs.Meeting.{Reps}
 use Rattle.rule_check.specs.Search.{Edge, Path, edge, then, Ready, Safe, Over, Keeps}
-use Rattle.rule_rows.proofs.Reading.{kid-inside, no-bool}
+use Rattle.rule_rows.proofs.Reading.{kid-inside}
 
 pub rep-inside : (p kids : List ℕ) → Ready p kids → (s w z : ℕ) → s < max-sites → w ≡ rep p s → z ≡ w → z < max-sites
 rep-inside p kids Q s w z h ew ez = let r = Q .reps .inside s h in omega arith
@@ -29,7 +30,7 @@ pub over-yes : (boss turned : List ℕ) (z : ℕ) → max-sites ≤ getD boss z 
 over-yes boss turned z h _ g = absurd (omega arith)
 
 pub over-told : (boss turned : List ℕ) (z : ℕ) → not (eqb (getD turned z 0) 0) ≡ true → Over boss turned z
-over-told boss turned z e _ o = no-bool (sym e ∙ ap not (eq-eqb (getD turned z 0) 0 o))
+over-told boss turned z e _ o = no-way (sym e ∙ ap not (eq-eqb (getD turned z 0) 0 o))
 
 -- ---- ready
 
@@ -41,7 +42,7 @@ ready-step boss turned p kids i f k w z t ek ew ez h e =
   where
     go : (t : Bool) → not t ≡ false → t ≡ true
     go true e = refl
-    go false e = no-bool e
+    go false e = no-way e
 
 -- ---- a turn
 
@@ -100,7 +101,7 @@ module _ (rows words kids p boss turned : List ℕ) (S : Safe (chart rows words 
   turn-was n = (S, (keeps-self (chart rows words kids) p boss turned S, λ _. rw (ez ∙ ew) at n))
 
   pub turn-not : Safe (chart rows words kids) p boss turned × (Keeps turned turned × (false ≡ true → getD turned (rep p s) 0 ≡ 0 → ⊥))
-  turn-not = (S, (keeps-self (chart rows words kids) p boss turned S, λ e. no-bool (sym e)))
+  turn-not = (S, (keeps-self (chart rows words kids) p boss turned S, λ e. no-way (sym e)))
 
   pub turn-now : (v i : ℕ) → v ≡ getD boss z 0 → i ≡ getD rows v 0 → ((f : ℕ) → f < kid-count words i → Over boss turned (rep p (kid-in kids i f)))
       → Safe (chart rows words kids) p boss (set turned z 1) × (Keeps turned (set turned z 1) × (true ≡ true → getD (set turned z 1) (rep p s) 0 ≡ 0 → ⊥))
@@ -153,7 +154,7 @@ module _ (H : Held) (p boss sites : List ℕ) (m : ℕ) where
   }
 
   pub settled-no : (h : ℕ) → false ≡ true → h < m → Path H p boss (rep p (getD sites h 0)) (rep p (getD sites h 0)) → ⊥
-  settled-no h e = no-bool (sym e)
+  settled-no h e = no-way (sym e)
 
   pub settled-yes : (turned : List ℕ) → Reps p → Inside sites → Safe H p boss turned → ((g : ℕ) → g < m → getD turned (rep p (getD sites g 0)) 0 ≡ 0 → ⊥)
       → (h : ℕ) → h < m → Path H p boss (rep p (getD sites h 0)) (rep p (getD sites h 0)) → ⊥

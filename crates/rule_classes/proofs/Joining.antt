@@ -18,6 +18,7 @@ use Rattle.paper.specs.Numbers.{max-sites, Outcome, done, refused}
 use Rattle.paper.specs.Classes.{Classes, classes, no-classes, enter, unite, merge}
 use Rattle.paper.specs.Loading.{Holder, Together, written-so, itself, back, through}
 use Rattle.paper.proofs.Closure.{in-below}
+use Rattle.paper.proofs.Lists.{no-way}
 use Rattle.classes.specs.declared.Joined.{Joined}
 use Rattle.classes.specs.declared.Joined.the-variants as J
 use Rattle.classes.specs.Answers.{rep, joined, joined-by, two-classes}
@@ -29,7 +30,6 @@ use Rattle.classes.proofs.Calls.{merge-same, merge-done}
 use Rattle.classes.proofs.Uniting.{unites, rep-lone, rep-outside}
 use Rattle.classes.proofs.Merging.{empty-well}
 use Rattle.rule_rows.specs.Holding.{kid-in, eq-at, eqs-in, kept-by, merged, merge-each, Inside}
-use Rattle.rule_rows.proofs.Reading.{no-bool}
 use Rattle.rule_classes.specs.Growing.{One, Right, Grown, Equates, JoinsKids}
 
 -- ---- one join
@@ -43,7 +43,7 @@ unites-equates c d x y k U = record {
 
 self-equates : (c : Classes) (x y : ℕ) → WellMade c → x ≡ y → Equates (c .parents) (c .parents) (c .ranks) (c .count) x y false
 self-equates c x y W e = record {
-  grown = record { well = W; grows = λ u v o. o; same = λ o z. refl; fewer = λ o. no-bool (sym o) };
+  grown = record { well = W; grows = λ u v o. o; same = λ o z. refl; fewer = λ o. no-way (sym o) };
   joins = ap (rep (c .parents)) e;
   only = λ u v o. before o;
 }
@@ -96,11 +96,11 @@ abbrev pub Moved : Bool → Bool → Bool → Type 0
 Moved k j j' = ((k ≡ true) × (j' ≡ true)) ⊎ ((k ≡ false) × (j' ≡ j))
 
 pub not-moved : (k j j' : Bool) → Moved k j j' → j' ≡ false → (k ≡ false) × (j ≡ false)
-not-moved k j j' (inl e) f = no-bool (sym (e .1) ∙ f)
+not-moved k j j' (inl e) f = no-way (sym (e .1) ∙ f)
 not-moved k j j' (inr e) f = (e .0, sym (e .1) ∙ f)
 
 pub grown-none : (p r : List ℕ) (n : ℕ) → Well p r n → Grown p p r n false
-grown-none p r n W = record { well = W; grows = λ u v o. o; same = λ o z. refl; fewer = λ o. no-bool (sym o) }
+grown-none p r n W = record { well = W; grows = λ u v o. o; same = λ o z. refl; fewer = λ o. no-way (sym o) }
 
 count-same : (p q : List ℕ) → ((z : ℕ) → rep q z ≡ rep p z) → class-count q ≡ class-count p
 unfolding class-count

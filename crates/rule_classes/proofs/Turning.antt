@@ -16,13 +16,13 @@ use Rattle.paper.proofs.Laws.{same-constraint-true}
 use Rattle.paper.specs.Classes.{Classes}
 use Rattle.paper.specs.Loading.{Together, written-so, itself, back, through, like}
 use Rattle.paper.proofs.Closure.{of-below}
+use Rattle.paper.proofs.Lists.{no-way}
 use Rattle.rule_words.proofs.PackLaws.{same-refl}
 use Rattle.classes.specs.Answers.{rep}
 use Rattle.classes.specs.Well.{Well}
 use Rattle.rule_rows.specs.Holding.{Held, shape-in, kid-count, site-of, row-of, shape-of, count-of, kid-of, holder-in, holders-to, eq-at, eqs-in}
 use Rattle.rule_classes.specs.Growing.{One, Right, JoinsKids, mate, Kids, Rest, Meets, SweptTo, Closed}
 use Rattle.rule_rows.proofs.Holders.{same-count, in-holders, of-holders, in-zip, of-zip}
-use Rattle.rule_rows.proofs.Reading.{no-bool}
 use Rattle.rule_classes.proofs.Joining.{Moved, not-moved, grown-none, grown-then, Starts}
 
 -- ---- mates, as the code tests them
@@ -39,7 +39,7 @@ module _ (H : Held) where
 
   and-true : (s t : Bool) → (s && t) ≡ true → (s ≡ true) × (t ≡ true)
   and-true true t e = (refl, e)
-  and-true false t e = no-bool (sym e)
+  and-true false t e = no-way (sym e)
 
   pub mates-one : (p : List ℕ) (g h : ℕ) → mate H p g h ≡ true → (shape-of H g ≡ shape-of H h) × One p (site-of H g) (site-of H h)
   unfolding mate
@@ -76,7 +76,7 @@ module _ (H : Held) where
   meets-none p r n h W N = record {
     grown = grown-none p r n W;
     sound = λ E m l R. R;
-    rest = λ _ g l m first. no-bool (sym m ∙ N g l);
+    rest = λ _ g l m first. no-way (sym m ∙ N g l);
   }
 
   pub meets-join : (p q r : List ℕ) (n h g : ℕ) (k : Bool) → g < h → mate H p g h ≡ true → ((f : ℕ) → f < g → mate H p f h ≡ false)
@@ -90,8 +90,8 @@ module _ (H : Held) where
   }
     where
       at : k ≡ false → (g' : ℕ) → mate H p g' h ≡ true → ((f : ℕ) → f < g' → mate H p f h ≡ false) → Dec (g' < g) → Dec (g < g') → Kids H p g' h
-      at o g' m' first' (yes b) d = no-bool (sym m' ∙ first g' b)
-      at o g' m' first' (no d) (yes b) = no-bool (sym m ∙ first' g b)
+      at o g' m' first' (yes b) d = no-way (sym m' ∙ first g' b)
+      at o g' m' first' (no d) (yes b) = no-way (sym m ∙ first' g b)
       at o g' m' first' (no d) (no d') =
           let e : g' ≡ g = omega arith in
           subst⁻¹ (λ (x : ℕ). Kids H p x h) e (λ f b. sym (K .grown .same o (kid-of H g f)) ∙ (K .joined f b ∙ K .grown .same o (kid-of H h f)))
@@ -189,8 +189,8 @@ module _ (H : Held) where
         go (g, la, ma, na) (k, lb, mb, nb) = same (decLt g k) (decLt k g)
           where
             same : Dec (g < k) → Dec (k < g) → Kids H p a b
-            same (yes l) d = no-bool (sym ma ∙ (mates-as p g a b e o ∙ nb g l))
-            same (no d) (yes l) = no-bool (sym mb ∙ (sym (mates-as p k a b e o) ∙ na k l))
+            same (yes l) d = no-way (sym ma ∙ (mates-as p g a b e o ∙ nb g l))
+            same (no d) (yes l) = no-way (sym mb ∙ (sym (mates-as p k a b e o) ∙ na k l))
             same (no d) (no d') =
                 let q : k ≡ g = omega arith in
                 let A = with-first a g ha la ma na in

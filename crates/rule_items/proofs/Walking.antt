@@ -27,6 +27,7 @@ use Rattle.rule_rows.specs.Holding.{eqs-in, Inside}
 use Rattle.item_words.specs.Items.{item-at, items-in as held-items}
 use Rattle.item_words.proofs.Laws.{items-length, items-read}
 use Rattle.paper.specs.declared.Verdict.the-variants as verdict
+use Rattle.paper.proofs.Lists.{and-both}
 use Rattle.rule_hanging.specs.Seen.{shown, names}
 use Rattle.rule_items.specs.Shown.{roomy, AsLong}
 use Rattle.rule_items.specs.Way.{Way, Room, Space, Turn, Walk}
@@ -69,18 +70,14 @@ pub record Long (tail sites rows words kids eqs : List ℕ) : Type 0 where
   pub kids-long : 8 * max-items ≤ length kids
   pub eqs-long : 2 * max-items ≤ length eqs
 
-both : (s t : Bool) → (s && t) ≡ true → (s ≡ true) × (t ≡ true)
-both true t e = (refl, e)
-both false t e = let z : _≡_ {A = ℕ} 0 1 = cc in absurd (omega arith)
-
 pub long-of : (tail sites rows words kids eqs : List ℕ) → roomy tail sites rows words kids eqs ≡ true → Long tail sites rows words kids eqs
 unfolding roomy
 long-of tail sites rows words kids eqs e =
-    let a = both (leb (8 * max-items) (length tail)) _ e in
-    let b = both (leb max-items (length sites)) _ (a .1) in
-    let d = both (leb max-items (length rows)) _ (b .1) in
-    let f = both (leb (3 * max-items) (length words)) _ (d .1) in
-    let g = both (leb (8 * max-items) (length kids)) _ (f .1) in
+    let a = and-both (leb (8 * max-items) (length tail)) _ e in
+    let b = and-both (leb max-items (length sites)) _ (a .1) in
+    let d = and-both (leb max-items (length rows)) _ (b .1) in
+    let f = and-both (leb (3 * max-items) (length words)) _ (d .1) in
+    let g = and-both (leb (8 * max-items) (length kids)) _ (f .1) in
     record {
       tail-long = leb-true (8 * max-items) (length tail) (a .0);
       sites-long = leb-true max-items (length sites) (b .0);

@@ -19,6 +19,7 @@ use Rattle.paper.specs.Loading.{Kept, Set, Written, written, Loading, Solving, 
 use Rattle.paper.specs.Rules.{no-rule}
 use Rattle.paper.proofs.Outcomes.{done-once, bind-done, demand-done}
 use Rattle.paper.proofs.Making.{Loads, load-done, normalise-rounds}
+use Rattle.paper.proofs.Lists.{and-both}
 use Rattle.rule_words.specs.Stored.{run, base, stride, kept-in, kept-first, fits-in, put-rule, handed}
 use Rattle.rule_words.specs.Stored as stored
 use Rattle.rule_words.proofs.StoreLaws.{run-same, rule-length, written-kept, others-kept}
@@ -110,10 +111,6 @@ pub record Comes (m : List ℕ) (n : ℕ) (ws : List ℕ) (k : ℕ) (r : Rule) (
   pub room : length (solving .sites) * slot ≤ length m
   pub stride-there : base k + stride ≤ length ws
 
-both : (a b : Bool) → (a && b) ≡ true → (a ≡ true) × (b ≡ true)
-both true b e = (refl, e)
-both false b e = let z : _≡_ {A = ℕ} 0 1 = cc in absurd (omega arith)
-
 pub kept-comes : (m : List ℕ) (n : ℕ) (ws : List ℕ) (k : ℕ) (r : Rule) (g : Set) → load-in m n ws k r ≡ done g → Comes m n ws k r g
 unfolding admitted settled
 kept-comes m n ws k r g e =
@@ -131,7 +128,7 @@ kept-comes m n ws k r g e =
       few = leb-true _ _ (u .0);
       few-equal = leb-true _ _ (v .0);
       room = leb-true _ _ (w .0);
-      stride-there = leb-true _ _ (both (ltb k max-rules) _ (a .0) .1);
+      stride-there = leb-true _ _ (and-both (ltb k max-rules) _ (a .0) .1);
     }
   where
     again : (o : Outcome (Unit {0})) (t : Unit {0}) → o ≡ done t → (o >>= done) ≡ done t
@@ -212,7 +209,7 @@ module _ (m : List ℕ) (n : ℕ) (ws : List ℕ) (k : ℕ) (r : Rule) where
     pub after-bodies : Bodies m n → Bodies (sites-after m n (done g)) (length (g .sites))
     after-bodies = grown-bodies m n (g .sites) (widens-grows (sites-in m n) (g .sites) after-widens) room-there
 
-    -- both memories are as long as they were
+    -- and-both memories are as long as they were
     pub after-long : length (sites-after m n (done g)) ≡ length m
     after-long = long-after m n (g .sites) (widens-grows (sites-in m n) (g .sites) after-widens) room-there
 

@@ -9,6 +9,7 @@ use Rattle.paper.specs.declared.Constraint.{Constraint}
 use Rattle.paper.specs.Words.{below, joined}
 use Rattle.paper.specs.Numbers.{max-equal}
 use Rattle.paper.specs.Loading.{Labels, Constraints}
+use Rattle.paper.proofs.Lists.{map-append}
 use Rattle.rule_words.specs.Packing.{head, second, third, unpack}
 use Rattle.rule_words.specs.Stored.{constraint-at}
 use Rattle.rule_words.proofs.PackLaws.{pack-unpack}
@@ -28,10 +29,6 @@ pub below-same : {A : Type 0} (n : ℕ) (f g : ℕ → A) → ((i : ℕ) → i <
 unfolding below
 below-same zero f g h = refl
 below-same (suc n) f g h = let x = below-same n f g (λ i l. h i (omega arith)) in let y = h n (omega arith) in rw (x, y)
-
-map-append : {A B : Type 0} (f : A → B) (x y : List A) → map f (x ++ y) ≡ map f x ++ map f y
-map-append f [] y = refl
-map-append f (a ∷ x) y = ap (λ l. f a ∷ l) (map-append f x y)
 
 pub map-below : {A B : Type 0} (f : A → B) (n : ℕ) (g : ℕ → A) → map f (below n g) ≡ below n (λ i. f (g i))
 unfolding below

@@ -15,6 +15,7 @@ use Rattle.paper.specs.Words.{any}
 use Rattle.paper.specs.Numbers.{max-sites, max-rules, max-items, max-constrained, max-equal, most-rounds, Outcome, done, refused, _>>=_, demand}
 use Rattle.paper.specs.Loading.{Kept, Set, Written, written, Loading, Solving, load-items, hanging, no-hanging, closure, holders, conflict, check-4, steps, endless, no-endless, rounds, started, normalise, with-rule, used, load, no-items}
 use Rattle.paper.proofs.Outcomes.{done-once, bind-done, demand-done}
+use Rattle.paper.proofs.Lists.{and-both}
 use Rattle.rule_words.specs.Stored.{run, base, stride, kept-in, kept-first}
 use Rattle.sites.specs.Slots.{slot, sites-in}
 use Rattle.sites.proofs.Places.{sites-length}
@@ -70,10 +71,6 @@ module _ {L S G : Type 0} (h four six : L → Outcome (Unit {0})) (turn : L → 
     regrouped (refused e) = refl
     regrouped (done l) = first-on l (h l)
 
-both : (a b : Bool) → (a && b) ≡ true → (a ≡ true) × (b ≡ true)
-both true b e = (refl, e)
-both false b e = let z : _≡_ {A = ℕ} 0 1 = cc in absurd (omega arith)
-
 module _ (m : List ℕ) (n : ℕ) (ws : List ℕ) (k : ℕ) (r : Rule) where
   -- the checks before the items, and the two that the items repeat
   pub parts : load-in m n ws k r ≡ by-parts m n ws k (written r)
@@ -81,7 +78,7 @@ module _ (m : List ℕ) (n : ℕ) (ws : List ℕ) (k : ℕ) (r : Rule) where
   parts = go (ltb k max-rules && leb (base k + stride) (length ws)) (leb n max-sites) (leb (r .count) max-items) (has-place ws k (r .place)) refl refl refl refl
     where
       few : (ltb k max-rules && leb (base k + stride) (length ws)) ≡ true → ltb (length (kept-first ws k)) max-rules ≡ true
-      few e = ap (λ j. ltb j max-rules) (first-length ws k) ∙ both (ltb k max-rules) _ e .0
+      few e = ap (λ j. ltb j max-rules) (first-length ws k) ∙ and-both (ltb k max-rules) _ e .0
 
       go : (a b c d : Bool) → (ltb k max-rules && leb (base k + stride) (length ws)) ≡ a → leb n max-sites ≡ b → leb (r .count) max-items ≡ c → has-place ws k (r .place) ≡ d → load-in m n ws k r ≡ by-parts m n ws k (written r)
       go false b c d ea eb ec ed = rw ea

@@ -17,13 +17,11 @@ use Rattle.paper.specs.declared.Constraint.the-variants.{Some}
 use Rattle.paper.specs.Words.{if_then_else_, or-else, first}
 use Rattle.paper.specs.Numbers.{max-sites, max-fields}
 use Rattle.paper.specs.Sites.{same-constraint, child-count}
+use Rattle.paper.proofs.Lists.{no-way, and-both}
 use Rattle.rule_words.specs.Packing.{unpack}
 use Rattle.rule_words.specs.Stored.{constraint-at}
 use Rattle.rule_words.proofs.PackLaws.{same-words, other-head, other-second, other-third, as-other}
 use Rattle.rule_rows.specs.Holding.{Inside, shape-in, kid-count, kid-in, stray}
-
-pub no-bool : {A : Type 0} → true ≡ false → A
-no-bool e = let z : _≡_ {A = ℕ} 0 1 = cc in absurd (omega arith)
 
 -- ---- alike
 
@@ -52,10 +50,6 @@ choose : (P : Constraint → Type 0) (t : Bool) (x y : Constraint) → (t ≡ tr
 choose P true x y f h = f refl
 choose P false x y f h = h
 
-both : (s t : Bool) → (s && t) ≡ true → (s ≡ true) × (t ≡ true)
-both true t e = (refl, e)
-both false t e = no-bool (sym e)
-
 module _ (a b c : ℕ) where
   count-int : a / 65536 ≡ 3 → child-count (unpack a b c) ≡ 0
   unfolding unpack
@@ -73,7 +67,7 @@ module _ (a b c : ℕ) where
   count-none : c ≡ 0 → (a / 65536 ≡ 1 → ⊥) → (a ≡ 327680 → b ≡ 0 → ⊥) → child-count (unpack a b c) ≡ 0
   unfolding unpack
   count-none z k s =
-      choose (λ t. child-count t ≡ 0) (eqb (a / 65536) 1 && eqb c 0) _ _ (λ e. absurd (k (eqb-true (a / 65536) 1 (both _ _ e .0))))
+      choose (λ t. child-count t ≡ 0) (eqb (a / 65536) 1 && eqb c 0) _ _ (λ e. absurd (k (eqb-true (a / 65536) 1 (and-both _ _ e .0))))
       (choose (λ t. child-count t ≡ 0) (eqb (a / 65536) 2 && (ltb b 2 && eqb c 0)) _ _ (λ e. refl)
       (choose (λ t. child-count t ≡ 0) (eqb (a / 65536) 3) _ _ (λ e. refl)
       (choose (λ t. child-count t ≡ 0) (eqb (a / 65536) 4 && (eqb b 0 && eqb c 0)) _ _ (λ e. refl)
@@ -81,9 +75,9 @@ module _ (a b c : ℕ) where
     where
       some-one : (eqb (a / 65536) 5 && (eqb (a % 65536) 0 && (eqb b 0 && eqb c 0))) ≡ true → child-count Some ≡ 0
       some-one e =
-          let u = both (eqb (a / 65536) 5) (eqb (a % 65536) 0 && (eqb b 0 && eqb c 0)) e in
-          let v = both (eqb (a % 65536) 0) (eqb b 0 && eqb c 0) (u .1) in
-          let w = both (eqb b 0) (eqb c 0) (v .1) in
+          let u = and-both (eqb (a / 65536) 5) (eqb (a % 65536) 0 && (eqb b 0 && eqb c 0)) e in
+          let v = and-both (eqb (a % 65536) 0) (eqb b 0 && eqb c 0) (u .1) in
+          let w = and-both (eqb b 0) (eqb c 0) (v .1) in
           let p = eqb-true (a / 65536) 5 (u .0) in
           let q = eqb-true (a % 65536) 0 (v .0) in
           absurd (s (omega arith) (eqb-true b 0 (w .0)))

@@ -10,15 +10,8 @@ use Rattle.paper.specs.declared.Constraint.the-variants.{Variant, Struct, Const
 use Rattle.paper.specs.Words.{if_then_else_, flag}
 use Rattle.paper.specs.Sites.{same-constraint, constraint-body}
 use Rattle.paper.proofs.Laws.{same-list-refl, same-constraint-true}
+use Rattle.paper.proofs.Lists.{and-both, and-false}
 use Rattle.rule_words.specs.Packing.{head, second, third, unpack, narrow, InRange}
-
-both : (s t : Bool) → (s && t) ≡ true → (s ≡ true) × (t ≡ true)
-both true t e = (refl, e)
-both false t e = let z : _≡_ {A = ℕ} 0 1 = cc in absurd (omega arith)
-
-and-no : (t : Bool) → (t && false) ≡ false
-and-no true = refl
-and-no false = refl
 
 choose : (P : Constraint → Type 0) (t : Bool) (x y : Constraint) → (t ≡ true → P x) → P y → P (if t then x else y)
 choose P true x y f h = f refl
@@ -55,14 +48,14 @@ pack-unpack a b c = choose (Packs a b c) struct? _ _ struct (choose (Packs a b c
 
     struct : struct? ≡ true → Packs a b c (Struct (a % 65536) b)
     struct e =
-        let p = both (eqb (a / 65536) 1) (eqb c 0) e in
+        let p = and-both (eqb (a / 65536) 1) (eqb c 0) e in
         let u = eqb-true (a / 65536) 1 (p .0) in
         (omega arith, (refl, sym (eqb-true c 0 (p .1))))
 
     bool : bool? ≡ true → Packs a b c (ConstBool (a % 65536) (eqb b 1))
     bool e =
-        let p = both (eqb (a / 65536) 2) (ltb b 2 && eqb c 0) e in
-        let q = both (ltb b 2) (eqb c 0) (p .1) in
+        let p = and-both (eqb (a / 65536) 2) (ltb b 2 && eqb c 0) e in
+        let q = and-both (ltb b 2) (eqb c 0) (p .1) in
         let u = eqb-true (a / 65536) 2 (p .0) in
         (omega arith, (flag-of b (eqb b 1) refl (ltb-true b 2 (q .0)), sym (eqb-true c 0 (q .1))))
 
@@ -71,16 +64,16 @@ pack-unpack a b c = choose (Packs a b c) struct? _ _ struct (choose (Packs a b c
 
     prim : prim? ≡ true → Packs a b c (ConstPrim (a % 65536))
     prim e =
-        let p = both (eqb (a / 65536) 4) (eqb b 0 && eqb c 0) e in
-        let q = both (eqb b 0) (eqb c 0) (p .1) in
+        let p = and-both (eqb (a / 65536) 4) (eqb b 0 && eqb c 0) e in
+        let q = and-both (eqb b 0) (eqb c 0) (p .1) in
         let u = eqb-true (a / 65536) 4 (p .0) in
         (omega arith, (sym (eqb-true b 0 (q .0)), sym (eqb-true c 0 (q .1))))
 
     some-one : some? ≡ true → Packs a b c Some
     some-one e =
-        let p = both (eqb (a / 65536) 5) (eqb (a % 65536) 0 && (eqb b 0 && eqb c 0)) e in
-        let o = both (eqb (a % 65536) 0) (eqb b 0 && eqb c 0) (p .1) in
-        let q = both (eqb b 0) (eqb c 0) (o .1) in
+        let p = and-both (eqb (a / 65536) 5) (eqb (a % 65536) 0 && (eqb b 0 && eqb c 0)) e in
+        let o = and-both (eqb (a % 65536) 0) (eqb b 0 && eqb c 0) (p .1) in
+        let q = and-both (eqb b 0) (eqb c 0) (o .1) in
         let u = eqb-true (a / 65536) 5 (p .0) in
         let v = eqb-true (a % 65536) 0 (o .0) in
         (omega arith, (sym (eqb-true b 0 (q .0)), sym (eqb-true c 0 (q .1))))
@@ -112,7 +105,7 @@ module _ (a b c : ℕ) where
 
   pub as-other : (a / 65536 ≡ 3 → ⊥) → (c ≡ 0 → ⊥) → unpack a b c ≡ Variant a b c
   unfolding unpack
-  as-other k z = simp (ne-eqb _ _ k, ne-eqb _ _ z, and-no)
+  as-other k z = simp (ne-eqb _ _ k, ne-eqb _ _ z, and-false)
 
   pub as-struct : c ≡ 0 → a / 65536 ≡ 1 → Struct (a % 65536) (b % 256) ≡ narrow (unpack a b c)
   unfolding unpack
@@ -128,7 +121,7 @@ module _ (a b c : ℕ) where
 
   pub as-not-prim : (a / 65536 ≡ 3 → ⊥) → (a / 65536 ≡ 1 → ⊥) → (a / 65536 ≡ 2 → ⊥) → (b ≡ 0 → ⊥) → unpack a b c ≡ Variant a b c
   unfolding unpack
-  as-not-prim k l m z = simp (ne-eqb _ _ k, ne-eqb _ _ l, ne-eqb _ _ m, ne-eqb _ _ z, and-no)
+  as-not-prim k l m z = simp (ne-eqb _ _ k, ne-eqb _ _ l, ne-eqb _ _ m, ne-eqb _ _ z, and-false)
 
   pub as-prim : c ≡ 0 → b ≡ 0 → a / 65536 ≡ 4 → ConstPrim (a % 65536) ≡ narrow (unpack a b c)
   unfolding unpack

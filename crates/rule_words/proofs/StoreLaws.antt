@@ -15,6 +15,7 @@ use Rattle.paper.specs.Words.{if_then_else_}
 use Rattle.paper.specs.Numbers.{max-constrained, max-equal}
 use Rattle.paper.specs.Loading.{Kept}
 use Rattle.paper.specs.Rules.{rank}
+use Rattle.paper.proofs.Lists.{and-both}
 use Rattle.rule_words.specs.Packing.{unpack}
 use Rattle.rule_words.specs.Stored.{first-constrained, first-equal, stride, constrained-word, equal-word, run, base, place-at, rank-at, count-at, constrained-count, equal-count, constraint-at, constrained-at, equal-at, kept-at, kept-in, put-two, put-four, put-constrained, put-equal, put-rule, fits-in, written, handed}
 use Rattle.rule_words.proofs.CountLaws.{rank-rank}
@@ -265,9 +266,6 @@ module _ (ws : List ℕ) (b p q : ℕ) (ss sh es lo : List ℕ) where
           rw (a, c, d, e)
 
 -- ---- the whole of `written`
-both : (s t : Bool) → (s && t) ≡ true → (s ≡ true) × (t ≡ true)
-both true t e = (refl, e)
-both false t e = let z : _≡_ {A = ℕ} 0 1 = cc in absurd (omega arith)
 
 apart : (i j q : ℕ) → (i ≡ j → ⊥) → base j ≤ q → q < base j + stride → Out q (base i) stride
 unfolding base
@@ -280,8 +278,8 @@ apart i j q n h k = go (decLt i j)
 outside-as : (ws : List ℕ) (i p q : ℕ) (ss sh es lo : List ℕ) (r : ℕ) → Out r (base i) stride → (t : Bool) → fits-in ws i ss es ≡ t → getD (written ws i p q ss sh es lo) r 0 ≡ getD ws r 0
 unfolding written fits-in
 outside-as ws i p q ss sh es lo r o true e =
-    let a = both _ _ e in
-    let b = both _ _ (a .1) in
+    let a = and-both _ _ e in
+    let b = and-both _ _ (a .1) in
     rw e (rule-out ws (base i) p q ss sh es lo (leb-true _ _ (a .0)) (leb-true _ _ (b .0)) r o)
 outside-as ws i p q ss sh es lo r o false e = rw e
 
@@ -290,8 +288,8 @@ module _ (ws : List ℕ) (i p q : ℕ) (ss sh es lo : List ℕ) where
   pub written-kept : p < 4294967296 → q < 18446744073709551616 → fits-in ws i ss es ≡ true → kept-in (written ws i p q ss sh es lo) i ≡ handed p q ss sh es lo
   unfolding kept-in written fits-in
   written-kept hp hq e =
-      let a = both _ _ e in
-      let b = both _ _ (a .1) in
+      let a = and-both _ _ e in
+      let b = and-both _ _ (a .1) in
       rw e (rule-kept ws (base i) p q ss sh es lo (leb-true _ _ (a .0)) (leb-true _ _ (b .0)) (leb-true _ _ (b .1)) hp hq)
 
   -- and every other rule stays as it was

@@ -11,6 +11,7 @@ use borrow.Author.Tests.{le-leb, lt-leb}
 use Rattle.paper.specs.Words.{if_then_else_}
 use Rattle.paper.specs.Numbers.{max-constrained, max-equal}
 use Rattle.paper.specs.Rules.{rank}
+use Rattle.paper.proofs.Lists.{and-false}
 use Rattle.rule_words.specs.Stored.{constrained-word, equal-word, stride, base, put-two, put-four, put-constrained, put-equal, put-rule, fits-in, written}
 
 pub two-put : (ws v w : List ℕ) (p a b : ℕ) → v ≡ set ws p a → w ≡ set v (p + 1) b → w ≡ put-two ws p a b
@@ -41,9 +42,6 @@ pub upto : (f : ℕ → List ℕ) (w : List ℕ) (k n : ℕ) → k ≤ n → n �
 upto f w k n h l e = let z : k ≡ n = omega arith in e ∙ ap f z
 
 -- ---- the whole
-and-no : (t : Bool) → (t && false) ≡ false
-and-no true = refl
-and-no false = refl
 
 fit-all : (ws : List ℕ) (i : ℕ) (ss es : List ℕ) → length ss ≤ max-constrained → length es ≤ max-equal → base i + stride ≤ length ws → fits-in ws i ss es ≡ true
 unfolding fits-in
@@ -67,13 +65,13 @@ module _ (ws : List ℕ) (i p q : ℕ) (ss sh es lo : List ℕ) where
 
   pub many-equal : max-equal < length es → Refused
   unfolding fits-in
-  many-equal h = refused (rw (lt-leb (length es) max-equal h) (and-no (leb (length ss) max-constrained)))
+  many-equal h = refused (rw (lt-leb (length es) max-equal h) (and-false (leb (length ss) max-constrained)))
 
   pub short : (b : ℕ) → b ≡ base i → length ws < b + stride → Refused
   unfolding fits-in
   short b e h =
       let k : length ws < base i + stride = omega arith in
-      refused (rw (lt-leb (base i + stride) (length ws) k, and-no (leb (length es) max-equal)) (and-no (leb (length ss) max-constrained)))
+      refused (rw (lt-leb (base i + stride) (length ws) k, and-false (leb (length es) max-equal)) (and-false (leb (length ss) max-constrained)))
 
   pub stored : (b v n m : ℕ) (w x y : List ℕ) → b ≡ base i → length ss ≤ max-constrained → length es ≤ max-equal → b + stride ≤ length ws → v ≡ rank q → n ≡ length ss → m ≡ length es
       → w ≡ put-four ws b p v n m → x ≡ put-constrained w b ss sh n → y ≡ put-equal x b es lo m

@@ -9,6 +9,7 @@ use lib.ListN.{length, getD, take, set}
 use borrow.Author.Tests.{lt-ltb, le-ltb}
 use Rattle.paper.specs.Text.{unended}
 use Rattle.paper.specs.Classes.{Classes}
+use Rattle.paper.proofs.Lists.{not-true}
 use Rattle.class_script.specs.Script.{stepped, call-in}
 use Rattle.class_script.specs.declared.Reply.{Reply}
 use Rattle.class_script.specs.declared.Reply.the-variants as reply
@@ -47,10 +48,6 @@ keep-on line used b h = let e = lt-ltb used (length line) h in (rw e, rw e)
 
 pub keep-past : (line : List ℕ) (used b : ℕ) → length line ≤ used → (line ≡ kept-line line used b) × (suc line-room ≡ kept-used line used)
 keep-past line used b h = let e = le-ltb used (length line) h in (rw e, rw e)
-
-pub stops : (b : Bool) → not b ≡ true → b ≡ false
-stops true e = sym e
-stops false e = refl
 
 pub goes : (b : Bool) → not b ≡ false → b ≡ true
 goes true e = refl

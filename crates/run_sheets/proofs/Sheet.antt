@@ -18,6 +18,7 @@ use Rattle.paper.specs.Layout as layout
 use Rattle.paper.specs.Layout.{Lines, nothing, unended, line, lines, push, begin-set, a-site, a-rule, an-item, end-set, frame-of}
 use Rattle.paper.specs.Sheets as paper
 use Rattle.paper.specs.Sheets.{Open, outside, at-sites, at-rules, at-items, step, with-item, act-on, findings}
+use Rattle.paper.proofs.Lists.{no-way, not-true}
 use Rattle.sheet_findings.specs.Written.{written-at}
 use Rattle.sheet_lines.specs.declared.Held.{Held}
 use Rattle.sheet_lines.specs.Held.{Holds, held-in, no-line, held-more, more-holds, nothing-holds}
@@ -46,9 +47,6 @@ use Rattle.run_lines.specs.declared.Flow.{Flow}
 use Rattle.run_lines.specs.Taken.{goes-on, need, spared, written-out, free-in, Took, state-of, Told-last, Closed, fresh-flow, Passed, Taken}
 use Rattle.run_lines.proofs.InOrder.{spared-room, in-order, check-line, written-there}
 use Rattle.run_sheets.specs.Chunks.{Standing, stand, Takes, Took-lines, Took-all, Ran}
-
-no-way : {A : Type 0} → true ≡ false → A
-no-way e = let z : _≡_ {A = ℕ} 0 1 = cc in absurd (omega arith)
 
 -- ---- after a line that is read the sheet goes on
 rule-on : (g : Set) (r : Written) → goes-on (rule-event g r) ≡ true
@@ -123,10 +121,6 @@ sent-on s e = rw e
 sent-none : (s : Standing) → s .flow .marks .goes ≡ false → sent s ≡ []
 unfolding sent
 sent-none s e = rw e
-
-not-stopped : (b : Bool) → not b ≡ true → b ≡ false
-not-stopped true e = no-way (sym e)
-not-stopped false e = refl
 
 -- ---- lengths
 wrote-long : (s m : List ℕ) (at : ℕ) → length (wrote (m, at) s .0) ≡ length m
@@ -335,7 +329,7 @@ chunk-lines (line l r) s u g h (going d at k) f fine on w =
     (line-then s (w .0) u g h (line-with g l) l (unlines r) (sent-lines r no-line (w .0) u h (w .2)) d at (held-in g) (w .1) fine (subst (λ (k : List ℕ). Going (state-in s g) (s .memory) d at k) (sym a) on) (f .0) (step-with d at g l (on .whole))
     (λ p q. chunk-lines r (w .0) u no-line h (after-line at o .reading) (f .1) p q (w .2)))
 chunk-lines (line l r) s u g h stopped f fine on w =
-    let off = not-stopped (s .flow .marks .goes) on in
+    let off = not-true (s .flow .marks .goes) on in
     let e : w .0 ≡ s = passed-is (line-with g l) s (w .0) (w .1) fine off in
     let v = chunk-lines r (w .0) u no-line h stopped (f .1) (subst Fine (sym e) fine) (subst (λ (z : Standing). On z no-line stopped) (sym e) on) (w .2) in
     let n : fed-all stopped (l ++ (line-feed ∷ unlines r)) ≡ fed-all stopped (unlines r) = stays (l ++ (line-feed ∷ unlines r)) ∙ sym (stays (unlines r)) in
@@ -401,7 +395,7 @@ module _ (u : Standing) (h : Held) (room′ out′ : List ℕ) (n : ℕ) (x : Cl
       let p : part-of room′ 0 (to-or (y .said) 0) ≡ t = part-at-end (u .room) room′ t (y .said) (e .into) (e .is) in
       in-order (u .out) out′ t (u .flow .marks) n (fine .out) (fine .filled) (omega arith) (y .answers ∙ ap (λ z. wrote (free-in (u .out) (u .flow .marks)) z) p)
   end-check stopped on =
-      let off = not-stopped (u .flow .marks .goes) on in
+      let off = not-true (u .flow .marks .goes) on in
       in-order (u .out) out′ [] (u .flow .marks) n (fine .out) (fine .filled) (omega arith) (x .stopped off .0 ∙ texts.nothing (free-in (u .out) (u .flow .marks)))
 
 -- all that `check` writes out of one sheet, in pieces of any size: with its lines, before its end, and what the buffer then has

@@ -20,9 +20,10 @@ use Rattle.paper.specs.Terms.{Head, head-of, is-rec, edge-to, edges-of, cyclic-
 use Rattle.paper.specs.Layout.{hex}
 use Rattle.paper.specs.Sheets as paper
 use Rattle.paper.specs.Sheets.{Stepped, stepped, start, at-sites, term-found, end-found, set-begun}
+use Rattle.paper.proofs.Lists.{no-way, map-last, or-cases, or-left, or-right}
 use Rattle.term_table.specs.Table.{Square, terms, words, in-row, has-term, no-marks, no-edges, with-term, with-terms, with-edges, left, unflagged}
 use Rattle.term_table.specs.Heads.{Between, Sheeted, rec-marks}
-use Rattle.term_table.proofs.Lists.{no-way, keep-in, keep-out, keep-nil, keep-append, in-map, Mapped, mapped, of-map}
+use Rattle.term_table.proofs.Lists.{keep-in, keep-out, keep-nil, keep-append, in-map, Mapped, mapped, of-map}
 use Rattle.term_table.proofs.Closing.{same-test}
 use Rattle.term_table.proofs.Marks.{none-row}
 use Rattle.term_table.proofs.Adding.{edges-append, terms-marked}
@@ -53,16 +54,6 @@ holds-none = record {
 }
 
 -- ---- a term that was used
-or-cases : (x y : Bool) → (x || y) ≡ true → (x ≡ true) ⊎ (y ≡ true)
-or-cases true y e = inl refl
-or-cases false y e = inr e
-
-or-first : (x y : Bool) → x ≡ true → (x || y) ≡ true
-or-first x y e = rw e refl
-
-or-next : (x y : Bool) → y ≡ true → (x || y) ≡ true
-or-next true y e = refl
-or-next false y e = e
 
 any-in : (t : ℕ) (hs : List Head) → any (λ h. eqb (h .term) t) hs ≡ true → List·Memᴰ t (map term-in hs)
 unfolding any
@@ -72,7 +63,7 @@ any-in t (h ∷ hs) e = ⊎-elim (λ x. List·Memᴰ·head (sym (eqb-true (h .te
 in-any : (t : ℕ) (hs : List Head) → List·Memᴰ t (map term-in hs) → any (λ h. eqb (h .term) t) hs ≡ true
 unfolding any
 in-any t [] m = absurd (List·Memᴰ·not-nil m)
-in-any t (h ∷ hs) m = ⊎-elim (λ x. or-first (eqb (h .term) t) _ (eq-eqb (h .term) t (sym x))) (λ x. or-next (eqb (h .term) t) _ (in-any t hs x)) (List·Memᴰ·cases-cons m)
+in-any t (h ∷ hs) m = ⊎-elim (λ x. or-left (eqb (h .term) t) _ (eq-eqb (h .term) t (sym x))) (λ x. or-right (eqb (h .term) t) _ (in-any t hs x)) (List·Memᴰ·cases-cons m)
 
 no-words : length no-marks ≡ words
 unfolding no-marks
@@ -122,10 +113,6 @@ mem-left (x ∷ s) t m = ⊎-elim (λ e. List·Memᴰ·head e) (λ n. List·Mem�
 mem-right : {A : Type 0} {a : A} (s t : List A) → List·Memᴰ a t → List·Memᴰ a (s ++ t)
 mem-right [] t m = m
 mem-right (x ∷ s) t m = List·Memᴰ·tail (mem-right s t m)
-
-map-snoc : {A B : Type 0} (f : A → B) (xs : List A) (x : A) → map f (xs ++ (x ∷ [])) ≡ map f xs ++ (f x ∷ [])
-map-snoc f [] x = refl
-map-snoc f (y ∷ xs) x = ap (λ r. f y ∷ r) (map-snoc f xs x)
 
 terms-snoc : (r ts : List ℕ) (x : ℕ) → with-terms r (ts ++ (x ∷ [])) ≡ marked-by (with-terms r ts) x
 unfolding with-terms
@@ -185,14 +172,14 @@ module _ (e : EndedSets) (t : Square) (p : paper.Ended) (g : Set) (H : Holds e t
       go : (b : Bool) → is-rec h ≡ b → recs-with (e .recs) (g .term) (g .flags) ≡ rec-marks term-in is-rec (hs ++ (h ∷ []))
       go true q =
           let k : keep is-rec (h ∷ []) ≡ h ∷ [] = keep-in is-rec h [] q ∙ ap (λ r. h ∷ r) (keep-nil is-rec) in
-          let x : with-terms no-marks (map term-in (keep is-rec hs ++ (h ∷ []))) ≡ marked-by (rec-marks term-in is-rec hs) (g .term) = ap (with-terms no-marks) (map-snoc term-in (keep is-rec hs) h) ∙ (terms-snoc no-marks (map term-in (keep is-rec hs)) (h .term) ∙ ap (marked-by (rec-marks term-in is-rec hs)) (head-term g)) in
+          let x : with-terms no-marks (map term-in (keep is-rec hs ++ (h ∷ []))) ≡ marked-by (rec-marks term-in is-rec hs) (g .term) = ap (with-terms no-marks) (map-last term-in (keep is-rec hs) h) ∙ (terms-snoc no-marks (map term-in (keep is-rec hs)) (h .term) ∙ ap (marked-by (rec-marks term-in is-rec hs)) (head-term g)) in
           recs-yes (e .recs) g q ∙ (ap (λ r. marked-by r (g .term)) (H .recs) ∙ sym (front (h ∷ []) k ∙ x))
       go false q =
           let k : keep is-rec (h ∷ []) ≡ [] = keep-out is-rec h [] q ∙ keep-nil is-rec in
           recs-no (e .recs) g q ∙ (H .recs ∙ sym (front [] k ∙ ap (λ l. with-terms no-marks (map term-in l)) (append-nil (keep is-rec hs))))
 
   used-more : marked-by (e .used) (g .term) ≡ with-terms no-marks (map term-in (hs ++ (h ∷ [])))
-  used-more = ap (λ r. marked-by r (g .term)) (H .used) ∙ sym (ap (with-terms no-marks) (map-snoc term-in hs h) ∙ (terms-snoc no-marks (map term-in hs) (h .term) ∙ ap (marked-by (with-terms no-marks (map term-in hs))) (head-term g)))
+  used-more = ap (λ r. marked-by r (g .term)) (H .used) ∙ sym (ap (with-terms no-marks) (map-last term-in hs h) ∙ (terms-snoc no-marks (map term-in hs) (h .term) ∙ ap (marked-by (with-terms no-marks (map term-in hs))) (head-term g)))
 
   table-more : with-edges t (edges-from (g .term) (g .sites)) ≡ with-edges no-edges (p .edges ++ edges-of g)
   table-more = rw (H .table, ← edges-are g) (sym (edges-append (p .edges) (edges-of g) no-edges))
@@ -218,7 +205,7 @@ module _ (e : EndedSets) (t : Square) (p : paper.Ended) (g : Set) (H : Holds e t
   from-starts a b (site s m q r) = rw (q ∙ sym (head-term g)) (in-map term-in h (hs ++ (h ∷ [])) (mem-right hs (h ∷ []) (List·Memᴰ·head refl)))
 
   old-starts : (a : ℕ) → List·Memᴰ a (map term-in hs) → List·Memᴰ a (map term-in (hs ++ (h ∷ [])))
-  old-starts a m = rw (map-snoc term-in hs h) (mem-left (map term-in hs) (h .term ∷ []) m)
+  old-starts a m = rw (map-last term-in hs h) (mem-left (map term-in hs) (h .term ∷ []) m)
 
   sheeted-more : Sheeted term-in is-rec (hs ++ (h ∷ [])) (p .edges ++ edges-of g)
   unfolding Between

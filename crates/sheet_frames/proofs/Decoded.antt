@@ -13,6 +13,7 @@ use borrow.Author.Tests.{lt-ltb, le-ltb, le-leb, lt-leb, ltb-true}
 use Rattle.paper.specs.Words.{if_then_else_}
 use Rattle.paper.specs.Numbers.{max-digits}
 use Rattle.paper.specs.Layout.{digit, with-byte, bytes, line-bytes}
+use Rattle.paper.proofs.Lists.{drop-all}
 use Rattle.sheet_frames.specs.declared.Bytes.{Bytes}
 use Rattle.sheet_frames.specs.declared.digits.Taken.{Taken}
 use Rattle.sheet_frames.specs.Said.{max-bytes, pair-value, padded, bytes-said, Takes}
@@ -78,12 +79,6 @@ drop-set : (l : List ℕ) (n b : ℕ) → drop (suc n) (set l n b) ≡ drop (suc
 drop-set [] n b = refl
 drop-set (x ∷ l) zero b = refl
 drop-set (x ∷ l) (suc n) b = drop-set l n b
-
-drop-all : (l : List ℕ) (n : ℕ) → length l ≤ n → drop n l ≡ []
-drop-all [] zero h = refl
-drop-all [] (suc n) h = refl
-drop-all (x ∷ l) zero h = absurd (omega arith)
-drop-all (x ∷ l) (suc n) h = drop-all l n (omega arith)
 
 drop-zeros : (n : ℕ) → 0 < n → drop {A = ℕ} 1 (replicate n 0) ≡ replicate (n - 1) 0
 drop-zeros zero h = absurd (omega arith)

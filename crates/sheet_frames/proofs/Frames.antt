@@ -14,6 +14,7 @@ use Rattle.paper.specs.declared.Item.the-variants.{Is, Equal}
 use Rattle.paper.specs.Sites.{Site}
 use Rattle.paper.specs.Layout as layout
 use Rattle.paper.specs.Layout.{Reads, then-read, give, _&_, refuse, byte, number-from, bool-byte, site-read, constraint-readers, constraint-read, flags-byte, frame-readers, frame-read, whole, begin-set, a-site, a-rule, an-item, end-set}
+use Rattle.paper.proofs.Lists.{rest-of}
 use Rattle.sheet_frames.specs.declared.Frame.{Frame}
 use Rattle.sheet_frames.specs.declared.Frame.the-variants as said
 use Rattle.sheet_frames.specs.declared.layout.Shape.{Shape}
@@ -322,8 +323,6 @@ take-all (x ∷ t) zero h = absurd (omega arith)
 take-all (x ∷ t) (suc m) h = ap (λ u. x ∷ u) (take-all t m (omega arith))
 
 -- `&s[n..]`
-pub rest-of : (s : List ℕ) (n : ℕ) → take (length s - n) (drop n s) ≡ drop n s
-rest-of s n = take-all (drop n s) (length s - n) (let e = length-drop n s in omega arith)
 
 pub site-body-is : (s : List ℕ) (r t : Bool) → 0 < length s → getD s 0 0 ≡ 2 → r ≡ is-body (take (length s - 1) (drop 1 s)) → r ≡ t → frame-in s ≡ elim t as (λ _. Frame) [ true ↦ said.Site | false ↦ said.Wrong ]
 site-body-is s r t h k f e = frame-site s t h k (sym e ∙ (f ∙ ap is-body (rest-of s 1)))

@@ -11,6 +11,7 @@ use borrow.Author.Tests.{le-leb, lt-leb, leb-true, leb-false, eq-eqb, ne-eqb, eq
 use Rattle.paper.specs.Words.{if_then_else_}
 use Rattle.paper.specs.Sheets.{Reader, step}
 use Rattle.paper.specs.Layout.{Lines, nothing, unended, line, lines, push}
+use Rattle.paper.proofs.Lists.{no-way}
 use Rattle.sheet_lines.specs.declared.Ends.{Ends}
 use Rattle.sheet_lines.specs.declared.Ends.the-variants.{At, Open}
 use Rattle.sheet_lines.specs.declared.Held.{Held}
@@ -176,9 +177,6 @@ cut-at-none h r s l m from w a b p q =
     let j = n .whole in
     let x : r ≡ held-more h (part-of s from (length s)) = q .0 ∙ ap (held-more h) p in
     (cut-is h s from Open _ (sym b ∙ a) (ap (λ (z : Held). record { unended = true; to = length s; held = z }) x), omega arith)
-
-no-way : {A : Type 0} → true ≡ false → A
-no-way e = let z : _≡_ {A = ℕ} 0 1 = cc in absurd (omega arith)
 
 module _ (h : Held) (s : List ℕ) (from : ℕ) (c : Cut) (is : c ≡ cut-at h s from) where
   pub cut-open : c .unended ≡ true → (line-end from (drop from s) ≡ Open) × (c .held ≡ held-more h (drop from s))

@@ -15,12 +15,12 @@ use Rattle.paper.specs.Layout.{begin-set, a-site, a-rule, an-item, end-set, fra
 use Rattle.paper.specs.Loading.{Set, Written, load}
 use Rattle.paper.specs.Sheets as paper
 use Rattle.paper.specs.Sheets.{Open, outside, at-sites, at-rules, at-items, step, with-item}
+use Rattle.paper.proofs.Lists.{no-way, rest-of}
 use Rattle.sheet_findings.specs.Written.{written-at}
 use Rattle.sheet_ended.proofs.Laws.{written-none, written-then, written-length}
 use Rattle.sheet_ended.proofs.Holds.{holds-none}
 use Rattle.sheet_ended.specs.Sets.{no-sets}
 use Rattle.term_table.specs.Table.{no-edges}
-use Rattle.sites.proofs.Put.{rest-eq}
 use native.Mathlib.Numerals.{add-one}
 use Rattle.sheet_lines.specs.Fed.{Reading, going, stopped, Fed, begun, max-held, line-feed, held-of, after-line, fed, behind, fed-all, ended}
 use Rattle.sheet_lines.specs.Pieces.{as-lines, lines-append, fed-append}
@@ -39,9 +39,6 @@ use Rattle.sheet_reader.specs.declared.Stepped.{Stepped}
 use Rattle.sheet_reader.specs.declared.Stands.the-variants.{Outside}
 use Rattle.sheet_read.specs.declared.State.{State}
 use Rattle.sheet_read.specs.Whole.{first-state, is-stopped, Going, Shows, Fedding, Feeds, Pauses}
-
-no-way : {A : Type 0} → true ≡ false → A
-no-way e = let z : _≡_ {A = ℕ} 0 1 = cc in absurd (omega arith)
 
 -- ---- an event that goes on is no stop
 rule-goes : (g : Set) (r : Written) → is-stopped (rule-event g r) ≡ false
@@ -193,7 +190,7 @@ module _ (s : State) (k : Lent) (room : List ℕ) (at : ℕ) (piece : List ℕ) 
   core-rest d G =
       let L = s .reader .line in
       let hh = held-in (s .held) in
-      let r : rest ≡ drop from piece = rest-eq piece from in
+      let r : rest ≡ drop from piece = rest-of piece from in
       let u = cut-open (s .held) piece from c (ec .0) oc in
       let eh : Holds (c .held) (hh ++ rest) = rw (u .1, r) (more-holds (s .held) (drop from piece) (G .whole)) in
       let fe : fed-all (going d L hh) rest ≡ record { reading = going d L (held-of (hh ++ rest)); found = [] } = ap (λ z. fed-all (going d L z) rest) (sym (held-short (s .held) (G .short))) ∙ (ap (fed-all (going d L (held-of hh))) r ∙ (rest-of-piece d L hh piece from (u .0) ∙ rw r)) in

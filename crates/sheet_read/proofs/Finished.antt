@@ -13,6 +13,7 @@ use Rattle.paper.specs.Words.{joined, four}
 use Rattle.paper.specs.Layout.{hex}
 use Rattle.paper.specs.Sheets as paper
 use Rattle.paper.specs.Sheets.{Open, outside, at-sites, at-rules, at-items, stop-found, sheet-ended, findings}
+use Rattle.paper.proofs.Lists.{no-way, none-in}
 use Rattle.term_table.specs.Table.{Square, no-edges}
 use Rattle.sheet_findings.specs.Written.{written-at, room-said, room-after}
 use Rattle.sheet_findings.specs.declared.Room.{Room}
@@ -29,9 +30,6 @@ use Rattle.sheet_reader.specs.declared.Stands.the-variants.{Outside, Sites, Rul
 use Rattle.sheet_read.specs.declared.State.{State}
 use Rattle.sheet_reader.specs.Answers.{is-outside}
 use Rattle.sheet_read.specs.Whole.{first-state, Going, Shows, Fedding, Feeds, Ending, Ends, Pauses, Enough}
-
-no-way : {A : Type 0} → true ≡ false → A
-no-way e = let z : _≡_ {A = ℕ} 0 1 = cc in absurd (omega arith)
 
 stop-long : (at : ℕ) → length (hex (stop-found at (Layout at))) ≡ 13
 unfolding stop-found four
@@ -58,10 +56,6 @@ out-is Outside e = refl
 out-is (Sites s) e = no-way (sym e)
 out-is (Rules s) e = no-way (sym e)
 out-is (Items s r n) e = no-way (sym e)
-
-no-bytes : (l : List ℕ) → length l ≡ 0 → l ≡ []
-no-bytes [] e = refl
-no-bytes (x ∷ l) e = absurd (omega arith)
 
 module _ (s : State) (k : Lent) (room : List ℕ) (at : ℕ) where
   pub end-short : length room < at + end-room → Ends s k room room at Short
@@ -103,7 +97,7 @@ module _ (s : State) (k : Lent) (room : List ℕ) (at : ℕ) where
 
       module _ (n : s .held .length ≤ 0) where
         none-held : held-in (s .held) ≡ []
-        none-held = no-bytes (held-in (s .held)) (length-take (s .held .length) (s .held .bytes) ∙ omega arith)
+        none-held = none-in (held-in (s .held)) (length-take (s .held .length) (s .held .bytes) ∙ omega arith)
 
         here : (d : paper.Reader) → Going s k d L (held-in (s .held)) → ended (going d L (held-in (s .held))) ≡ sheet-ended (d .ended) L (stands-in k (s .reader .stands))
         here d G = ap (λ b. ended (going d L b)) none-held ∙ (ended-here d L ∙ ap (sheet-ended (d .ended) L) (G .stands))

@@ -11,6 +11,7 @@ use lib.Dec.{leb}
 use borrow.Author.Tests.{leb-true, leb-false}
 use Rattle.paper.specs.Words.{joined}
 use Rattle.paper.specs.Sheets.{findings}
+use Rattle.paper.proofs.Lists.{no-way}
 use Rattle.term_table.specs.Table.{Square, no-edges}
 use Rattle.sheet_findings.specs.Written.{written-at}
 use Rattle.sheet_findings.specs.declared.Room.{Room}
@@ -24,9 +25,6 @@ use Rattle.sheet_read.specs.declared.State.{State}
 use Rattle.sheet_read.specs.Whole.{first-state, Going, Shows, Fedding, Feeds, Ending, Ends, Pauses, Checks}
 use Rattle.sheet_read.specs.declared.Checked.the-variants as checked
 use Rattle.sheet_read.proofs.Feeding.{shows-first}
-
-no-way : {A : Type 0} → true ≡ false → A
-no-way e = let z : _≡_ {A = ℕ} 0 1 = cc in absurd (omega arith)
 
 stays : (s : List ℕ) → fed-all stopped s ≡ record { reading = stopped; found = [] }
 unfolding fed-all fed

@@ -12,6 +12,7 @@ use Rattle.paper.specs.Layout.{hex}
 use Rattle.paper.specs.Loading.{written}
 use Rattle.paper.specs.Sheets as paper
 use Rattle.paper.specs.Sheets.{stepped, Open, refusal-found, stop-found}
+use Rattle.paper.proofs.Lists.{no-way}
 use Rattle.sheet_findings.specs.Written.{written-at, room-said, room-after}
 use Rattle.sheet_findings.specs.declared.Room.{Room}
 use Rattle.sheet_lines.specs.Fed.{after-line}
@@ -25,9 +26,6 @@ use Rattle.sheet_reader.specs.declared.Reader.{Reader}
 use Rattle.sheet_reader.specs.declared.Event.{Event}
 use Rattle.sheet_reader.specs.declared.Event.the-variants as event
 use Rattle.sheet_reader.specs.declared.Stepped.{Stepped}
-
-pub no-way : {A : Type 0} → true ≡ false → A
-no-way e = let z : _≡_ {A = ℕ} 0 1 = cc in absurd (omega arith)
 
 -- ---- what is written
 stop-text : (at : ℕ) (x : Refusal) → text-of at (refused x) ≡ hex (stop-found at x)

@@ -22,6 +22,7 @@ use Rattle.rule_words.specs.Stored.{run, kept-first}
 use Rattle.sheet_ended.specs.Sets.{verdict-as, may-begin}
 use Rattle.paper.specs.declared.Verdict.{Verdict}
 use Rattle.paper.specs.declared.Verdict.the-variants as verdict
+use Rattle.paper.proofs.Lists.{no-way}
 use Rattle.sheet_ended.specs.Holds.{Holds, Endable}
 use Rattle.sheet_ended.proofs.Holds.{used-is, begun-is}
 use Rattle.sheet_reader.specs.State.{Lent, set-in, stands-in, Fine, Tells}
@@ -32,7 +33,7 @@ use Rattle.sheet_reader.specs.declared.Stands.the-variants.{Outside, Sites, Rul
 use Rattle.sheet_reader.specs.declared.Reader.{Reader}
 use Rattle.sheet_reader.specs.declared.Event.the-variants as event
 use Rattle.sheet_reader.specs.declared.Stepped.{Stepped}
-use Rattle.sheet_reader.proofs.Acts.{no-way, stopped, goes-on}
+use Rattle.sheet_reader.proofs.Acts.{stopped, goes-on}
 
 not-begin : (p : paper.Ended) (at : ℕ) (k : Lent) (s : Stands) (t f : ℕ) → is-outside s ≡ false → act p at (stands-in k s) (begin-set t f) ≡ refused (Layout at)
 unfolding act

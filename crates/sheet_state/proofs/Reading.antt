@@ -4,6 +4,7 @@ use mathlib.Core.Bool.{Bool, true, false, not, _&&_}
 use mathlib.Core.List.{List, [], _∷_, _++_, append-assoc}
 use Prim.Native.Nat.{ℕ, suc, _+_, _%_, _<_, _≤_}
 use Rattle.paper.specs.Words.{if_then_else_}
+use Rattle.paper.proofs.Lists.{no-way, and-both}
 use native.Mathlib.Nat.{mod-eq-of-lt, zero-add}
 use native.Mathlib.Numerals.{add-one}
 use native.Mathlib.Omega.{arith}
@@ -334,18 +335,10 @@ bytes-all old all now i n e h l k p =
 
 -- ---- what is lent is long enough, or not
 
-no-way : {A : Type 0} → true ≡ false → A
-no-way e = let z : _≡_ {A = ℕ} 0 1 = cc in absurd (omega arith)
-
-both-are : (a b : Bool) → (a && b) ≡ true → (a ≡ true) × (b ≡ true)
-both-are true true e = (refl, refl)
-both-are true false e = no-way (sym e)
-both-are false b e = no-way (sym e)
-
 pub keeps-long : (w h : List ℕ) → keeps w h ≡ true → (state-words ≤ length w) × (max-held ≤ length h)
 unfolding keeps
 keeps-long w h e =
-    let t = both-are (leb state-words (length w)) (leb max-held (length h)) e in
+    let t = and-both (leb state-words (length w)) (leb max-held (length h)) e in
     (leb-true state-words (length w) (t .0), leb-true max-held (length h) (t .1))
 
 pub keeps-not : (w h : List ℕ) → length w < state-words → false ≡ keeps w h

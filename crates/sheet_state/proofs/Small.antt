@@ -19,6 +19,7 @@ use Rattle.sheet_reader.proofs.Awaited as awaited
 use Rattle.sheet_reader.proofs.Stands as stands
 use Rattle.sheet_reader.proofs.Reader as reader
 use Rattle.sheet_state.proofs.Reading.{SmallSet, SmallRule, SmallStands, SmallEnded, SmallReader, SmallState}
+use Rattle.paper.proofs.Lists.{array-long}
 
 small-set : (g : OpenSet) (vs : List Val) → shadow (set.the-field .row .own (set.the-type .to g) vs) → SmallSet g
 small-set g vs h = record { term = h .1 .1 .0 .1; flags = h .1 .1 .1 .0 .1; sites = h .1 .1 .1 .1 .0 .1; rules = h .1 .1 .1 .1 .1 .0 .1 }
@@ -32,9 +33,6 @@ small-stands Outside vs h = tt
 small-stands (Sites g) vs h = small-set g _ (h .1 .1 .1 .1 .0)
 small-stands (Rules g) vs h = small-set g _ (h .1 .1 .1 .1 .0)
 small-stands (Items g a left) vs h = (small-set g _ (h .1 .1 .1 .1 .0), small-rule a _ (h .1 .1 .1 .1 .1 .0), h .1 .1 .1 .1 .1 .1 .0 .1)
-
-array-long : {A : Type 0} (xs : List ℕ) (f : ℕ → A) (n : ℕ) → length (map f xs) ≡ n → length xs ≡ n
-array-long xs f n e = sym (length-map xs f) ∙ e
 
 small-ended : (e : EndedSets) (vs : List Val) → shadow (ended.the-field .row .own (ended.the-type .to e) vs) → SmallEnded e
 small-ended e vs h = record {

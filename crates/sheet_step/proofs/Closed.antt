@@ -31,6 +31,7 @@ use lib.Seq.{drop-drop}
 use borrow.Rule.Slice.PartMut.{putMid, post-is}
 use mathlib.Core.List.{append-assoc}
 use Rattle.paper.specs.Rules.{report, report-for}
+use Rattle.paper.proofs.Lists.{rest-of}
 use Rattle.term_table.specs.Table.{with-edges}
 use Rattle.sheet_ended.specs.Sets.{edges-from, with-set}
 use Rattle.sheet_ended.specs.declared.EndedSets.{EndedSets}
@@ -42,7 +43,6 @@ use Rattle.report.specs.declared.Reported.{Reported}
 use Rattle.report.specs.declared.Reported.the-variants as reported-is
 use Rattle.report.proofs.ListLaws.{map-map}
 use Rattle.report.proofs.ReportLaws.{room-enough}
-use Rattle.sites.proofs.Put.{rest-eq}
 use Rattle.sheet_lines.specs.Fed.{after-line}
 use Rattle.sheet_reader.specs.Answers.{text-of}
 use Rattle.sheet_step.specs.Parts.{count-of, report-end, report-after}
@@ -61,7 +61,7 @@ put-rest room ys at h = ap (λ z. take at room ++ (ys ++ z)) (post-is at (length
 
 pub report-says : (ws : List ℕ) (n flags : ℕ) (room : List ℕ) (at : ℕ) (v : Reported) (ys : List ℕ) (c : ℕ) → at ≤ length room → v ≡ reported ws n flags (take (length room - at) (drop at room)) → ys ≡ lines.room-after ws n flags (take (length room - at) (drop at room)) → c ≡ count-of v → (at + c ≡ report-end ws n flags room at) × (putMid at (length room - at) room ys ≡ report-after ws n flags room at)
 report-says ws n flags room at v ys c h ev ey ec =
-    let r : take (length room - at) (drop at room) ≡ drop at room = rest-eq room at in
+    let r : take (length room - at) (drop at room) ≡ drop at room = rest-of room at in
     let x : c ≡ count-of (reported ws n flags (drop at room)) = ec ∙ ap count-of (ev ∙ ap (reported ws n flags) r) in
     let y : ys ≡ lines.room-after ws n flags (drop at room) = ey ∙ ap (lines.room-after ws n flags) r in
     (ap (λ z. at + z) x, put-rest room ys at h ∙ ap (λ z. take at room ++ z) y)

@@ -13,6 +13,7 @@ use Rattle.sites.specs.declared.Wrote.{Wrote}
 use Rattle.sites.specs.declared.Wrote.the-variants.{To, Full}
 use Rattle.sites.specs.Slots.{put, end-at, Writes}
 use Rattle.paper.specs.Words.{if_then_else_}
+use Rattle.paper.proofs.Lists.{rest-of}
 
 -- a byte, and then the others after it
 pub put-cons : (m : List ℕ) (at x : ℕ) (s : List ℕ) → at < length m → put (set m at x) (at + 1) s ≡ put m at (x ∷ s)
@@ -44,8 +45,6 @@ unfolding put
 put-nil m at = let e : at + length {A = ℕ} [] ≡ at = omega arith in rw (e, append-nil (take at m), take-append-drop at m)
 
 -- the rest of a list from a place on, as a part has it
-pub rest-eq : (b : List ℕ) (k : ℕ) → take (length b - k) (drop k b) ≡ drop k b
-rest-eq b k = take-all (length b - k) (drop k b) (simp length-drop (omega arith))
 
 -- ---- where writing ends
 pub end-to : (room at : ℕ) (u : List ℕ) (e : ℕ) → To e ≡ end-at room at u → (e ≡ at + length u) × (at + length u ≤ room)

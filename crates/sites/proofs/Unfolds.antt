@@ -12,6 +12,7 @@ use Rattle.paper.specs.Numbers.{max-unfolding, Outcome, done, refused}
 use Rattle.paper.specs.declared.Refusal.the-variants.{Unknown, UnfoldingTooLong}
 use Rattle.paper.specs.Sites.{argument, body-by, site-at, known, lower-only, unfolded, unfold-answer}
 use Rattle.paper.proofs.Laws.{older-unfolded, unfolded-is, lower-true, lower-false, same-lower}
+use Rattle.paper.proofs.Lists.{rest-of}
 use Rattle.site_body.specs.Body.{is-body, many-of, no-site, off-of, site-of, words}
 use Rattle.site_body.proofs.Tables.{split}
 use Rattle.site_body.proofs.Back.{Bytes}
@@ -23,7 +24,7 @@ use Rattle.site_body.proofs.Turns.{words-cons}
 use Rattle.site_body.proofs.Bodies.{laid-in, site-none}
 use Rattle.sites.proofs.Held.{slot-bytes}
 use Rattle.sites.proofs.Places.{sites-length, below-split}
-use Rattle.sites.proofs.Put.{rest-eq, writes-fits, writes-none, writes-then, writes-stop, end-full}
+use Rattle.sites.proofs.Put.{writes-fits, writes-none, writes-then, writes-stop, end-full}
 
 -- the sites past s make no difference to it
 pub unfolded-at : (m : List ℕ) (n s : ℕ) → s < n → unfolded (sites-in m n) s ≡ unfolded-in m s
@@ -77,7 +78,7 @@ module _ (m : List ℕ) (s : ℕ) (b : List ℕ) (f : Bytes b) (q : b ≡ slot-b
     pub all-three : (i j : ℕ) (r : Wrote) (o₁ o₂ o₃ : List ℕ) → length o₁ ≡ length out → length o₂ ≡ length o₁ → Writes out at (take o b) (To i) o₁ → Writes o₁ i written (To j) o₂ → Writes o₂ j (take (length b - (o + 2 * k)) (drop (o + 2 * k) b)) r o₃ → Writes out at (unfolded-in m s) r o₃
     all-three i j r o₁ o₂ o₃ l l′ w v u =
         let a = writes-fits out at (take o b) i o₁ w in
-        let t = rest-eq b (o + 2 * k) in
+        let t = rest-of b (o + 2 * k) in
         let c : i ≤ length o₁ = omega (arith, a .0, a .1) in
         rw three-parts (writes-then out at (take o b) (written ++ drop (o + 2 * k) b) i r o₁ o₃ h l w (writes-then o₁ i written (drop (o + 2 * k) b) j r o₂ o₃ c l′ v (rw t at u)))
 

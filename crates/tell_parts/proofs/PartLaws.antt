@@ -10,6 +10,7 @@ use lib.Seq.{drop-cons}
 use lib.Dec.{eqb}
 use borrow.Author.Tests.{eq-eqb, ne-eqb}
 use Rattle.paper.specs.Text.{unended}
+use Rattle.paper.proofs.Lists.{drop-all}
 use Rattle.tell_text.specs.Written.{Room, wrote, after, follows, nothing}
 use Rattle.tell_text.specs.Decimal.{decimal}
 use Rattle.tell_parts.specs.Parts.{two-at, four-at, separator, rest, places, plural, part, filled}
@@ -131,12 +132,6 @@ part-turn p q r f words i h e g =
     let d : drop i words ≡ getD words i 0 ∷ drop (i + 1) words = rw add-one (drop-cons words i 0 h) in
     let t : part f (getD words i 0) ++ filled f (drop (i + 1) words) ≡ filled f (drop i words) = rw d in
     ap (λ z. wrote z (filled f (drop (i + 1) words))) g ∙ (after q (part f (getD words i 0)) (filled f (drop (i + 1) words)) ∙ (ap (λ s. wrote q s) t ∙ e))
-
-drop-all : (s : List ℕ) (i : ℕ) → length s ≤ i → drop i s ≡ []
-drop-all [] zero h = refl
-drop-all [] (suc i) h = refl
-drop-all (x ∷ s) zero h = absurd (omega arith)
-drop-all (x ∷ s) (suc i) h = drop-all s i (omega arith)
 
 pub parts-done : (p q : Room) (f words : List ℕ) (i : ℕ) → length words ≤ i → wrote q (filled f (drop i words)) ≡ wrote p (filled f words) → q ≡ wrote p (filled f words)
 unfolding filled

@@ -8,6 +8,7 @@ use lib.ListN.{length, getD, drop}
 use lib.Seq.{drop-cons}
 use Rattle.paper.specs.Words.{two, four, eight}
 use Rattle.paper.specs.Layout.{digit-of}
+use Rattle.paper.proofs.Lists.{drop-all}
 use Rattle.sheet_digits.specs.Digits.{digits-of}
 use Rattle.sheet_digits.proofs.DigitLaws.{digits-append}
 use Rattle.tell_text.specs.Written.{Room, wrote, after, follows, nothing}
@@ -28,12 +29,6 @@ pub one-more : (p q r : Room) (s : List ℕ) (i : ℕ) → i < length s → wrot
 one-more p q r s i h e f =
     let d : drop i s ≡ getD s i 0 ∷ drop (i + 1) s = rw add-one (drop-cons s i 0 h) in
     ap (λ z. wrote z (drop (i + 1) s)) f ∙ (after q (getD s i 0 ∷ []) (drop (i + 1) s) ∙ (ap (λ t. wrote q t) (sym d) ∙ e))
-
-drop-all : (s : List ℕ) (i : ℕ) → length s ≤ i → drop i s ≡ []
-drop-all [] zero h = refl
-drop-all [] (suc i) h = refl
-drop-all (x ∷ s) zero h = absurd (omega arith)
-drop-all (x ∷ s) (suc i) h = drop-all s i (omega arith)
 
 pub all-put : (p q : Room) (s : List ℕ) (i : ℕ) → length s ≤ i → wrote q (drop i s) ≡ wrote p s → q ≡ wrote p s
 all-put p q s i h e = nothing q ∙ (ap (λ t. wrote q t) (sym (drop-all s i h)) ∙ e)

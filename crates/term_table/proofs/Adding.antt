@@ -12,29 +12,15 @@ use borrow.Author.Tests.{eqb-true, eq-eqb}
 use Rattle.paper.specs.Words.{keep, Edges, Walk, one, more, returns}
 use Rattle.paper.proofs.Walks.{returns-is}
 use Rattle.paper.specs.Numbers.{done, refused}
+use Rattle.paper.proofs.Lists.{no-way, and-both, or-cases, or-left, or-right}
 use Rattle.term_table.specs.Table.{terms, words, Square, in-row, marked, row-with, with-mark, no-marks, no-edges, numbers, edges-in, with-edge, with-term, left, with-edges, with-terms, cyclic-terms}
 use Rattle.term_table.specs.Heads.{Between}
-use Rattle.term_table.proofs.Lists.{no-way, keep-same}
+use Rattle.term_table.proofs.Lists.{keep-same}
 use Rattle.term_table.proofs.Turns.{from-over, to-over, both-within, term-over, term-within}
 use Rattle.term_table.proofs.Marks.{Whole, put-row, put-whole, put-marks, none-row, none-whole, none-marks}
 use Rattle.term_table.proofs.Closing.{Edge, in-edges, of-edges, same-test}
 
 -- the ways in which an or, an and hold
-or-ways : (x y : Bool) → (x || y) ≡ true → (x ≡ true) ⊎ (y ≡ true)
-or-ways true y h = inl refl
-or-ways false y h = inr h
-
-or-left : (x y : Bool) → x ≡ true → (x || y) ≡ true
-or-left true y h = refl
-or-left false y h = no-way (sym h)
-
-or-right : (x y : Bool) → y ≡ true → (x || y) ≡ true
-or-right true y h = refl
-or-right false y h = h
-
-and-ways : (x y : Bool) → (x && y) ≡ true → (x ≡ true) × (y ≡ true)
-and-ways true y h = (refl, h)
-and-ways false y h = no-way (sym h)
 
 -- ---- edges
 
@@ -60,8 +46,8 @@ step t x y W = go (decLt x terms) (decLt y terms)
         of : (a b : ℕ) → b < terms → marked (with-mark t x y) a b ≡ true → (marked t a b ≡ true) ⊎ (_≡_ {A = ℕ × ℕ} (a, b) (x, y))
         of a b hb m =
             ⊎-elim (λ w. inl w)
-            (λ w. let p = and-ways (eqb a x) (eqb b y) w in inr (rw (eqb-true a x (p .0), eqb-true b y (p .1)) refl))
-            (or-ways (marked t a b) (eqb a x && eqb b y) (sym (put-marks t W x h y a b k hb) ∙ m))
+            (λ w. let p = and-both (eqb a x) (eqb b y) w in inr (rw (eqb-true a x (p .0), eqb-true b y (p .1)) refl))
+            (or-cases (marked t a b) (eqb a x && eqb b y) (sym (put-marks t W x h y a b k hb) ∙ m))
 
         to : (a b : ℕ) → b < terms → (marked t a b ≡ true) ⊎ (_≡_ {A = ℕ × ℕ} (a, b) (x, y)) → marked (with-mark t x y) a b ≡ true
         to a b hb (inl m) = put-marks t W x h y a b k hb ∙ or-left (marked t a b) _ m
@@ -151,7 +137,7 @@ term-step r x l = go (decLt x terms)
     go (yes h) = rw (term-within r x h) (record { long = row-length r x ∙ l; marks = λ b hb. (of b hb, to b hb) })
       where
         of : (b : ℕ) → b < terms → in-row (row-with r x) b ≡ true → (in-row r b ≡ true) ⊎ (b ≡ x)
-        of b hb m = ⊎-elim (λ y. inl y) (λ y. inr (eqb-true b x y)) (or-ways (in-row r b) (eqb b x) (sym (put-row r x b l h hb) ∙ m))
+        of b hb m = ⊎-elim (λ y. inl y) (λ y. inr (eqb-true b x y)) (or-cases (in-row r b) (eqb b x) (sym (put-row r x b l h hb) ∙ m))
 
         to : (b : ℕ) → b < terms → (in-row r b ≡ true) ⊎ (b ≡ x) → in-row (row-with r x) b ≡ true
         to b hb (inl y) = put-row r x b l h hb ∙ or-left (in-row r b) (eqb b x) y

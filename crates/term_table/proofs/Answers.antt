@@ -4,15 +4,12 @@ use mathlib.Core.Bool.{Bool, true, false, _&&_, not}
 use mathlib.Core.List.{List}
 use Prim.Native.Nat.{ℕ, _<_}
 use Rattle.paper.specs.Words.{keep, below, returns}
+use Rattle.paper.proofs.Lists.{and-true}
 use Rattle.term_table.specs.Table.{terms, Square, in-row, marked, no-marks, numbers, edges-in, Closure, cyclic-terms, unflagged}
 use Rattle.term_table.specs.Loops.{on-diagonal, list-to}
 use Rattle.term_table.proofs.Lists.{keep-same, mem-numbers}
 use Rattle.term_table.proofs.Marks.{none-row}
 use Rattle.term_table.proofs.Closing.{diagonal}
-
-and-true : (x : Bool) → (x && true) ≡ x
-and-true true = refl
-and-true false = refl
 
 module _ (t u : Square) (C : Closure t u) where
   pub cyclic-listed : list-to terms u no-marks ≡ cyclic-terms t

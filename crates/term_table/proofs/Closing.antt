@@ -9,9 +9,10 @@ use native.Mathlib.Omega.{arith}
 use native.Mathlib.Decide.{ℕ-discrete}
 use Rattle.paper.specs.Words.{keep, below, joined, Edges, Walk, one, more, returns}
 use Rattle.paper.proofs.Walks.{returns-is}
+use Rattle.paper.proofs.Lists.{no-way, or-true}
 use Rattle.term_table.specs.Table.{terms, Square, row, marked, numbers, edges-in, Closure}
 use Rattle.term_table.specs.Loops.{Unmarked-to, Unmarked, pass, reach-to}
-use Rattle.term_table.proofs.Lists.{no-way, mem-keep, in-below, Below, at, of-below, mem-numbers, in-joined, Within, of-list, of-joined, in-map, Mapped, mapped, of-map}
+use Rattle.term_table.proofs.Lists.{mem-keep, in-below, Below, at, of-below, mem-numbers, in-joined, Within, of-list, of-joined, in-map, Mapped, mapped, of-map}
 use Rattle.term_table.proofs.Marks.{row-of, row-empty, via, via-two, Passed, pass-law}
 
 -- ---- the edges of a table
@@ -82,10 +83,6 @@ ways e k a b h = go (e a b) refl (e a k) refl (e k b) refl h
     go false p true q true r h = over q r
     go false p true q false r h = no-way (sym h)
     go false p false q z r h = no-way (sym h)
-
-or-true : (x : Bool) → (x || true) ≡ true
-or-true true = refl
-or-true false = refl
 
 back : (e : ℕ → ℕ → Bool) (k a b : ℕ) → Via e k a b → via e k a b ≡ true
 back e k a b (direct h) = simp h

@@ -7,10 +7,10 @@ use native.Mathlib.Omega.{arith}
 use lib.Dec.{ltb}
 use borrow.Author.Tests.{ltb-true}
 use Rattle.paper.specs.Words.{Edges, every}
+use Rattle.paper.proofs.Lists.{no-way}
 use Rattle.term_table.specs.Table.{terms, no-edges, with-edges, cyclic-terms}
 use Rattle.term_table.specs.Heads.{Between}
 use Rattle.term_table.specs.Example.{example, its-cyclic, example-is}
-use Rattle.term_table.proofs.Lists.{no-way}
 use Rattle.term_table.proofs.Adding.{cyclic-terms-held}
 
 -- a computed test that edges run between terms

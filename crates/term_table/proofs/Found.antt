@@ -8,9 +8,10 @@ use Prim.Native.Nat.{ℕ, _<_}
 use lib.ListN.{length, length-replicate}
 use Rattle.paper.specs.Words.{keep, ascending, Edges, Walk, one, more, returns}
 use Rattle.paper.proofs.Walks.{returns-is}
+use Rattle.paper.proofs.Lists.{no-way}
 use Rattle.term_table.specs.Table.{terms, words, in-row, no-marks, no-edges, numbers, edges-in, with-edges, with-terms, unflagged}
 use Rattle.term_table.specs.Heads.{rec-marks, Sheeted}
-use Rattle.term_table.proofs.Lists.{no-way, keep-same, mem-keep, mem-numbers, in-map, Mapped, mapped, of-map}
+use Rattle.term_table.proofs.Lists.{keep-same, mem-keep, mem-numbers, in-map, Mapped, mapped, of-map}
 use Rattle.term_table.proofs.Marks.{none-row}
 use Rattle.term_table.proofs.Closing.{same-test}
 use Rattle.term_table.proofs.Adding.{cyclic-held, terms-marked}

@@ -10,11 +10,9 @@ use native.Mathlib.Decide.{ℕ-discrete}
 use lib.ListN.{length, set, replicate, length-append}
 use lib.Seq.{set-at}
 use Rattle.paper.specs.Words.{keep, below, joined}
+use Rattle.paper.proofs.Lists.{no-way}
 use Rattle.term_table.specs.declared.Listed.{Listed}
 use Rattle.term_table.specs.Table.{terms, listed}
-
-pub no-way : {A : Type 0} → true ≡ false → A
-no-way e = let z : _≡_ {A = ℕ} 0 1 = cc in absurd (omega arith)
 
 -- ---- keep
 

@@ -11,10 +11,10 @@ use lib.Dec.{eqb, ltb}
 use lib.Bits.{bitOr}
 use borrow.Author.Tests.{eq-eqb, ne-eqb, eqb-true, not-false, lt-ltb, le-ltb}
 use Rattle.paper.specs.Words.{if_then_else_}
+use Rattle.paper.proofs.Lists.{no-way, or-false}
 use Rattle.term_table.specs.Table.{terms, words, Square, row, in-row, marked, row-with, with-mark, no-marks, no-edges}
 use Rattle.term_table.specs.Loops.{both-of, has-some, join-at, join-by, join-to, widen, pass}
 use Rattle.term_table.proofs.Bits.{bit, or-bit, power-bit, zero-bit, or-zero}
-use Rattle.term_table.proofs.Lists.{no-way}
 
 -- 256 rows of 4 words
 pub record Whole (t : Square) : Type 0 where
@@ -25,10 +25,6 @@ pub record Whole (t : Square) : Type 0 where
 pub record Stored (t : Square) : Type 0 where
   pub whole : Whole t
   pub fits : (a q : ℕ) → a < terms → q < words → getD (row t a) q 0 < 2 ^ 64
-
-or-false : (x : Bool) → (x || false) ≡ x
-or-false true = refl
-or-false false = refl
 
 -- ---- one mark more
 

@@ -17,11 +17,12 @@ use Rattle.paper.proofs.Walks.{returns-is}
 use Rattle.paper.specs.Numbers.{Outcome, done, refused}
 use Rattle.paper.specs.declared.Verdict.{Verdict}
 use Rattle.paper.specs.declared.Verdict.the-variants as Verdict-is
+use Rattle.paper.proofs.Lists.{no-way}
 use Rattle.term_table.specs.declared.Asked.{Asked}
 use Rattle.term_table.specs.declared.Asked.the-variants as Asked-is
 use Rattle.term_table.specs.Table.{terms, words, Square, row, in-row, marked, numbers, edges-in, is-cyclic, Closure, cyclic-terms, unflagged, added, asked}
 use Rattle.term_table.proofs.Bits.{bit}
-use Rattle.term_table.proofs.Lists.{no-way, mem-keep, mem-numbers}
+use Rattle.term_table.proofs.Lists.{mem-keep, mem-numbers}
 use Rattle.term_table.proofs.Turns.{cyclic-within}
 use Rattle.term_table.proofs.Marks.{Whole, Stored}
 use Rattle.term_table.proofs.Closing.{of-edges, same-test}

@@ -1,8 +1,9 @@
 use native.Mathlib.Omega.{arith}
-use Rattle.replay_frames.proofs.Parts.{length-taken, array-long}
+use Rattle.replay_frames.proofs.Parts.{length-taken}
 use borrow.Author.Needs.{needs}
 use Rattle.replay_frames.proofs.show_held.Statement.{statement}
 use Rattle.replay_frames.proofs.show_held.Tie as tie
+use Rattle.paper.proofs.Lists.{array-long}
 
 returns : tie.Need-returns
 returns c = search needs

@@ -1,24 +1,24 @@
 -- `rule_check::all_sites` meets its contract. Assumes nothing.
 use mathlib.Core.Path.{sym}
 use borrow.Author.Tests.{ltb-true}
-use Rattle.rule_rows.proofs.Reading.{no-bool}
 use Rattle.rule_check.proofs.Judging.{low-strays}
 use Rattle.rule_check.proofs.all_sites.Statement.{statement}
 use Rattle.rule_check.proofs.all_sites.Tie as tie
+use Rattle.paper.proofs.Lists.{no-way}
 
 highest-requires : tie.Need-highest-requires
 highest-requires c κs = tt
 
 returns : tie.Need-returns
 returns c =
-    λ e. no-bool (sym e)
+    λ e. no-way (sym e)
 
 highest-requires-2 : tie.Need-highest-requires-2
 highest-requires-2 c κs = tt
 
 returns-2 : tie.Need-returns-2
 returns-2 c =
-    λ e. no-bool (sym e)
+    λ e. no-way (sym e)
 
 highest-requires-3 : tie.Need-highest-requires-3
 highest-requires-3 c κs = tt

@@ -4,10 +4,10 @@ use lib.ListN.{length}
 use mathlib.Core.Path.{sym}
 use Prim.Native.Nat.{_-_}
 use Rattle.rule_rows.specs.Holding.{held}
-use Rattle.rule_rows.proofs.Reading.{no-bool}
 use Rattle.rule_check.proofs.Climbing.{ClimbsTo, climbs-none, climbs-step, climbs-done}
 use Rattle.rule_check.proofs.ascends.Statement.{statement}
 use Rattle.rule_check.proofs.ascends.Tie as tie
+use Rattle.paper.proofs.Lists.{no-way}
 
 abbrev Inv-loop : tie.InvT-loop
 Inv-loop eqs sites rows words kids next₀ h₀ h-end next h = ClimbsTo (held sites rows words kids) (length sites) next h
@@ -17,7 +17,7 @@ abbrev μ-loop : tie.MeasureT-loop
 
 returns : tie.Need-returns Inv-loop μ-loop
 returns c =
-    λ e. no-bool (sym e)
+    λ e. no-way (sym e)
 
 loop-holds : tie.Need-loop-holds Inv-loop μ-loop
 loop-holds c =
@@ -31,7 +31,7 @@ size16-requires c κs = tt
 
 returns-2 : tie.Need-returns-2 Inv-loop μ-loop
 returns-2 c =
-    λ e. no-bool (sym e)
+    λ e. no-way (sym e)
 
 at-requires-2 : tie.Need-at-requires-2 Inv-loop μ-loop
 at-requires-2 c κs = tt
@@ -41,7 +41,7 @@ higher-requires c κs = tt
 
 returns-3 : tie.Need-returns-3 Inv-loop μ-loop
 returns-3 c =
-    λ e. no-bool (sym e)
+    λ e. no-way (sym e)
 
 size16-requires-2 : tie.Need-size16-requires-2 Inv-loop μ-loop
 size16-requires-2 c κs = tt

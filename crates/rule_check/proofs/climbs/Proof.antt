@@ -1,8 +1,8 @@
 -- `rule_check::climbs` meets its contract. Assumes nothing.
 use mathlib.Core.Path.{sym}
 use Rattle.paper.specs.declared.Verdict.the-variants.{Fine}
+use Rattle.paper.proofs.Lists.{no-way}
 use Rattle.rule_rows.specs.Holding.{held}
-use Rattle.rule_rows.proofs.Reading.{no-bool}
 use Rattle.rule_check.proofs.Judging.{no-stray-at}
 use Rattle.rule_check.proofs.climbs.Statement.{statement}
 use Rattle.rule_check.proofs.climbs.Tie as tie
@@ -19,7 +19,7 @@ returns c =
 
 returns-2 : tie.Need-returns-2
 returns-2 c =
-    λ e. no-bool (sym e)
+    λ e. no-way (sym e)
 
 pub climbs-spec : {M : Type 1} → statement M
 climbs-spec = tie.close (tie.spec all-sites-requires ascends-requires returns returns-2)

@@ -6,10 +6,10 @@ use borrow.Author.Count.{below-more}
 use Rattle.classes.specs.Answers.{rep}
 use Rattle.rule_rows.specs.Holding.{kid-in}
 use Rattle.rule_check.specs.Search.{Over}
-use Rattle.rule_rows.proofs.Reading.{no-bool}
 use Rattle.rule_check.proofs.Settling.{kid-root, ready-step}
 use Rattle.rule_check.proofs.ready.Statement.{statement}
 use Rattle.rule_check.proofs.ready.Tie as tie
+use Rattle.paper.proofs.Lists.{no-way}
 
 abbrev Inv-loop : tie.InvT-loop
 Inv-loop p boss turned words kids i m f₀ f = (f ≤ m) × ((g : ℕ) → g < f → Over boss turned (rep p (kid-in kids i g)))
@@ -39,7 +39,7 @@ over-requires c κs =
 
 returns : tie.Need-returns Inv-loop μ-loop
 returns c =
-    λ e. no-bool (sym e)
+    λ e. no-way (sym e)
 
 add-f : tie.Need-add-f Inv-loop μ-loop
 add-f c =

@@ -6,10 +6,10 @@ use lib.ListN.{getD}
 use Rattle.classes.specs.Answers.{rep}
 use Rattle.rule_rows.specs.Holding.{chart}
 use Rattle.rule_check.specs.Search.{Safe}
-use Rattle.rule_rows.proofs.Reading.{no-bool}
 use Rattle.rule_check.proofs.Settling.{safe-none, settled-yes}
 use Rattle.rule_check.proofs.settled.Statement.{statement}
 use Rattle.rule_check.proofs.settled.Tie as tie
+use Rattle.paper.proofs.Lists.{no-way}
 
 abbrev Inv-loop : tie.InvT-loop
 Inv-loop p boss sites rows words kids m turned₀ left₀ turned left = Safe (chart rows words kids) p boss turned × (left ≡ 0 → (g : ℕ) → g < m → getD turned (rep p (getD sites g 0)) 0 ≡ 0 → ⊥)
@@ -27,7 +27,7 @@ turns-requires c κs =
 
 returns : tie.Need-returns Inv-loop μ-loop
 returns c =
-    λ e. no-bool (sym e)
+    λ e. no-way (sym e)
 
 loop-less : tie.Need-loop-less Inv-loop μ-loop
 loop-less c =

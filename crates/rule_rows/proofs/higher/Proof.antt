@@ -4,9 +4,10 @@ use mathlib.Core.Path.{sym}
 use Prim.Native.Nat.{ℕ, _≤_, _<_, _-_}
 use borrow.Author.Count.{below-more}
 use Rattle.rule_rows.specs.Holding.{kid-in}
-use Rattle.rule_rows.proofs.Reading.{no-bool, kid-higher}
+use Rattle.rule_rows.proofs.Reading.{kid-higher}
 use Rattle.rule_rows.proofs.higher.Statement.{statement}
 use Rattle.rule_rows.proofs.higher.Tie as tie
+use Rattle.paper.proofs.Lists.{no-way}
 
 abbrev Inv-loop : tie.InvT-loop
 Inv-loop words kids i s m f₀ f = (f ≤ m) × ((g : ℕ) → g < f → s < kid-in kids i g)
@@ -26,7 +27,7 @@ kid-requires c κs = tt
 
 returns : tie.Need-returns Inv-loop μ-loop
 returns c =
-    λ e. no-bool (sym e)
+    λ e. no-way (sym e)
 
 add-f : tie.Need-add-f Inv-loop μ-loop
 add-f c =

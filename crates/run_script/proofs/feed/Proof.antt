@@ -4,8 +4,9 @@ use Prim.Native.Nat.{_≤_, _-_}
 use native.Mathlib.Omega.{arith}
 use lib.ListN.{length}
 use Rattle.paper.specs.Classes.{classes}
+use Rattle.paper.proofs.Lists.{not-true}
 use Rattle.run_script.specs.Said.{stand, Fed-to}
-use Rattle.run_script.proofs.Saying.{fed-none, fed-more, fed-stop, fed-all, stops, goes}
+use Rattle.run_script.proofs.Saying.{fed-none, fed-more, fed-stop, fed-all, goes}
 use borrow.Author.Needs.{needs}
 use Rattle.run_script.proofs.feed.Statement.{statement}
 use Rattle.run_script.proofs.feed.Tie as tie
@@ -29,7 +30,7 @@ same-length-3 : tie.Need-same-length-3 Inv-loop μ-loop
 same-length-3 c = c .before .before .before .loop .inv .1 .2
 
 returns : tie.Need-returns Inv-loop μ-loop
-returns c = fed-stop _ _ _ _ (c .before .before .before .loop .inv .2) (stops _ (c .if1 .taken))
+returns c = fed-stop _ _ _ _ (c .before .before .before .loop .inv .2) (not-true _ (c .if1 .taken))
 
 shared-slice-read-take : tie.Need-shared-slice-read-take Inv-loop μ-loop
 shared-slice-read-take c = omega (arith, c .before .before .before .before .before .before .before .before .before .loop-test .taken)

@@ -4,8 +4,9 @@ use Prim.Native.Nat.{_≤_, _-_}
 use native.Mathlib.Omega.{arith}
 use lib.ListN.{length}
 use Rattle.paper.specs.Classes.{classes}
+use Rattle.paper.proofs.Lists.{not-true}
 use Rattle.run_script.specs.Said.{stand, turns-all, Read-to}
-use Rattle.run_script.proofs.Saying.{read-none, read-more, read-stop, read-all, stops, goes}
+use Rattle.run_script.proofs.Saying.{read-none, read-more, read-stop, read-all, goes}
 use borrow.Author.Needs.{needs}
 use Rattle.run_script.proofs.run_all.Statement.{statement}
 use Rattle.run_script.proofs.run_all.Tie as tie
@@ -32,7 +33,7 @@ same-length-4 : tie.Need-same-length-4 Inv-loop μ-loop
 same-length-4 c = c .before .before .before .loop .inv .0 .3
 
 returns : tie.Need-returns Inv-loop μ-loop
-returns c = read-stop _ _ _ (c .before .before .before .loop .inv .2) (stops _ (c .if1 .taken))
+returns c = read-stop _ _ _ (c .before .before .before .loop .inv .2) (not-true _ (c .if1 .taken))
 
 read-some-requires : tie.Need-read-some-requires Inv-loop μ-loop
 read-some-requires c κs = search needs

@@ -4,10 +4,10 @@ use native.Mathlib.Omega.{arith}
 use borrow.Author.Needs.{needs}
 use Rattle.term_table.specs.Table.{terms}
 use Rattle.term_table.specs.Loops.{Unmarked-to}
-use Rattle.term_table.proofs.Lists.{no-way}
 use Rattle.term_table.proofs.Turns.{unmarked-none, unmarked-turn}
 use Rattle.term_table.proofs.has_edges.Statement.{statement}
 use Rattle.term_table.proofs.has_edges.Tie as tie
+use Rattle.paper.proofs.Lists.{no-way}
 
 abbrev Inv-loop : tie.InvT-loop
 Inv-loop t i₀ i = (i ≤ terms) × Unmarked-to i t
