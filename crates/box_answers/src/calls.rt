@@ -15,11 +15,11 @@ use classes::Sought;
 use classes::Taken;
 use classes::Trail;
 use paper::Overlap;
+use paper::Verdict;
 use report::Reported;
 use rule_load::Loaded;
 use sites::Numbered;
 use sites::Unfolded;
-use paper::Verdict;
 use widths::word16;
 use widths::word32;
 

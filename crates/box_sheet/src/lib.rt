@@ -22,10 +22,10 @@ use sheet_findings::Room;
 use sheet_read::Checked;
 use sheet_read::KEPT_ROOM;
 use sheet_read::SITES_ROOM;
+use sheet_reader::STEP_ROOM;
 use sheet_state::keeps;
 use sheet_state::put_state;
 use sheet_state::state_in;
-use sheet_reader::STEP_ROOM;
 use term_table::WORDS;
 use widths::word_of_size;
 

@@ -24,9 +24,9 @@ use paper::Item;
 use paper::Refusal;
 use paper::SITES;
 use paper::Verdict;
+use rule_children::Given;
 use rule_words::Packed;
 use rule_words::word;
-use rule_children::Given;
 use widths::size16;
 
 // How the rule fares; how many words the tail has, how many sites are constrained, how many numbers the equalities have.

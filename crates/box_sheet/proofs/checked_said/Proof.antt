@@ -6,24 +6,6 @@ use borrow.Author.Needs.{needs}
 use Rattle.box_sheet.proofs.checked_said.Statement.{statement}
 use Rattle.box_sheet.proofs.checked_said.Tie as tie
 
-enum-known-c : tie.Need-enum-known-c
-enum-known-c c = search needs
-
-word-of-size-requires : tie.Need-word-of-size-requires
-word-of-size-requires c κs = search needs
-
-done-requires : tie.Need-done-requires
-done-requires c κs = search needs
-
-enum-told : tie.Need-enum-told
-enum-told c = search needs
-
-crowded-requires : tie.Need-crowded-requires
-crowded-requires c κs = search needs
-
-enum-told-2 : tie.Need-enum-told-2
-enum-told-2 c = search needs
-
 returns : tie.Need-returns
 unfolding checked-said
 returns c = done-as _ _ _ _ _ (c .done .ensures) (c .before .word-of-size .ensures) refl ∙ sym (ap checked-said (c .before .before .before .c .given .1))
@@ -40,12 +22,12 @@ pub checked-said-spec : {M : Type 1} → statement M
 checked-said-spec =
     tie.close
     (tie.spec
-    enum-known-c
-    word-of-size-requires
-    done-requires
-    enum-told
-    crowded-requires
-    enum-told-2
+    (λ c. search needs)
+    (λ c κs. search needs)
+    (λ c κs. search needs)
+    (λ c. search needs)
+    (λ c κs. search needs)
+    (λ c. search needs)
     returns
     returns-2
     returns-3)

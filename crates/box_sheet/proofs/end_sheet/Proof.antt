@@ -7,41 +7,11 @@ use borrow.Author.Needs.{needs}
 use Rattle.box_sheet.proofs.end_sheet.Statement.{statement}
 use Rattle.box_sheet.proofs.end_sheet.Tie as tie
 
-keeps-requires : tie.Need-keeps-requires
-keeps-requires c κs = search needs
-
 returns : tie.Need-returns
 returns c = end-short _ _ _ _ _ _ (first-no _ _ (no-of _ _ (c .before .keeps .ensures) (c .if1 .taken)))
 
-writes-requires : tie.Need-writes-requires
-writes-requires c κs = search needs
-
-same-length : tie.Need-same-length
-same-length c = refl
-
-same-length-2 : tie.Need-same-length-2
-same-length-2 c = refl
-
 returns-2 : tie.Need-returns-2
 returns-2 c = end-short _ _ _ _ _ _ (second-no _ _ (yes-of _ _ (c .before .before .before .before .before .keeps .ensures) (c .before .before .before .before .if1 .left)) (no-of _ _ (c .before .writes .ensures) (c .if2 .taken)))
-
-state-in-requires : tie.Need-state-in-requires
-state-in-requires c κs = search needs
-
-end-requires : tie.Need-end-requires
-end-requires c κs = search needs
-
-ended-said-requires : tie.Need-ended-said-requires
-ended-said-requires c κs = search needs
-
-say-requires : tie.Need-say-requires
-say-requires c κs = search needs
-
-same-length-3 : tie.Need-same-length-3
-same-length-3 c = search needs
-
-same-length-4 : tie.Need-same-length-4
-same-length-4 c = search needs
 
 returns-3 : tie.Need-returns-3
 returns-3 c = end-says _ _ _ _ _ _ _ _ _ _ _ (c .before .before .before .before .before .before .before .before .before .state-in .ensures) (writes-long _ _ _ (yes-of _ _ (c .before .before .before .before .before .before .before .before .before .before .before .writes .ensures) (c .before .before .before .before .before .before .before .before .before .before .if2 .left)) .0) (c .before .before .before .before .before .before .before .end .ensures) (c .before .before .before .ended-said .ensures) (said-there _ _ _ _ (writes-long _ _ _ (yes-of _ _ (c .before .before .before .before .before .before .before .before .before .before .before .writes .ensures) (c .before .before .before .before .before .before .before .before .before .before .if2 .left)) .1) (c .before .before .say .ensures) refl) _ (both-yes _ _ (yes-of _ _ (c .before .before .before .before .before .before .before .before .before .before .before .before .before .before .before .keeps .ensures) (c .before .before .before .before .before .before .before .before .before .before .before .before .before .before .if1 .left)) (yes-of _ _ (c .before .before .before .before .before .before .before .before .before .before .before .writes .ensures) (c .before .before .before .before .before .before .before .before .before .before .if2 .left)))
@@ -50,16 +20,16 @@ pub end-sheet-spec : {M : Type 1} → statement M
 end-sheet-spec =
     tie.close
     (tie.spec
-    keeps-requires
+    (λ c κs. search needs)
     returns
-    writes-requires
-    same-length
-    same-length-2
+    (λ c κs. search needs)
+    (λ c. refl)
+    (λ c. refl)
     returns-2
-    state-in-requires
-    end-requires
-    ended-said-requires
-    say-requires
-    same-length-3
-    same-length-4
+    (λ c κs. search needs)
+    (λ c κs. search needs)
+    (λ c κs. search needs)
+    (λ c κs. search needs)
+    (λ c. search needs)
+    (λ c. search needs)
     returns-3)

@@ -6,21 +6,6 @@ use borrow.Author.Needs.{needs}
 use Rattle.box_sheet.proofs.ended_said.Statement.{statement}
 use Rattle.box_sheet.proofs.ended_said.Tie as tie
 
-enum-known-r : tie.Need-enum-known-r
-enum-known-r c = search needs
-
-word-of-size-requires : tie.Need-word-of-size-requires
-word-of-size-requires c κs = search needs
-
-done-requires : tie.Need-done-requires
-done-requires c κs = search needs
-
-enum-told : tie.Need-enum-told
-enum-told c = search needs
-
-crowded-requires : tie.Need-crowded-requires
-crowded-requires c κs = search needs
-
 returns : tie.Need-returns
 unfolding ended-said
 returns c = done-as _ _ _ _ _ (c .done .ensures) (c .before .word-of-size .ensures) refl ∙ sym (ap ended-said (c .before .before .before .r .given .1))
@@ -33,10 +18,10 @@ pub ended-said-spec : {M : Type 1} → statement M
 ended-said-spec =
     tie.close
     (tie.spec
-    enum-known-r
-    word-of-size-requires
-    done-requires
-    enum-told
-    crowded-requires
+    (λ c. search needs)
+    (λ c κs. search needs)
+    (λ c κs. search needs)
+    (λ c. search needs)
+    (λ c κs. search needs)
     returns
     returns-2)

@@ -5,11 +5,5 @@ use Rattle.box_sheet.proofs.Feeding.{writes-is, last-test}
 use Rattle.box_sheet.proofs.writes.Statement.{statement}
 use Rattle.box_sheet.proofs.writes.Tie as tie
 
-returns : tie.Need-returns
-returns c = sym (writes-is _ _ _ ∙ first-no _ _ (less _ _ (c .if1 .taken)))
-
-returns-2 : tie.Need-returns-2
-returns-2 c = last-test _ _ _ (enough _ _ (c .if1 .left)) ∙ sym (writes-is _ _ _)
-
 pub writes-spec : {M : Type 1} → statement M
-writes-spec = tie.close (tie.spec returns returns-2)
+writes-spec = tie.close (tie.spec (λ c. sym (writes-is _ _ _ ∙ first-no _ _ (less _ _ (c .if1 .taken)))) (λ c. last-test _ _ _ (enough _ _ (c .if1 .left)) ∙ sym (writes-is _ _ _)))

@@ -7,43 +7,18 @@ use Rattle.classes.proofs.Calls.{test-out, test-in}
 use Rattle.class_removal.proofs.Taking.{sweep-within, swept-length, swept-fits, part-length, part-sites, taken-out, taken-none, taken-some, taken-below}
 use Rattle.class_removal.proofs.remove_set_of_in.Statement.{statement}
 use Rattle.class_removal.proofs.remove_set_of_in.Tie as tie
-use Rattle.class_removal.proofs.remove_set_of_in.Reads as reads
-use Rattle.class_removal.proofs.remove_set_of_in.Lts as lts
-use Rattle.class_removal.proofs.least.Reads as least-reads
-use Rattle.classes.proofs.halve_in.Reads as halve-in-reads
-use Rattle.class_removal.proofs.sweep.Reads as sweep-reads
-use Rattle.class_removal.proofs.take_out.Reads as take-out-reads
-use Rattle.widths.proofs.size16.Reads as size16-reads
-
-size16-requires : tie.Need-size16-requires
-size16-requires c κs = search needs
 
 returns : tie.Need-returns
 returns c = λ R. taken-out (sweep _) _ _ _ (test-out _ _ (c .before .size16 .ensures) (c .if1 .taken)) ∙ taken-below _ _ _ _ refl
 
-halve-in-requires : tie.Need-halve-in-requires
-halve-in-requires c κs = search needs
-
-enum-known-f : tie.Need-enum-known-f
-enum-known-f c = search needs
-
-enum-told : tie.Need-enum-told
-enum-told c = search needs
-
 returns-2 : tie.Need-returns-2
 returns-2 c = λ R. taken-none (sweep _) _ _ _ (test-in _ _ (c .before .before .before .before .before .size16 .ensures) (c .before .before .before .before .if1 .left)) (c .before .before .halve-in .ensures) (c .enum-told .given .1) ∙ taken-below _ _ _ _ refl
-
-least-requires : tie.Need-least-requires
-least-requires c κs = search needs
 
 sweep-requires : tie.Need-sweep-requires
 sweep-requires c κs = (omega (arith, c .before .before .least .ensures), omega (arith, c .before .before .least .ensures))
 
 slice-reshare-prefix-take-out : tie.Need-slice-reshare-prefix-take-out
 slice-reshare-prefix-take-out c = swept-fits (c .before .before .before .before .sweep .ensures) (sweep-within _ _ _) (omega (arith, c .before .before .before .before .before .before .before .least .ensures))
-
-slice-aggregate-take-out : tie.Need-slice-aggregate-take-out
-slice-aggregate-take-out c = part-length (c .before .before .before .before .before .sweep .ensures)
 
 take-out-requires : tie.Need-take-out-requires
 take-out-requires c κs = part-sites (c .before .before .before .before .before .sweep .ensures) (sweep-within _ _ _)
@@ -60,16 +35,16 @@ pub remove-set-of-in-spec : {M : Type 1} → statement M
 remove-set-of-in-spec =
     tie.close
     (tie.spec
-    size16-requires
+    (λ c κs. search needs)
     returns
-    halve-in-requires
-    enum-known-f
-    enum-told
+    (λ c κs. search needs)
+    (λ c. search needs)
+    (λ c. search needs)
     returns-2
-    least-requires
+    (λ c κs. search needs)
     sweep-requires
     slice-reshare-prefix-take-out
-    slice-aggregate-take-out
+    (λ c. part-length (c .before .before .before .before .before .sweep .ensures))
     take-out-requires
     same-length
     returns-3)

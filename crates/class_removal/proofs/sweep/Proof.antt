@@ -3,16 +3,11 @@ use borrow.Author.Needs.{needs}
 use mathlib.Core.Path.{_≡_}
 use Prim.Native.Nat.{_≤_, _-_}
 use native.Mathlib.Omega.{arith}
-use lib.ListN.{length}
 use Rattle.paper.specs.Classes.{sweep}
 use Rattle.classes.specs.Answers.{Sweeps}
 use Rattle.class_removal.proofs.Taking.{sweep-within, swept-room, swept-length, sweep-start, sweep-turn}
 use Rattle.class_removal.proofs.sweep.Statement.{statement}
 use Rattle.class_removal.proofs.sweep.Tie as tie
-use Rattle.class_removal.proofs.sweep.Reads as reads
-use Rattle.class_removal.proofs.sweep.Lts as lts
-use Rattle.classes.proofs.halve_in.Reads as halve-in-reads
-use Rattle.class_removal.proofs.note.Reads as note-reads
 
 abbrev Inv-loop : tie.InvT-loop
 Inv-loop parents₀ r k members₀ n₀ y₀ parents members n y = (y ≤ k) × Sweeps (sweep y parents₀ r) members₀ parents members n
@@ -20,26 +15,11 @@ Inv-loop parents₀ r k members₀ n₀ y₀ parents members n y = (y ≤ k) × 
 abbrev μ-loop : tie.MeasureT-loop
 μ-loop parents₀ r k members₀ n₀ y₀ parents members n y = k - y
 
-loop-holds : tie.Need-loop-holds Inv-loop μ-loop
-loop-holds c = (omega arith, sweep-start _ _ _)
-
-halve-in-requires : tie.Need-halve-in-requires Inv-loop μ-loop
-halve-in-requires c κs = search needs
-
 note-requires : tie.Need-note-requires Inv-loop μ-loop
 note-requires c κs = swept-room (c .before .before .before .before .loop .inv .1) (sweep-within _ _ _) (omega arith)
 
-add-y : tie.Need-add-y Inv-loop μ-loop
-add-y c = omega arith
-
-loop-less : tie.Need-loop-less Inv-loop μ-loop
-loop-less c = omega arith
-
 loop-again : tie.Need-loop-again Inv-loop μ-loop
 loop-again c = (omega arith, sweep-turn _ _ _ _ _ _ _ (omega arith) _ _ _ _ (c .before .before .before .before .before .before .before .loop .inv .1) (c .before .before .before .before .halve-in .ensures) (c .before .before .note .ensures))
-
-same-length : tie.Need-same-length Inv-loop μ-loop
-same-length c = swept-length (c .before .loop .inv .1) (sweep-within _ _ _) (omega arith)
 
 returns : tie.Need-returns Inv-loop μ-loop
 returns c =
@@ -52,11 +32,11 @@ sweep-spec =
     (tie.spec
     Inv-loop
     μ-loop
-    loop-holds
-    halve-in-requires
+    (λ c. (omega arith, sweep-start _ _ _))
+    (λ c κs. search needs)
     note-requires
-    add-y
-    loop-less
+    (λ c. omega arith)
+    (λ c. omega arith)
     loop-again
-    same-length
+    (λ c. swept-length (c .before .loop .inv .1) (sweep-within _ _ _) (omega arith))
     returns)

@@ -8,9 +8,6 @@ use Rattle.paper.specs.Classes.{unjoin}
 use Rattle.class_removal.proofs.Taking.{unjoin-turn, unjoin-end}
 use Rattle.class_removal.proofs.unjoin.Statement.{statement}
 use Rattle.class_removal.proofs.unjoin.Tie as tie
-use Rattle.class_removal.proofs.unjoin.Reads as reads
-use Rattle.class_removal.proofs.unjoin.Lts as lts
-use Rattle.widths.proofs.size16.Reads as size16-reads
 
 abbrev Inv-loop : tie.InvT-loop
 Inv-loop parents₀ members i₀ parents i = (i ≤ length members) × (unjoin parents (drop i members) ≡ unjoin parents₀ members)
@@ -18,29 +15,11 @@ Inv-loop parents₀ members i₀ parents i = (i ≤ length members) × (unjoin p
 abbrev μ-loop : tie.MeasureT-loop
 μ-loop parents₀ members i₀ parents i = length members - i
 
-loop-holds : tie.Need-loop-holds Inv-loop μ-loop
-loop-holds c = (omega arith, refl)
-
-mul-size16 : tie.Need-mul-size16 Inv-loop μ-loop
-mul-size16 c = omega arith
-
-shared-slice-read-size16 : tie.Need-shared-slice-read-size16 Inv-loop μ-loop
-shared-slice-read-size16 c = omega arith
-
-size16-requires : tie.Need-size16-requires Inv-loop μ-loop
-size16-requires c κs = search needs
-
 mul-parents : tie.Need-mul-parents Inv-loop μ-loop
 mul-parents c = omega (arith, c .size16 .ensures, c .before .before .before .before .before .pre (c .before .before .before .loop .i) (omega arith))
 
 element-write-parents : tie.Need-element-write-parents Inv-loop μ-loop
 element-write-parents c = omega (arith, c .size16 .ensures, c .before .before .before .before .before .pre (c .before .before .before .loop .i) (omega arith))
-
-add-i : tie.Need-add-i Inv-loop μ-loop
-add-i c = omega arith
-
-loop-less : tie.Need-loop-less Inv-loop μ-loop
-loop-less c = omega arith
 
 loop-again : tie.Need-loop-again Inv-loop μ-loop
 loop-again c = (omega arith, unjoin-turn _ (c .before .before .before .before .before .args .members .now) (c .before .before .before .loop .i) _ (omega arith) (c .size16 .ensures) (c .before .before .before .loop .inv .1))
@@ -54,13 +33,13 @@ unjoin-spec =
     (tie.spec
     Inv-loop
     μ-loop
-    loop-holds
-    mul-size16
-    shared-slice-read-size16
-    size16-requires
+    (λ c. (omega arith, refl))
+    (λ c. omega arith)
+    (λ c. omega arith)
+    (λ c κs. search needs)
     mul-parents
     element-write-parents
-    add-i
-    loop-less
+    (λ c. omega arith)
+    (λ c. omega arith)
     loop-again
     returns)

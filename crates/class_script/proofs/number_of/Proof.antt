@@ -1,5 +1,4 @@
 -- `class_script::number_of` meets its contract: what is left of the text gives what all of it gives. Assumes nothing.
-use borrow.Author.Needs.{needs}
 use mathlib.Core.Path.{_≡_, refl}
 use Prim.Native.Nat.{_≤_, _-_}
 use native.Mathlib.Omega.{arith}
@@ -8,8 +7,6 @@ use Rattle.class_script.specs.Script.{number-from}
 use Rattle.class_script.proofs.Reading.{number-none, number-some, number-end, number-low, number-high, number-past, number-turn}
 use Rattle.class_script.proofs.number_of.Statement.{statement}
 use Rattle.class_script.proofs.number_of.Tie as tie
-use Rattle.class_script.proofs.number_of.Reads as reads
-use Rattle.class_script.proofs.number_of.Lts as lts
 
 abbrev Inv-loop : tie.InvT-loop
 Inv-loop text value₀ i₀ value i = (i ≤ length text) × (value ≤ 65535) × (number-from value (drop i text) ≡ number-from 0 text)
@@ -17,44 +14,17 @@ Inv-loop text value₀ i₀ value i = (i ≤ length text) × (value ≤ 65535) �
 abbrev μ-loop : tie.MeasureT-loop
 μ-loop text value₀ i₀ value i = length text - i
 
-returns : tie.Need-returns Inv-loop μ-loop
-returns c = number-none _ (c .if1 .taken)
-
-loop-holds : tie.Need-loop-holds Inv-loop μ-loop
-loop-holds c = (omega arith, omega arith, refl)
-
-shared-slice-read-d : tie.Need-shared-slice-read-d Inv-loop μ-loop
-shared-slice-read-d c = omega arith
-
 returns-2 : tie.Need-returns-2 Inv-loop μ-loop
 returns-2 c = number-some _ (c .before .before .before .before .if1 .left) (number-low (c .before .before .before .before .before .args .text .now) (c .before .before .before .loop .value) (c .before .before .before .loop .i) (c .before .before .before .loop .inv .2) (omega arith) (c .if2 .taken))
 
 returns-3 : tie.Need-returns-3 Inv-loop μ-loop
 returns-3 c = number-some _ (c .before .before .before .before .before .if1 .left) (number-high (c .before .before .before .before .before .before .args .text .now) (c .before .before .before .before .loop .value) (c .before .before .before .before .loop .i) (c .before .before .before .before .loop .inv .2) (omega arith) (c .before .if2 .left) (c .if3 .taken))
 
-mul-value : tie.Need-mul-value Inv-loop μ-loop
-mul-value c = omega arith
-
-cast-value : tie.Need-cast-value Inv-loop μ-loop
-cast-value c = omega arith
-
-add-value : tie.Need-add-value Inv-loop μ-loop
-add-value c = omega arith
-
 returns-4 : tie.Need-returns-4 Inv-loop μ-loop
 returns-4 c = number-some _ (c .before .before .before .before .before .before .if1 .left) (number-past (c .before .before .before .before .before .before .before .args .text .now) (c .before .before .before .before .before .loop .value) (c .before .before .before .before .before .loop .i) (c .before .before .before .before .before .loop .inv .2) (omega arith) (c .before .before .if2 .left) (c .before .if3 .left) (c .if4 .taken))
 
-add-i : tie.Need-add-i Inv-loop μ-loop
-add-i c = omega arith
-
-loop-less : tie.Need-loop-less Inv-loop μ-loop
-loop-less c = omega arith
-
 loop-again : tie.Need-loop-again Inv-loop μ-loop
 loop-again c = (omega arith, omega arith, number-turn (c .before .before .before .before .before .before .before .args .text .now) (c .before .before .before .before .before .loop .value) (c .before .before .before .before .before .loop .i) (c .before .before .before .before .before .loop .inv .2) (omega arith) (c .before .before .if2 .left) (c .before .if3 .left) (c .if4 .left))
-
-cast-t13 : tie.Need-cast-t13 Inv-loop μ-loop
-cast-t13 c = omega arith
 
 returns-5 : tie.Need-returns-5 Inv-loop μ-loop
 returns-5 c = number-some _ (c .before .before .if1 .left) (number-end (c .before .before .before .args .text .now) (c .before .loop .value) (c .before .loop .i) (c .before .loop .inv .2) (omega arith))
@@ -65,17 +35,17 @@ number-of-spec =
     (tie.spec
     Inv-loop
     μ-loop
-    returns
-    loop-holds
-    shared-slice-read-d
+    (λ c. number-none _ (c .if1 .taken))
+    (λ c. (omega arith, omega arith, refl))
+    (λ c. omega arith)
     returns-2
     returns-3
-    mul-value
-    cast-value
-    add-value
+    (λ c. omega arith)
+    (λ c. omega arith)
+    (λ c. omega arith)
     returns-4
-    add-i
-    loop-less
+    (λ c. omega arith)
+    (λ c. omega arith)
     loop-again
-    cast-t13
+    (λ c. omega arith)
     returns-5)

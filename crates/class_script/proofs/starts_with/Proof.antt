@@ -1,5 +1,4 @@
 -- `class_script::starts_with` meets its contract. Assumes nothing.
-use borrow.Author.Needs.{needs}
 use mathlib.Core.Path.{_≡_, refl}
 use Prim.Native.Nat.{_≤_, _-_}
 use native.Mathlib.Omega.{arith}
@@ -8,8 +7,6 @@ use Rattle.class_script.specs.Script.{starts}
 use Rattle.class_script.proofs.Reading.{starts-end, starts-short, starts-other, starts-turn}
 use Rattle.class_script.proofs.starts_with.Statement.{statement}
 use Rattle.class_script.proofs.starts_with.Tie as tie
-use Rattle.class_script.proofs.starts_with.Reads as reads
-use Rattle.class_script.proofs.starts_with.Lts as lts
 
 abbrev Inv-loop : tie.InvT-loop
 Inv-loop line word i₀ i = (i ≤ length word) × (i ≤ length line) × (starts (drop i line) (drop i word) ≡ starts line word)
@@ -17,26 +14,11 @@ Inv-loop line word i₀ i = (i ≤ length word) × (i ≤ length line) × (start
 abbrev μ-loop : tie.MeasureT-loop
 μ-loop line word i₀ i = length word - i
 
-loop-holds : tie.Need-loop-holds Inv-loop μ-loop
-loop-holds c = (omega arith, omega arith, refl)
-
 returns : tie.Need-returns Inv-loop μ-loop
 returns c = starts-short (c .before .before .before .args .line .now) (c .before .before .before .args .word .now) (c .before .before .loop .i) (c .before .before .loop .inv .2) (omega arith) (omega arith)
 
-shared-slice-read-if2 : tie.Need-shared-slice-read-if2 Inv-loop μ-loop
-shared-slice-read-if2 c = omega arith
-
-shared-slice-read-if2-2 : tie.Need-shared-slice-read-if2-2 Inv-loop μ-loop
-shared-slice-read-if2-2 c = omega arith
-
 returns-2 : tie.Need-returns-2 Inv-loop μ-loop
 returns-2 c = starts-other (c .before .before .before .before .before .before .args .line .now) (c .before .before .before .before .before .before .args .word .now) (c .before .before .before .before .before .loop .i) (c .before .before .before .before .before .loop .inv .2) (omega arith) (omega arith) (c .if2 .taken)
-
-add-i : tie.Need-add-i Inv-loop μ-loop
-add-i c = omega arith
-
-loop-less : tie.Need-loop-less Inv-loop μ-loop
-loop-less c = omega arith
 
 loop-again : tie.Need-loop-again Inv-loop μ-loop
 loop-again c = (omega arith, omega arith, starts-turn (c .before .before .before .before .before .before .args .line .now) (c .before .before .before .before .before .before .args .word .now) (c .before .before .before .before .before .loop .i) (c .before .before .before .before .before .loop .inv .2) (omega arith) (omega arith) (c .if2 .left))
@@ -50,12 +32,12 @@ starts-with-spec =
     (tie.spec
     Inv-loop
     μ-loop
-    loop-holds
+    (λ c. (omega arith, omega arith, refl))
     returns
-    shared-slice-read-if2
-    shared-slice-read-if2-2
+    (λ c. omega arith)
+    (λ c. omega arith)
     returns-2
-    add-i
-    loop-less
+    (λ c. omega arith)
+    (λ c. omega arith)
     loop-again
     returns-3)

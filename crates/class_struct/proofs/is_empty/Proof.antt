@@ -2,8 +2,6 @@ use borrow.Author.Needs.{needs}
 use Rattle.paper.specs.Classes.{is-empty}
 use Rattle.class_struct.proofs.is_empty.Statement.{statement}
 use Rattle.class_struct.proofs.is_empty.Tie as tie
-use Rattle.class_struct.proofs.is_empty.Reads as reads
-use Rattle.class_struct.proofs.is_empty.Lts as lts
 
 returns : tie.Need-returns
 unfolding is-empty

@@ -3,22 +3,9 @@ use borrow.Author.Needs.{needs}
 use Rattle.classes.proofs.Calls.{test-out, test-in, sought-out, sought-in}
 use Rattle.classes.proofs.find_mut_in.Statement.{statement}
 use Rattle.classes.proofs.find_mut_in.Tie as tie
-use Rattle.classes.proofs.find_mut_in.Reads as reads
-use Rattle.classes.proofs.find_mut_in.Lts as lts
-use Rattle.classes.proofs.halve_in.Reads as halve-in-reads
-use Rattle.widths.proofs.size16.Reads as size16-reads
-
-size16-requires : tie.Need-size16-requires
-size16-requires c κs = search needs
-
-returns : tie.Need-returns
-returns c = λ R n. sought-out _ _ (test-out _ _ (c .before .size16 .ensures) (c .if1 .taken))
-
-halve-in-requires : tie.Need-halve-in-requires
-halve-in-requires c κs = search needs
 
 returns-2 : tie.Need-returns-2
 returns-2 c = λ R n. sought-in _ _ (test-in _ _ (c .before .before .before .size16 .ensures) (c .before .before .if1 .left)) (c .halve-in .ensures)
 
 pub find-mut-in-spec : {M : Type 1} → statement M
-find-mut-in-spec = tie.close (tie.spec size16-requires returns halve-in-requires returns-2)
+find-mut-in-spec = tie.close (tie.spec (λ c κs. search needs) (λ c. λ R n. sought-out _ _ (test-out _ _ (c .before .size16 .ensures) (c .if1 .taken))) (λ c κs. search needs) returns-2)

@@ -1,5 +1,5 @@
 -- `classes::halve_in` meets its contract: what is left of the turns gives what all of them give. Assumes nothing.
-use Prim.Native.Nat.{ℕ, _≤_, _-_}
+use Prim.Native.Nat.{_≤_, _-_}
 use mathlib.Core.Path.{_≡_, refl, _∙_, sym}
 use native.Mathlib.Omega.{arith}
 use borrow.Author.Needs.{needs}
@@ -8,9 +8,6 @@ use Rattle.paper.specs.Classes.{halve, halve-in}
 use Rattle.classes.proofs.Steps.{halve-nil, half-out, half-root, half-none, half-step}
 use Rattle.classes.proofs.halve_in.Statement.{statement}
 use Rattle.classes.proofs.halve_in.Tie as tie
-use Rattle.classes.proofs.halve_in.Reads as reads
-use Rattle.classes.proofs.halve_in.Lts as lts
-use Rattle.widths.proofs.size16.Reads as size16-reads
 
 abbrev Inv-loop : tie.InvT-loop
 Inv-loop parents₀ x at₀ steps₀ parents at steps = (steps ≤ max-sites) × (halve (max-sites - steps) parents at ≡ halve-in parents₀ x)
@@ -22,44 +19,14 @@ loop-holds : tie.Need-loop-holds Inv-loop μ-loop
 unfolding halve-in
 loop-holds c = (search needs, refl)
 
-size16-requires : tie.Need-size16-requires Inv-loop μ-loop
-size16-requires c κs = search needs
-
 returns : tie.Need-returns Inv-loop μ-loop
 returns c = half-out _ _ _ _ (c .before .size16 .ensures) (omega arith) (c .if1 .taken) (c .before .before .before .loop .inv .1)
-
-mul-up : tie.Need-mul-up Inv-loop μ-loop
-mul-up c = omega arith
-
-element-copy-out-up : tie.Need-element-copy-out-up Inv-loop μ-loop
-element-copy-out-up c = omega arith
 
 returns-2 : tie.Need-returns-2 Inv-loop μ-loop
 returns-2 c = half-root _ _ _ _ (c .before .before .before .size16 .ensures) (omega arith) (omega arith) (c .if2 .taken) (c .before .before .before .before .before .loop .inv .1)
 
-size16-requires-2 : tie.Need-size16-requires-2 Inv-loop μ-loop
-size16-requires-2 c κs = search needs
-
 returns-3 : tie.Need-returns-3 Inv-loop μ-loop
 returns-3 c = half-none _ _ _ _ (c .before .before .before .before .before .size16 .ensures) (omega arith) (omega arith) _ (c .before .size162 .ensures) (c .before .before .if2 .left) (c .if3 .taken) (c .before .before .before .before .before .before .before .loop .inv .1)
-
-mul-over : tie.Need-mul-over Inv-loop μ-loop
-mul-over c = omega arith
-
-element-copy-out-over : tie.Need-element-copy-out-over Inv-loop μ-loop
-element-copy-out-over c = omega arith
-
-mul-parents : tie.Need-mul-parents Inv-loop μ-loop
-mul-parents c = omega arith
-
-element-write-parents : tie.Need-element-write-parents Inv-loop μ-loop
-element-write-parents c = omega arith
-
-add-steps : tie.Need-add-steps Inv-loop μ-loop
-add-steps c = omega arith
-
-loop-less : tie.Need-loop-less Inv-loop μ-loop
-loop-less c = omega arith
 
 loop-again : tie.Need-loop-again Inv-loop μ-loop
 loop-again c = (
@@ -79,18 +46,18 @@ halve-in-spec =
     Inv-loop
     μ-loop
     loop-holds
-    size16-requires
+    (λ c κs. search needs)
     returns
-    mul-up
-    element-copy-out-up
+    (λ c. omega arith)
+    (λ c. omega arith)
     returns-2
-    size16-requires-2
+    (λ c κs. search needs)
     returns-3
-    mul-over
-    element-copy-out-over
-    mul-parents
-    element-write-parents
-    add-steps
-    loop-less
+    (λ c. omega arith)
+    (λ c. omega arith)
+    (λ c. omega arith)
+    (λ c. omega arith)
+    (λ c. omega arith)
+    (λ c. omega arith)
     loop-again
     returns-4)

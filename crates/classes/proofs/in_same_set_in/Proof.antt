@@ -4,44 +4,13 @@ use Rattle.paper.specs.declared.Found.the-variants.{At, Nothing}
 use Rattle.classes.proofs.Calls.{test-out, test-in, same-x, same-y, same-no, same-two}
 use Rattle.classes.proofs.in_same_set_in.Statement.{statement}
 use Rattle.classes.proofs.in_same_set_in.Tie as tie
-use Rattle.classes.proofs.in_same_set_in.Reads as reads
-use Rattle.classes.proofs.in_same_set_in.Lts as lts
-use Rattle.classes.proofs.trail_in.Reads as trail-in-reads
-use Rattle.widths.proofs.size16.Reads as size16-reads
-
-size16-requires : tie.Need-size16-requires
-size16-requires c κs = search needs
-
-returns : tie.Need-returns
-returns c = λ R n. same-x _ _ _ (test-out _ _ (c .before .size16 .ensures) (c .if1 .taken))
-
-size16-requires-2 : tie.Need-size16-requires-2
-size16-requires-2 c κs = search needs
 
 returns-2 : tie.Need-returns-2
 returns-2 c = λ R n. same-y _ _ _ (test-in _ _ (c .before .before .before .size16 .ensures) (c .before .before .if1 .left)) (test-out _ _ (c .before .size162 .ensures) (c .if2 .taken))
 
-trail-in-requires : tie.Need-trail-in-requires
-trail-in-requires c κs = search needs
-
-enum-known-f : tie.Need-enum-known-f
-enum-known-f c = search needs
-
-enum-told : tie.Need-enum-told
-enum-told c = search needs
-
 returns-3 : tie.Need-returns-3
 returns-3 c =
     λ R n. same-no _ _ _ (test-in _ _ (c .before .before .before .before .before .before .size16 .ensures) (c .before .before .before .before .before .if1 .left)) (test-in _ _ (c .before .before .before .before .size162 .ensures) (c .before .before .before .if2 .left)) _ (c .before .before .trail-in .ensures) (c .enum-told .given .1)
-
-trail-in-requires-2 : tie.Need-trail-in-requires-2
-trail-in-requires-2 c κs = search needs
-
-enum-known-g : tie.Need-enum-known-g
-enum-known-g c = search needs
-
-enum-told-2 : tie.Need-enum-told-2
-enum-told-2 c = search needs
 
 returns-4 : tie.Need-returns-4
 returns-4 c =
@@ -57,16 +26,16 @@ pub in-same-set-in-spec : {M : Type 1} → statement M
 in-same-set-in-spec =
     tie.close
     (tie.spec
-    size16-requires
-    returns
-    size16-requires-2
+    (λ c κs. search needs)
+    (λ c. λ R n. same-x _ _ _ (test-out _ _ (c .before .size16 .ensures) (c .if1 .taken)))
+    (λ c κs. search needs)
     returns-2
-    trail-in-requires
-    enum-known-f
-    enum-told
+    (λ c κs. search needs)
+    (λ c. search needs)
+    (λ c. search needs)
     returns-3
-    trail-in-requires-2
-    enum-known-g
-    enum-told-2
+    (λ c κs. search needs)
+    (λ c. search needs)
+    (λ c. search needs)
     returns-4
     returns-5)

@@ -5,29 +5,12 @@ use Rattle.classes.specs.Answers.{root-in}
 use Rattle.classes.proofs.Calls.{test-out, test-in, rooted-lt, merge-x, merge-y, merge-same, merge-done}
 use Rattle.classes.proofs.merge_in.Statement.{statement}
 use Rattle.classes.proofs.merge_in.Tie as tie
-use Rattle.classes.proofs.merge_in.Reads as reads
-use Rattle.classes.proofs.merge_in.Lts as lts
-use Rattle.classes.proofs.enter.Reads as enter-reads
-use Rattle.classes.proofs.link.Reads as link-reads
-use Rattle.widths.proofs.size16.Reads as size16-reads
-
-size16-requires : tie.Need-size16-requires
-size16-requires c κs = search needs
-
-returns : tie.Need-returns
-returns c = merge-x _ _ _ (test-out _ _ (c .before .size16 .ensures) (c .if1 .taken))
-
-size16-requires-2 : tie.Need-size16-requires-2
-size16-requires-2 c κs = search needs
 
 returns-2 : tie.Need-returns-2
 returns-2 c = merge-y _ _ _ (test-in _ _ (c .before .before .before .size16 .ensures) (c .before .before .if1 .left)) (test-out _ _ (c .before .size162 .ensures) (c .if2 .taken))
 
 returns-3 : tie.Need-returns-3
 returns-3 c = merge-same _ _ _ (test-in _ _ (c .before .before .before .before .size16 .ensures) (c .before .before .before .if1 .left)) (test-in _ _ (c .before .before .size162 .ensures) (c .before .if2 .left)) (c .if3 .taken)
-
-enter-requires : tie.Need-enter-requires
-enter-requires c κs = omega (arith, c .before .before .before .before .before .before .before .size16 .ensures)
 
 enter-requires-2 : tie.Need-enter-requires-2
 enter-requires-2 c κs = omega (arith, c .before .before .before .before .before .before .before .before .before .size162 .ensures)
@@ -47,12 +30,12 @@ pub merge-in-spec : {M : Type 1} → statement M
 merge-in-spec =
     tie.close
     (tie.spec
-    size16-requires
-    returns
-    size16-requires-2
+    (λ c κs. search needs)
+    (λ c. merge-x _ _ _ (test-out _ _ (c .before .size16 .ensures) (c .if1 .taken)))
+    (λ c κs. search needs)
     returns-2
     returns-3
-    enter-requires
+    (λ c κs. omega (arith, c .before .before .before .before .before .before .before .size16 .ensures))
     enter-requires-2
     link-requires
     returns-4)

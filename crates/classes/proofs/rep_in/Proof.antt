@@ -4,24 +4,9 @@ use Rattle.paper.specs.declared.Found.the-variants.{At, Nothing}
 use Rattle.classes.proofs.Calls.{rep-at}
 use Rattle.classes.proofs.rep_in.Statement.{statement}
 use Rattle.classes.proofs.rep_in.Tie as tie
-use Rattle.classes.proofs.rep_in.Reads as reads
-use Rattle.classes.proofs.rep_in.Lts as lts
-use Rattle.classes.proofs.trail_in.Reads as trail-in-reads
-
-trail-in-requires : tie.Need-trail-in-requires
-trail-in-requires c κs = search needs
-
-enum-known-f : tie.Need-enum-known-f
-enum-known-f c = search needs
-
-enum-told : tie.Need-enum-told
-enum-told c = search needs
-
-returns : tie.Need-returns
-returns c = rep-at _ _ _ Nothing (c .before .before .trail-in .ensures) (c .enum-told .given .1)
 
 returns-2 : tie.Need-returns-2
 returns-2 c = rep-at _ _ _ (At _) (c .before .before .before .trail-in .ensures) (c .before .f .given .1)
 
 pub rep-in-spec : {M : Type 1} → statement M
-rep-in-spec = tie.close (tie.spec trail-in-requires enum-known-f enum-told returns returns-2)
+rep-in-spec = tie.close (tie.spec (λ c κs. search needs) (λ c. search needs) (λ c. search needs) (λ c. rep-at _ _ _ Nothing (c .before .before .trail-in .ensures) (c .enum-told .given .1)) returns-2)

@@ -1,5 +1,5 @@
 -- `classes::trail_in` meets its contract: what is left of the turns gives what all of them give. Assumes nothing.
-use Prim.Native.Nat.{ℕ, _≤_, _-_}
+use Prim.Native.Nat.{_≤_, _-_}
 use mathlib.Core.Path.{_≡_, refl, _∙_, sym}
 use native.Mathlib.Omega.{arith}
 use borrow.Author.Needs.{needs}
@@ -8,9 +8,6 @@ use Rattle.paper.specs.Classes.{seek, find-in}
 use Rattle.classes.proofs.Steps.{seek-none, at-out, at-root, at-step}
 use Rattle.classes.proofs.trail_in.Statement.{statement}
 use Rattle.classes.proofs.trail_in.Tie as tie
-use Rattle.classes.proofs.trail_in.Reads as reads
-use Rattle.classes.proofs.trail_in.Lts as lts
-use Rattle.widths.proofs.size16.Reads as size16-reads
 
 abbrev Inv-loop : tie.InvT-loop
 Inv-loop parents x at₀ links₀ at links = (links ≤ max-sites) × (seek (max-sites - links) parents at links ≡ find-in parents x)
@@ -22,26 +19,11 @@ loop-holds : tie.Need-loop-holds Inv-loop μ-loop
 unfolding find-in
 loop-holds c = (search needs, refl)
 
-size16-requires : tie.Need-size16-requires Inv-loop μ-loop
-size16-requires c κs = search needs
-
 returns : tie.Need-returns Inv-loop μ-loop
 returns c = at-out _ _ _ _ (c .before .size16 .ensures) (omega arith) (c .if1 .taken) (c .before .before .before .loop .inv .1)
 
-mul-up : tie.Need-mul-up Inv-loop μ-loop
-mul-up c = omega arith
-
-element-copy-out-up : tie.Need-element-copy-out-up Inv-loop μ-loop
-element-copy-out-up c = omega arith
-
 returns-2 : tie.Need-returns-2 Inv-loop μ-loop
 returns-2 c = at-root _ _ _ _ (c .before .before .before .size16 .ensures) (omega arith) (omega arith) (c .if2 .taken) (c .before .before .before .before .before .loop .inv .1)
-
-add-links : tie.Need-add-links Inv-loop μ-loop
-add-links c = omega arith
-
-loop-less : tie.Need-loop-less Inv-loop μ-loop
-loop-less c = omega arith
 
 loop-again : tie.Need-loop-again Inv-loop μ-loop
 loop-again c = (omega arith, at-step _ _ _ _ (c .before .before .before .size16 .ensures) (omega arith) (omega arith) (c .if2 .left) (c .before .before .before .before .before .loop .inv .1))
@@ -58,12 +40,12 @@ trail-in-spec =
     Inv-loop
     μ-loop
     loop-holds
-    size16-requires
+    (λ c κs. search needs)
     returns
-    mul-up
-    element-copy-out-up
+    (λ c. omega arith)
+    (λ c. omega arith)
     returns-2
-    add-links
-    loop-less
+    (λ c. omega arith)
+    (λ c. omega arith)
     loop-again
     returns-3)

@@ -8,9 +8,5 @@ lowest-named-requires : tie.Need-lowest-named-requires
 lowest-named-requires c κs =
     (c .before .before .before .before .before .before .before .before .pre .0, (c .before .before .before .before .before .before .before .before .pre .1, searched-none (chart (c .before .before .before .before .before .before .before .before .args .rows .now) (c .before .before .before .before .before .before .before .before .args .words .now) (c .before .before .before .before .before .before .before .before .args .kids .now)) _ _))
 
-returns : tie.Need-returns
-returns c =
-    c .lowest-named .ensures
-
 pub endless-spec : {M : Type 1} → statement M
-endless-spec = tie.close (tie.spec lowest-named-requires returns)
+endless-spec = tie.close (tie.spec lowest-named-requires (λ c. c .lowest-named .ensures))

@@ -5,21 +5,6 @@ use borrow.Author.Needs.{needs}
 use Rattle.rule_check.proofs.judge.Statement.{statement}
 use Rattle.rule_check.proofs.judge.Tie as tie
 
-group-requires : tie.Need-group-requires
-group-requires c κs = tt
-
-enum-known-g : tie.Need-enum-known-g
-enum-known-g c = search needs
-
-enum-told : tie.Need-enum-told
-enum-told c = search needs
-
-holder-count-requires : tie.Need-holder-count-requires
-holder-count-requires c κs = tt
-
-size16-requires : tie.Need-size16-requires
-size16-requires c κs = tt
-
 walks-requires : tie.Need-walks-requires
 walks-requires c κs =
     (judge-ready (c .before .before .before .before .before .before .before .before .before .before .before .before .before .before .args .eqs .now) (held (c .before .before .before .before .before .before .before .before .before .before .before .before .before .before .args .sites .now) (c .before .before .before .before .before .before .before .before .before .before .before .before .before .before .args .rows .now) (c .before .before .before .before .before .before .before .before .before .before .before .before .before .before .args .words .now) (c .before .before .before .before .before .before .before .before .before .before .before .before .before .before .args .kids .now)) _ _ _ (c .before .before .before .before .before .before .group .ensures) (c .before .before .before .before .enum-told .given .1), (inside-sites (c .before .before .before .before .before .before .before .before .before .before .before .before .before .before .args .eqs .now) (held (c .before .before .before .before .before .before .before .before .before .before .before .before .before .before .args .sites .now) (c .before .before .before .before .before .before .before .before .before .before .before .before .before .before .args .rows .now) (c .before .before .before .before .before .before .before .before .before .before .before .before .before .before .args .words .now) (c .before .before .before .before .before .before .before .before .before .before .before .before .before .before .args .kids .now)) _ _ _ (c .before .before .before .before .before .before .group .ensures) (c .before .before .before .before .enum-told .given .1), judge-named (c .before .before .before .before .before .before .before .before .before .before .before .before .before .before .args .eqs .now) (held (c .before .before .before .before .before .before .before .before .before .before .before .before .before .before .args .sites .now) (c .before .before .before .before .before .before .before .before .before .before .before .before .before .before .args .rows .now) (c .before .before .before .before .before .before .before .before .before .before .before .before .before .before .args .words .now) (c .before .before .before .before .before .before .before .before .before .before .before .before .before .before .args .kids .now)) _ _ _ (c .before .before .before .before .before .before .group .ensures) (c .before .before .before .before .enum-told .given .1)))
@@ -36,11 +21,11 @@ pub judge-spec : {M : Type 1} → statement M
 judge-spec =
     tie.close
     (tie.spec
-    group-requires
-    enum-known-g
-    enum-told
-    holder-count-requires
-    size16-requires
+    (λ c κs. tt)
+    (λ c. search needs)
+    (λ c. search needs)
+    (λ c κs. tt)
+    (λ c κs. tt)
     walks-requires
     returns
     returns-2)

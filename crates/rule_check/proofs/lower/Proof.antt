@@ -13,12 +13,6 @@ returns-2 : tie.Need-returns-2
 returns-2 c =
     (c .before .before .before .before .before .pre .1 .0, lower-above (chart (c .before .before .before .before .before .args .rows .now) (c .before .before .before .before .before .args .words .now) (c .before .before .before .before .before .args .kids .now)) _ _ _ _ (c .before .before .before .before .before .pre .1 .1) (c .if2 .taken))
 
-rep-in-requires : tie.Need-rep-in-requires
-rep-in-requires c κs = tt
-
-size16-requires : tie.Need-size16-requires
-size16-requires c κs = tt
-
 element-copy-out-if3 : tie.Need-element-copy-out-if3
 element-copy-out-if3 c =
     let h = root-inside _ _ _ _ (c .before .before .before .before .before .before .before .pre .0) _ _ (c .before .before .before .before .before .before .before .pre .1 .1) _ (c .before .rep-in .ensures) (c .before .before .if2 .left) in let e = c .size16 .ensures in omega arith
@@ -49,8 +43,8 @@ lower-spec =
     (tie.spec
     returns
     returns-2
-    rep-in-requires
-    size16-requires
+    (λ c κs. tt)
+    (λ c κs. tt)
     element-copy-out-if3
     returns-3
     returning-requires

@@ -4,9 +4,6 @@ use Rattle.rule_check.proofs.Naming.{zero-inside, searched-on, told-non
 use Rattle.rule_check.proofs.lowest_named.Statement.{statement}
 use Rattle.rule_check.proofs.lowest_named.Tie as tie
 
-rep-in-requires : tie.Need-rep-in-requires
-rep-in-requires c κs = tt
-
 returning-requires : tie.Need-returning-requires
 returning-requires c κs =
     (c .before .before .before .before .before .before .before .before .pre .0, (zero-inside _ _ (c .before .before .before .before .before .before .before .before .pre .0) _ (c .before .before .rep-in .ensures), c .before .before .before .before .before .before .before .before .pre .1 .1 .fresh))
@@ -35,7 +32,7 @@ pub lowest-named-spec : {M : Type 1} → statement M
 lowest-named-spec =
     tie.close
     (tie.spec
-    rep-in-requires
+    (λ c κs. tt)
     returning-requires
     returns
     lowest-of-requires

@@ -19,25 +19,9 @@ loop-holds : tie.Need-loop-holds Inv-loop μ-loop
 loop-holds c =
     (omega arith, (c .before .before .before .before .pre .1 .0, of-none _ _ _ _ _ (c .before .before .before .before .pre .1 .1)))
 
-mul-x : tie.Need-mul-x Inv-loop μ-loop
-mul-x c =
-    omega arith
-
-shared-slice-read-x : tie.Need-shared-slice-read-x Inv-loop μ-loop
-shared-slice-read-x c =
-    omega arith
-
 lower-requires : tie.Need-lower-requires Inv-loop μ-loop
 lower-requires c κs =
     (c .before .before .before .before .before .before .before .before .before .before .pre .0, (c .before .before .before .before .before .loop .inv .1 .0, c .before .before .before .before .before .loop .inv .1 .1 .told))
-
-add-k : tie.Need-add-k Inv-loop μ-loop
-add-k c =
-    omega arith
-
-loop-less : tie.Need-loop-less Inv-loop μ-loop
-loop-less c =
-    omega arith
 
 loop-again : tie.Need-loop-again Inv-loop μ-loop
 loop-again c =
@@ -55,10 +39,10 @@ lowest-of-spec =
     Inv-loop
     μ-loop
     loop-holds
-    mul-x
-    shared-slice-read-x
+    (λ c. omega arith)
+    (λ c. omega arith)
     lower-requires
-    add-k
-    loop-less
+    (λ c. omega arith)
+    (λ c. omega arith)
     loop-again
     returns)

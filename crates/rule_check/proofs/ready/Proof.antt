@@ -17,37 +17,9 @@ Inv-loop p boss turned words kids i m f₀ f = (f ≤ m) × ((g : ℕ) → g < f
 abbrev μ-loop : tie.MeasureT-loop
 μ-loop p boss turned words kids i m f₀ f = m - f
 
-fields-requires : tie.Need-fields-requires Inv-loop μ-loop
-fields-requires c κs = tt
-
-loop-holds : tie.Need-loop-holds Inv-loop μ-loop
-loop-holds c =
-    (omega arith, λ g h. absurd (omega arith))
-
-kid-requires : tie.Need-kid-requires Inv-loop μ-loop
-kid-requires c κs = tt
-
-rep-in-requires : tie.Need-rep-in-requires Inv-loop μ-loop
-rep-in-requires c κs = tt
-
-size16-requires : tie.Need-size16-requires Inv-loop μ-loop
-size16-requires c κs = tt
-
 over-requires : tie.Need-over-requires Inv-loop μ-loop
 over-requires c κs =
     kid-root _ _ (c .before .before .before .before .before .before .before .before .pre) _ _ _ _ _ (c .before .before .kid .ensures) (c .before .rep-in .ensures) (c .size16 .ensures)
-
-returns : tie.Need-returns Inv-loop μ-loop
-returns c =
-    λ e. no-way (sym e)
-
-add-f : tie.Need-add-f Inv-loop μ-loop
-add-f c =
-    omega arith
-
-loop-less : tie.Need-loop-less Inv-loop μ-loop
-loop-less c =
-    omega arith
 
 loop-again : tie.Need-loop-again Inv-loop μ-loop
 loop-again c =
@@ -63,14 +35,14 @@ ready-spec =
     (tie.spec
     Inv-loop
     μ-loop
-    fields-requires
-    loop-holds
-    kid-requires
-    rep-in-requires
-    size16-requires
+    (λ c κs. tt)
+    (λ c. (omega arith, λ g h. absurd (omega arith)))
+    (λ c κs. tt)
+    (λ c κs. tt)
+    (λ c κs. tt)
     over-requires
-    returns
-    add-f
-    loop-less
+    (λ c. λ e. no-way (sym e))
+    (λ c. omega arith)
+    (λ c. omega arith)
     loop-again
     returns-2)

@@ -15,17 +15,6 @@ Inv-loop p boss rows words kids seen₀ queue₀ l tail₀ head₀ seen queue ta
 abbrev μ-loop : tie.MeasureT-loop
 μ-loop p boss rows words kids seen₀ queue₀ l tail₀ head₀ seen queue tail head = max-sites - head
 
-size16-requires : tie.Need-size16-requires Inv-loop μ-loop
-size16-requires c κs = tt
-
-mul-if1 : tie.Need-mul-if1 Inv-loop μ-loop
-mul-if1 c =
-    omega (arith, c .size16 .ensures, c .before .before .before .before .pre .1 .0)
-
-element-copy-out-if1 : tie.Need-element-copy-out-if1 Inv-loop μ-loop
-element-copy-out-if1 c =
-    omega (arith, c .size16 .ensures, c .before .before .before .before .pre .1 .0)
-
 returns : tie.Need-returns Inv-loop μ-loop
 returns c =
     (no-holder (chart (c .before .before .before .before .before .before .args .rows .now) (c .before .before .before .before .before .before .args .words .now) (c .before .before .before .before .before .before .args .kids .now)) _ _ _ _ (c .before .before .size16 .ensures) (c .if1 .taken), c .before .before .before .before .before .before .pre .1 .1)
@@ -33,10 +22,6 @@ returns c =
 visit-kids-requires : tie.Need-visit-kids-requires Inv-loop μ-loop
 visit-kids-requires c κs =
     (c .before .before .before .before .before .before .before .before .pre .0, (visited-none _ _ _ _ _ _ (c .before .before .before .before .before .before .before .before .pre .1 .1), (c .before .before .before .before .before .before .before .before .pre .1 .0, inl refl)))
-
-loop-holds : tie.Need-loop-holds Inv-loop μ-loop
-loop-holds c =
-    search-start _ _ _ _ _ _ _ (c .visit-kids .ensures .0) (c .visit-kids .ensures .1 .1)
 
 mul-x : tie.Need-mul-x Inv-loop μ-loop
 mul-x c =
@@ -64,9 +49,6 @@ loop-again : tie.Need-loop-again Inv-loop μ-loop
 loop-again c =
     search-step _ _ _ _ _ _ _ _ _ _ _ (c .before .before .before .before .before .loop .inv) (c .before .before .before .before .loop-test .taken) (c .visit-kids2 .ensures .0) (c .visit-kids2 .ensures .1 .0) (c .visit-kids2 .ensures .1 .1)
 
-size16-requires-2 : tie.Need-size16-requires-2 Inv-loop μ-loop
-size16-requires-2 c κs = tt
-
 element-copy-out-back : tie.Need-element-copy-out-back Inv-loop μ-loop
 element-copy-out-back c =
     omega (arith, c .size162 .ensures, c .before .before .before .before .before .before .before .before .before .before .before .before .pre .1 .0)
@@ -87,19 +69,19 @@ returning-spec =
     (tie.spec
     Inv-loop
     μ-loop
-    size16-requires
-    mul-if1
-    element-copy-out-if1
+    (λ c κs. tt)
+    (λ c. omega (arith, c .size16 .ensures, c .before .before .before .before .pre .1 .0))
+    (λ c. omega (arith, c .size16 .ensures, c .before .before .before .before .pre .1 .0))
     returns
     visit-kids-requires
-    loop-holds
+    (λ c. search-start _ _ _ _ _ _ _ (c .visit-kids .ensures .0) (c .visit-kids .ensures .1 .1))
     mul-x
     element-copy-out-x
     visit-kids-requires-2
     add-head
     loop-less
     loop-again
-    size16-requires-2
+    (λ c κs. tt)
     element-copy-out-back
     wipe-requires
     returns-2)

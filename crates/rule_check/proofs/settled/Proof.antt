@@ -25,18 +25,6 @@ turns-requires : tie.Need-turns-requires Inv-loop μ-loop
 turns-requires c κs =
     (c .before .before .before .before .before .before .before .pre .0, (c .before .before .before .before .before .before .before .pre .1, c .before .before .loop .inv .0))
 
-returns : tie.Need-returns Inv-loop μ-loop
-returns c =
-    λ e. no-way (sym e)
-
-loop-less : tie.Need-loop-less Inv-loop μ-loop
-loop-less c =
-    let t = c .if1 .left in omega arith
-
-loop-again : tie.Need-loop-again Inv-loop μ-loop
-loop-again c =
-    c .before .turns .ensures
-
 returns-2 : tie.Need-returns-2 Inv-loop μ-loop
 returns-2 c =
     let e : c .before .loop .left ≡ 0 = let t = c .loop-test .left in omega arith in
@@ -45,4 +33,4 @@ returns-2 c =
 pub settled-spec : {M : Type 1} → statement M
 settled-spec =
     tie.close
-    (tie.spec Inv-loop μ-loop loop-holds turns-requires returns loop-less loop-again returns-2)
+    (tie.spec Inv-loop μ-loop loop-holds turns-requires (λ c. λ e. no-way (sym e)) (λ c. let t = c .if1 .left in omega arith) (λ c. c .before .turns .ensures) returns-2)

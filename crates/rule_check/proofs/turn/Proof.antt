@@ -4,12 +4,6 @@ use borrow.Author.Needs.{needs}
 use Rattle.rule_check.proofs.turn.Statement.{statement}
 use Rattle.rule_check.proofs.turn.Tie as tie
 
-rep-in-requires : tie.Need-rep-in-requires
-rep-in-requires c κs = tt
-
-size16-requires : tie.Need-size16-requires
-size16-requires c κs = tt
-
 element-copy-out-if1 : tie.Need-element-copy-out-if1
 element-copy-out-if1 c =
     rep-inside _ _ (c .before .before .before .before .before .pre .0) _ _ _ (c .before .before .before .before .before .pre .1 .0) (c .before .rep-in .ensures) (c .size16 .ensures)
@@ -18,21 +12,9 @@ returns : tie.Need-returns
 returns c =
     turn-was (c .before .before .before .before .before .before .before .args .rows .now) (c .before .before .before .before .before .before .before .args .words .now) (c .before .before .before .before .before .before .before .args .kids .now) (c .before .before .before .before .before .before .before .args .p .now) (c .before .before .before .before .before .before .before .args .boss .now) (c .before .before .before .before .before .before .before .args .turned .now) (c .before .before .before .before .before .before .before .pre .1 .1) _ _ _ (rep-inside _ _ (c .before .before .before .before .before .before .before .pre .0) _ _ _ (c .before .before .before .before .before .before .before .pre .1 .0) (c .before .before .before .rep-in .ensures) (c .before .before .size16 .ensures)) (c .before .before .before .rep-in .ensures) (c .before .before .size16 .ensures) (c .if1 .taken)
 
-mul-size16 : tie.Need-mul-size16
-mul-size16 c = search needs
-
 element-copy-out-size16 : tie.Need-element-copy-out-size16
 element-copy-out-size16 c =
     rep-inside _ _ (c .before .before .before .before .before .before .before .pre .0) _ _ _ (c .before .before .before .before .before .before .before .pre .1 .0) (c .before .before .before .rep-in .ensures) (c .before .before .size16 .ensures)
-
-size16-requires-2 : tie.Need-size16-requires-2
-size16-requires-2 c κs = tt
-
-at-requires : tie.Need-at-requires
-at-requires c κs = tt
-
-ready-requires : tie.Need-ready-requires
-ready-requires c κs = search needs
 
 element-write-turned : tie.Need-element-write-turned
 element-write-turned c =
@@ -50,15 +32,15 @@ pub turn-spec : {M : Type 1} → statement M
 turn-spec =
     tie.close
     (tie.spec
-    rep-in-requires
-    size16-requires
+    (λ c κs. tt)
+    (λ c κs. tt)
     element-copy-out-if1
     returns
-    mul-size16
+    (λ c. search needs)
     element-copy-out-size16
-    size16-requires-2
-    at-requires
-    ready-requires
+    (λ c κs. tt)
+    (λ c κs. tt)
+    (λ c κs. search needs)
     element-write-turned
     returns-2
     returns-3)

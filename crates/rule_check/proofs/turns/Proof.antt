@@ -19,13 +19,6 @@ loop-holds : tie.Need-loop-holds Inv-loop μ-loop
 loop-holds c =
     turns-none (chart (c .before .before .before .before .args .rows .now) (c .before .before .before .before .args .words .now) (c .before .before .before .before .args .kids .now)) (c .before .before .before .before .args .p .now) (c .before .before .before .before .args .boss .now) (c .before .before .before .before .args .sites .now) (c .before .before .before .before .args .m) _ (c .before .before .before .before .pre .1 .1)
 
-sub-h : tie.Need-sub-h Inv-loop μ-loop
-sub-h c =
-    let t = c .loop-test .taken in omega arith
-
-at-requires : tie.Need-at-requires Inv-loop μ-loop
-at-requires c κs = tt
-
 turn-requires : tie.Need-turn-requires Inv-loop μ-loop
 turn-requires c κs =
     (c .before .before .before .before .before .before .before .before .pre .0, (rw (c .before .at .ensures) (c .before .before .before .before .before .before .before .before .pre .1 .0 _), c .before .before .before .loop .inv .safe))
@@ -34,18 +27,10 @@ add-left : tie.Need-add-left Inv-loop μ-loop
 add-left c =
     let f = c .before .before .before .before .before .loop .inv .few in let t = c .before .before .before .before .loop-test .taken in omega arith
 
-loop-less : tie.Need-loop-less Inv-loop μ-loop
-loop-less c =
-    let t = c .before .before .before .before .loop-test .taken in omega arith
-
 loop-again : tie.Need-loop-again Inv-loop μ-loop
 loop-again c =
     let e : (c .before .before .before .before .before .loop .h - 1) + 1 ≡ c .before .before .before .before .before .loop .h = let t = c .before .before .before .before .loop-test .taken in omega arith in
     turns-step (chart (c .before .before .before .before .before .before .before .before .before .before .args .rows .now) (c .before .before .before .before .before .before .before .before .before .before .args .words .now) (c .before .before .before .before .before .before .before .before .before .before .args .kids .now)) (c .before .before .before .before .before .before .before .before .before .before .args .p .now) (c .before .before .before .before .before .before .before .before .before .before .args .boss .now) (c .before .before .before .before .before .before .before .before .before .before .args .sites .now) (c .before .before .before .before .before .before .before .before .before .before .args .m) _ _ _ _ _ _ _ _ e (c .before .before .before .at .ensures) (c .before .before .before .before .before .loop .inv) (c .before .turn .ensures) (inl (not-true _ (c .if1 .taken), refl))
-
-loop-less-2 : tie.Need-loop-less-2 Inv-loop μ-loop
-loop-less-2 c =
-    let t = c .before .before .before .before .loop-test .taken in omega arith
 
 loop-again-2 : tie.Need-loop-again-2 Inv-loop μ-loop
 loop-again-2 c =
@@ -64,12 +49,12 @@ turns-spec =
     Inv-loop
     μ-loop
     loop-holds
-    sub-h
-    at-requires
+    (λ c. let t = c .loop-test .taken in omega arith)
+    (λ c κs. tt)
     turn-requires
     add-left
-    loop-less
+    (λ c. let t = c .before .before .before .before .loop-test .taken in omega arith)
     loop-again
-    loop-less-2
+    (λ c. let t = c .before .before .before .before .loop-test .taken in omega arith)
     loop-again-2
     returns)

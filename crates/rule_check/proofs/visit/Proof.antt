@@ -8,19 +8,6 @@ use borrow.Author.Needs.{needs}
 use Rattle.rule_check.proofs.visit.Statement.{statement}
 use Rattle.rule_check.proofs.visit.Tie as tie
 
-size16-requires : tie.Need-size16-requires
-size16-requires c κs = tt
-
-element-copy-out-if1 : tie.Need-element-copy-out-if1
-element-copy-out-if1 c = search needs
-
-returns : tie.Need-returns
-returns c =
-    old (λ e. c .if1 .taken (rw (c .before .before .size16 .ensures) e)) refl refl refl
-
-element-write-seen : tie.Need-element-write-seen
-element-write-seen c = search needs
-
 mul-queue : tie.Need-mul-queue
 mul-queue c =
     let h = c .before .before .before .pre .1 (subst (λ (i : ℕ). getD (c .before .before .before .args .seen .now) i 0 ≡ 0) (c .before .before .size16 .ensures) (c .if1 .left)) in omega arith
@@ -42,10 +29,10 @@ pub visit-spec : {M : Type 1} → statement M
 visit-spec =
     tie.close
     (tie.spec
-    size16-requires
-    element-copy-out-if1
-    returns
-    element-write-seen
+    (λ c κs. tt)
+    (λ c. search needs)
+    (λ c. old (λ e. c .if1 .taken (rw (c .before .before .size16 .ensures) e)) refl refl refl)
+    (λ c. search needs)
     mul-queue
     element-write-queue
     add-result

@@ -13,29 +13,9 @@ Inv-loop p boss rows words kids l seen₀ queue₀ tail x b i m t₀ f₀ seen q
 abbrev μ-loop : tie.MeasureT-loop
 μ-loop p boss rows words kids l seen₀ queue₀ tail x b i m t₀ f₀ seen queue t f = m - f
 
-size16-requires : tie.Need-size16-requires Inv-loop μ-loop
-size16-requires c κs = tt
-
-mul-b : tie.Need-mul-b Inv-loop μ-loop
-mul-b c =
-    omega (arith, c .size16 .ensures, c .before .before .before .before .pre .1 .1 .0)
-
-element-copy-out-b : tie.Need-element-copy-out-b Inv-loop μ-loop
-element-copy-out-b c =
-    omega (arith, c .size16 .ensures, c .before .before .before .before .pre .1 .1 .0)
-
 returns : tie.Need-returns Inv-loop μ-loop
 returns c =
     (c .before .before .before .before .before .before .pre .1 .0, (extends-self _ _ _, no-marks (chart (c .before .before .before .before .before .before .args .rows .now) (c .before .before .before .before .before .before .args .words .now) (c .before .before .before .before .before .before .args .kids .now)) (c .before .before .before .before .before .before .args .p .now) (c .before .before .before .before .before .before .args .boss .now) (c .before .before .before .before .before .before .args .seen .now) (c .before .before .before .before .before .before .args .x) (rw (c .before .before .size16 .ensures) at (c .if1 .taken))))
-
-size16-requires-2 : tie.Need-size16-requires-2 Inv-loop μ-loop
-size16-requires-2 c κs = tt
-
-at-requires : tie.Need-at-requires Inv-loop μ-loop
-at-requires c κs = tt
-
-fields-requires : tie.Need-fields-requires Inv-loop μ-loop
-fields-requires c κs = tt
 
 loop-holds : tie.Need-loop-holds Inv-loop μ-loop
 loop-holds c =
@@ -45,21 +25,10 @@ kid-requires : tie.Need-kid-requires Inv-loop μ-loop
 kid-requires c κs =
     let h = few-fields (c .before .before .before .before .before .before .before .before .before .before .before .args .rows .now) (c .before .before .before .before .before .before .before .before .before .before .before .args .words .now) (c .before .before .before .before .before .before .before .before .before .before .before .args .kids .now) (c .before .before .before .before .before .before .before .before .before .before .before .args .p .now) (c .before .before .before .before .before .before .before .before .before .before .before .args .boss .now) (c .before .before .before .before .before .before .before .before .before .before .before .pre .0) (c .before .before .before .before .before .before .before .before .before .before .before .args .x) (c .before .before .before .before .before .before .before .before .before .before .before .pre .1 .1 .0) _ _ _ (c .before .before .before .before .before .before .before .size16 .ensures) (c .before .before .before .before .before .if1 .left) (c .before .before .before .before .size162 .ensures) (c .before .before .before .at .ensures) _ (c .before .before .fields .ensures) in let t = c .loop-test .taken in omega arith
 
-rep-in-requires : tie.Need-rep-in-requires Inv-loop μ-loop
-rep-in-requires c κs = tt
-
 visit-requires : tie.Need-visit-requires Inv-loop μ-loop
 visit-requires c κs =
     let h = root-site (c .before .before .before .before .before .before .before .before .before .before .before .before .before .before .before .args .rows .now) (c .before .before .before .before .before .before .before .before .before .before .before .before .before .before .before .args .words .now) (c .before .before .before .before .before .before .before .before .before .before .before .before .before .before .before .args .kids .now) (c .before .before .before .before .before .before .before .before .before .before .before .before .before .before .before .args .p .now) (c .before .before .before .before .before .before .before .before .before .before .before .before .before .before .before .args .boss .now) (c .before .before .before .before .before .before .before .before .before .before .before .before .before .before .before .pre .0) (c .before .before .before .before .before .before .before .before .before .before .before .before .before .before .before .args .x) (c .before .before .before .before .before .before .before .before .before .before .before .before .before .before .before .pre .1 .1 .0) _ _ _ (c .before .before .before .before .before .before .before .before .before .before .before .size16 .ensures) (c .before .before .before .before .before .before .before .before .before .if1 .left) (c .before .before .before .before .before .before .before .before .size162 .ensures) (c .before .before .before .before .before .before .before .at .ensures) _ (c .before .before .before .before .before .before .fields .ensures) _ _ _ (c .before .before .before .kid .ensures) (c .before .before .rep-in .ensures) in
     (h, has-room _ _ _ _ _ _ _ (c .before .before .before .before .before .loop .inv .1 .visited) _ h)
-
-add-f : tie.Need-add-f Inv-loop μ-loop
-add-f c =
-    omega arith
-
-loop-less : tie.Need-loop-less Inv-loop μ-loop
-loop-less c =
-    omega arith
 
 loop-again : tie.Need-loop-again Inv-loop μ-loop
 loop-again c =
@@ -77,18 +46,18 @@ visit-kids-spec =
     (tie.spec
     Inv-loop
     μ-loop
-    size16-requires
-    mul-b
-    element-copy-out-b
+    (λ c κs. tt)
+    (λ c. omega (arith, c .size16 .ensures, c .before .before .before .before .pre .1 .1 .0))
+    (λ c. omega (arith, c .size16 .ensures, c .before .before .before .before .pre .1 .1 .0))
     returns
-    size16-requires-2
-    at-requires
-    fields-requires
+    (λ c κs. tt)
+    (λ c κs. tt)
+    (λ c κs. tt)
     loop-holds
     kid-requires
-    rep-in-requires
+    (λ c κs. tt)
     visit-requires
-    add-f
-    loop-less
+    (λ c. omega arith)
+    (λ c. omega arith)
     loop-again
     returns-2)

@@ -11,32 +11,9 @@ Inv-loop seen₀ queue tail k₀ seen k = (k ≤ tail) × WipedTo seen queue tai
 abbrev μ-loop : tie.MeasureT-loop
 μ-loop seen₀ queue tail k₀ seen k = tail - k
 
-loop-holds : tie.Need-loop-holds Inv-loop μ-loop
-loop-holds c =
-    (omega arith, wiped-none _ _ _ (c .pre))
-
-mul-size16 : tie.Need-mul-size16 Inv-loop μ-loop
-mul-size16 c =
-    let h = c .before .before .pre .few in let t = c .loop-test .taken in omega arith
-
-element-copy-out-size16 : tie.Need-element-copy-out-size16 Inv-loop μ-loop
-element-copy-out-size16 c =
-    let h = c .before .before .pre .few in let t = c .loop-test .taken in omega arith
-
-size16-requires : tie.Need-size16-requires Inv-loop μ-loop
-size16-requires c κs = tt
-
 element-write-seen : tie.Need-element-write-seen Inv-loop μ-loop
 element-write-seen c =
     let h = c .before .before .before .before .pre .sites _ (c .before .before .loop-test .taken) in let e = c .size16 .ensures in omega arith
-
-add-k : tie.Need-add-k Inv-loop μ-loop
-add-k c =
-    omega arith
-
-loop-less : tie.Need-loop-less Inv-loop μ-loop
-loop-less c =
-    omega arith
 
 loop-again : tie.Need-loop-again Inv-loop μ-loop
 loop-again c =
@@ -52,12 +29,12 @@ wipe-spec =
     (tie.spec
     Inv-loop
     μ-loop
-    loop-holds
-    mul-size16
-    element-copy-out-size16
-    size16-requires
+    (λ c. (omega arith, wiped-none _ _ _ (c .pre)))
+    (λ c. let h = c .before .before .pre .few in let t = c .loop-test .taken in omega arith)
+    (λ c. let h = c .before .before .pre .few in let t = c .loop-test .taken in omega arith)
+    (λ c κs. tt)
     element-write-seen
-    add-k
-    loop-less
+    (λ c. omega arith)
+    (λ c. omega arith)
     loop-again
     returns)

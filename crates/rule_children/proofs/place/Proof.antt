@@ -1,18 +1,12 @@
-use mathlib.Core.Path.{_≡_, refl, sym, ap, _∙_}
 use native.Mathlib.Omega.{arith}
 use Rattle.rule_children.proofs.GrowLaws.{Placing, place-start, place-room, place-inside, next-new, next-old, place-length, place-end, Whole, whole-start, whole-new, whole-old, whole-end}
 use denote.Ref.{now}
-use Prim.Native.Nat.{_-_, _≤_}
+use Prim.Native.Nat.{_-_}
 use borrow.Author.Needs.{needs}
 use mathlib.Core.Logic.{⊎-elim}
 use Rattle.rule_children.specs.Tail.{table}
 use Rattle.rule_children.proofs.place.Statement.{statement}
 use Rattle.rule_children.proofs.place.Tie as tie
-use Rattle.rule_children.proofs.place.Reads as reads
-use Rattle.rule_children.proofs.place.Lts as lts
-use Rattle.rule_children.proofs.arity.Reads as arity-reads
-use Rattle.rule_children.proofs.child_word.Reads as child-word-reads
-use Rattle.widths.proofs.size16.Reads as size16-reads
 
 abbrev Inv-loop : tie.InvT-loop
 Inv-loop m n tail₀ k s c of count numbers₀ j₀ f₀ tail numbers j f = Placing (table m n tail₀ k) k s c tail₀ tail numbers j f × Whole m n tail₀ k s c tail j f
@@ -20,87 +14,54 @@ Inv-loop m n tail₀ k s c of count numbers₀ j₀ f₀ tail numbers j f = Plac
 abbrev μ-loop : tie.MeasureT-loop
 μ-loop m n tail₀ k s c of count numbers₀ j₀ f₀ tail numbers j f = count - f
 
--- src/lib.rt:213:9
-arity-requires : tie.Need-arity-requires Inv-loop μ-loop
-arity-requires c κs = search needs
-
--- src/lib.rt:215:9
-size16-requires : tie.Need-size16-requires Inv-loop μ-loop
-size16-requires c κs = search needs
-
--- src/lib.rt:217:5
 loop-holds : tie.Need-loop-holds Inv-loop μ-loop
 loop-holds c = (place-start (table (now (c .before .before .before .before .args .m)) (c .before .before .before .before .args .n) (now (c .before .before .before .before .args .tail)) (c .before .before .before .before .args .k)) (c .before .before .before .before .args .n) (c .before .before .before .before .args .k) (c .before .before .before .before .args .s) (c .before .before .before .before .args .c) _ (now (c .before .before .before .before .args .tail)) (c .before .before .before .before .pre) _ (c .size16 .ensures), whole-start (now (c .before .before .before .before .args .m)) (c .before .before .before .before .args .n) (now (c .before .before .before .before .args .tail)) (c .before .before .before .before .args .k) (c .before .before .before .before .args .s) (c .before .before .before .before .args .c) _ (c .size16 .ensures))
 
--- src/lib.rt:218:19
 mul-old : tie.Need-mul-old Inv-loop μ-loop
 mul-old c = omega (arith, c .before .before .before .arity .ensures .0, c .before .before .before .before .before .before .pre .few, c .loop-test .taken)
 
--- src/lib.rt:218:19
 array-read-old : tie.Need-array-read-old Inv-loop μ-loop
 array-read-old c = omega (arith, c .before .before .before .arity .ensures .0, c .before .before .before .before .before .before .pre .few, c .loop-test .taken)
 
--- src/lib.rt:220:40
 cast-child-word : tie.Need-cast-child-word Inv-loop μ-loop
 cast-child-word c = omega (arith, c .before .before .before .before .arity .ensures .0, c .before .before .before .before .before .before .before .pre .few, c .before .loop-test .taken)
 
--- src/lib.rt:220:23
-child-word-requires : tie.Need-child-word-requires Inv-loop μ-loop
-child-word-requires c κs = search needs
-
--- src/lib.rt:220:13
 mul-tail : tie.Need-mul-tail Inv-loop μ-loop
 mul-tail c = omega (arith, place-room (table (now (c .before .before .before .before .before .before .before .before .args .m)) (c .before .before .before .before .before .before .before .before .args .n) (now (c .before .before .before .before .before .before .before .before .args .tail)) (c .before .before .before .before .before .before .before .before .args .k)) (c .before .before .before .before .before .before .before .before .args .n) (c .before .before .before .before .before .before .before .before .args .k) (c .before .before .before .before .before .before .before .before .args .s) (c .before .before .before .before .before .before .before .before .args .c) _ (now (c .before .before .before .before .before .before .before .before .args .tail)) (c .before .before .before .before .before .before .before .before .pre) _ _ (c .before .before .before .loop .j) (c .before .before .before .loop .f) (c .before .before .before .loop .inv .0) (omega (arith, c .before .before .before .before .before .arity .ensures .0, c .before .before .loop-test .taken)) (c .before .if1 .taken))
 
--- src/lib.rt:220:13
 slice-write-tail : tie.Need-slice-write-tail Inv-loop μ-loop
 slice-write-tail c = place-inside (table (now (c .before .before .before .before .before .before .before .before .args .m)) (c .before .before .before .before .before .before .before .before .args .n) (now (c .before .before .before .before .before .before .before .before .args .tail)) (c .before .before .before .before .before .before .before .before .args .k)) (c .before .before .before .before .before .before .before .before .args .n) (c .before .before .before .before .before .before .before .before .args .k) (c .before .before .before .before .before .before .before .before .args .s) (c .before .before .before .before .before .before .before .before .args .c) _ (now (c .before .before .before .before .before .before .before .before .args .tail)) (c .before .before .before .before .before .before .before .before .pre) _ _ (c .before .before .before .loop .j) (c .before .before .before .loop .f) (c .before .before .before .loop .inv .0) (omega (arith, c .before .before .before .before .before .arity .ensures .0, c .before .before .loop-test .taken)) (c .before .if1 .taken)
 
--- src/lib.rt:221:30
 cast-numbers : tie.Need-cast-numbers Inv-loop μ-loop
 cast-numbers c = omega (arith, place-room (table (now (c .before .before .before .before .before .before .before .before .args .m)) (c .before .before .before .before .before .before .before .before .args .n) (now (c .before .before .before .before .before .before .before .before .args .tail)) (c .before .before .before .before .before .before .before .before .args .k)) (c .before .before .before .before .before .before .before .before .args .n) (c .before .before .before .before .before .before .before .before .args .k) (c .before .before .before .before .before .before .before .before .args .s) (c .before .before .before .before .before .before .before .before .args .c) _ (now (c .before .before .before .before .before .before .before .before .args .tail)) (c .before .before .before .before .before .before .before .before .pre) _ _ (c .before .before .before .loop .j) (c .before .before .before .loop .f) (c .before .before .before .loop .inv .0) (omega (arith, c .before .before .before .before .before .arity .ensures .0, c .before .before .loop-test .taken)) (c .before .if1 .taken))
 
--- src/lib.rt:221:26
 add-numbers : tie.Need-add-numbers Inv-loop μ-loop
 add-numbers c = omega (arith, place-room (table (now (c .before .before .before .before .before .before .before .before .args .m)) (c .before .before .before .before .before .before .before .before .args .n) (now (c .before .before .before .before .before .before .before .before .args .tail)) (c .before .before .before .before .before .before .before .before .args .k)) (c .before .before .before .before .before .before .before .before .args .n) (c .before .before .before .before .before .before .before .before .args .k) (c .before .before .before .before .before .before .before .before .args .s) (c .before .before .before .before .before .before .before .before .args .c) _ (now (c .before .before .before .before .before .before .before .before .args .tail)) (c .before .before .before .before .before .before .before .before .pre) _ _ (c .before .before .before .loop .j) (c .before .before .before .loop .f) (c .before .before .before .loop .inv .0) (omega (arith, c .before .before .before .before .before .arity .ensures .0, c .before .before .loop-test .taken)) (c .before .if1 .taken))
 
--- src/lib.rt:221:13
 mul-numbers : tie.Need-mul-numbers Inv-loop μ-loop
 mul-numbers c = omega (arith, c .before .before .before .before .before .arity .ensures .0, c .before .before .before .before .before .before .before .before .pre .few, c .before .before .loop-test .taken)
 
--- src/lib.rt:221:13
 array-write-numbers : tie.Need-array-write-numbers Inv-loop μ-loop
 array-write-numbers c = omega (arith, c .before .before .before .before .before .arity .ensures .0, c .before .before .before .before .before .before .before .before .pre .few, c .before .before .loop-test .taken)
 
--- src/lib.rt:222:13
 add-j : tie.Need-add-j Inv-loop μ-loop
 add-j c = omega (arith, place-room (table (now (c .before .before .before .before .before .before .before .before .args .m)) (c .before .before .before .before .before .before .before .before .args .n) (now (c .before .before .before .before .before .before .before .before .args .tail)) (c .before .before .before .before .before .before .before .before .args .k)) (c .before .before .before .before .before .before .before .before .args .n) (c .before .before .before .before .before .before .before .before .args .k) (c .before .before .before .before .before .before .before .before .args .s) (c .before .before .before .before .before .before .before .before .args .c) _ (now (c .before .before .before .before .before .before .before .before .args .tail)) (c .before .before .before .before .before .before .before .before .pre) _ _ (c .before .before .before .loop .j) (c .before .before .before .loop .f) (c .before .before .before .loop .inv .0) (omega (arith, c .before .before .before .before .before .arity .ensures .0, c .before .before .loop-test .taken)) (c .before .if1 .taken))
 
--- src/lib.rt:224:13
 mul-numbers-2 : tie.Need-mul-numbers-2 Inv-loop μ-loop
 mul-numbers-2 c = omega (arith, c .before .before .before .before .arity .ensures .0, c .before .before .before .before .before .before .before .pre .few, c .before .loop-test .taken)
 
--- src/lib.rt:224:13
 array-write-numbers-2 : tie.Need-array-write-numbers-2 Inv-loop μ-loop
 array-write-numbers-2 c = omega (arith, c .before .before .before .before .arity .ensures .0, c .before .before .before .before .before .before .before .pre .few, c .before .loop-test .taken)
 
--- src/lib.rt:226:9
 add-f : tie.Need-add-f Inv-loop μ-loop
 add-f c = omega (arith, c .before .before .before .before .arity .ensures .0, c .before .before .before .before .before .before .before .pre .few, c .before .loop-test .taken)
 
--- src/lib.rt:217:5
-loop-less : tie.Need-loop-less Inv-loop μ-loop
-loop-less c = omega (arith, c .before .loop-test .taken)
-
--- src/lib.rt:217:5
 loop-again : tie.Need-loop-again Inv-loop μ-loop
 loop-again c = ⊎-elim (λ w. (next-new (table (now (c .before .before .before .before .before .before .before .args .m)) (c .before .before .before .before .before .before .before .args .n) (now (c .before .before .before .before .before .before .before .args .tail)) (c .before .before .before .before .before .before .before .args .k)) (c .before .before .before .before .before .before .before .args .n) (c .before .before .before .before .before .before .before .args .k) (c .before .before .before .before .before .before .before .args .s) (c .before .before .before .before .before .before .before .args .c) _ (now (c .before .before .before .before .before .before .before .args .tail)) (c .before .before .before .before .before .before .before .pre) _ _ (c .before .before .loop .j) (c .before .before .loop .f) (c .before .before .loop .inv .0) (omega (arith, c .before .before .before .before .arity .ensures .0, c .before .loop-test .taken)) (w .1 .result) _ _ _ (w .0 .taken) (w .1 .ensures) (w .2) (w .3) (w .4), whole-new (now (c .before .before .before .before .before .before .before .args .m)) (c .before .before .before .before .before .before .before .args .n) (now (c .before .before .before .before .before .before .before .args .tail)) (c .before .before .before .before .before .before .before .args .k) (c .before .before .before .before .before .before .before .args .s) (c .before .before .before .before .before .before .before .args .c) _ _ (c .before .before .loop .j) (c .before .before .loop .f) (c .before .before .before .before .before .before .before .pre) (c .before .before .loop .inv .1) (omega (arith, c .before .before .before .before .arity .ensures .0, c .before .loop-test .taken)) (w .1 .result) _ _ (w .0 .taken) (w .1 .ensures) (w .2) (w .4) (place-inside (table (now (c .before .before .before .before .before .before .before .args .m)) (c .before .before .before .before .before .before .before .args .n) (now (c .before .before .before .before .before .before .before .args .tail)) (c .before .before .before .before .before .before .before .args .k)) (c .before .before .before .before .before .before .before .args .n) (c .before .before .before .before .before .before .before .args .k) (c .before .before .before .before .before .before .before .args .s) (c .before .before .before .before .before .before .before .args .c) _ (now (c .before .before .before .before .before .before .before .args .tail)) (c .before .before .before .before .before .before .before .pre) _ _ (c .before .before .loop .j) (c .before .before .loop .f) (c .before .before .loop .inv .0) (omega (arith, c .before .before .before .before .arity .ensures .0, c .before .loop-test .taken)) (w .0 .taken)))) (λ w. (next-old (table (now (c .before .before .before .before .before .before .before .args .m)) (c .before .before .before .before .before .before .before .args .n) (now (c .before .before .before .before .before .before .before .args .tail)) (c .before .before .before .before .before .before .before .args .k)) (c .before .before .before .before .before .before .before .args .n) (c .before .before .before .before .before .before .before .args .k) (c .before .before .before .before .before .before .before .args .s) (c .before .before .before .before .before .before .before .args .c) _ (now (c .before .before .before .before .before .before .before .args .tail)) (c .before .before .before .before .before .before .before .pre) _ _ (c .before .before .loop .j) (c .before .before .loop .f) (c .before .before .loop .inv .0) (omega (arith, c .before .before .before .before .arity .ensures .0, c .before .loop-test .taken)) _ _ _ (w .0 .left) (w .1) (w .2) (w .3), whole-old (now (c .before .before .before .before .before .before .before .args .m)) (c .before .before .before .before .before .before .before .args .n) (now (c .before .before .before .before .before .before .before .args .tail)) (c .before .before .before .before .before .before .before .args .k) (c .before .before .before .before .before .before .before .args .s) (c .before .before .before .before .before .before .before .args .c) _ _ (c .before .before .loop .j) (c .before .before .loop .f) (c .before .before .before .before .before .before .before .pre) (c .before .before .loop .inv .1) (omega (arith, c .before .before .before .before .arity .ensures .0, c .before .loop-test .taken)) _ _ (w .0 .left) (w .1) (w .3))) (c .if1 .came)
 
--- src/lib.rt:208:1
 same-length : tie.Need-same-length Inv-loop μ-loop
 same-length c = place-length (table (now (c .before .before .before .before .before .before .args .m)) (c .before .before .before .before .before .before .args .n) (now (c .before .before .before .before .before .before .args .tail)) (c .before .before .before .before .before .before .args .k)) (c .before .before .before .before .before .before .args .k) (c .before .before .before .before .before .before .args .s) (c .before .before .before .before .before .before .args .c) (now (c .before .before .before .before .before .before .args .tail)) _ _ (c .before .loop .j) (c .before .loop .f) (c .before .loop .inv .0)
 
--- src/lib.rt:208:1
 returns : tie.Need-returns Inv-loop μ-loop
 returns c = let e = place-end (table (now (c .before .before .before .before .before .before .args .m)) (c .before .before .before .before .before .before .args .n) (now (c .before .before .before .before .before .before .args .tail)) (c .before .before .before .before .before .before .args .k)) (c .before .before .before .before .before .before .args .k) (c .before .before .before .before .before .before .args .s) (c .before .before .before .before .before .before .args .c) (now (c .before .before .before .before .before .before .args .tail)) _ _ (c .before .loop .j) (c .before .loop .f) (c .before .loop .inv .0) (omega (arith, c .before .before .before .arity .ensures .0, c .loop-test .left)) in (e .0, e .1, whole-end (now (c .before .before .before .before .before .before .args .m)) (c .before .before .before .before .before .before .args .n) (now (c .before .before .before .before .before .before .args .tail)) (c .before .before .before .before .before .before .args .k) (c .before .before .before .before .before .before .args .s) (c .before .before .before .before .before .before .args .c) _ _ (c .before .loop .j) (c .before .loop .f) (c .before .loop .inv .0) (c .before .loop .inv .1) (omega (arith, c .before .before .before .arity .ensures .0, c .loop-test .left)))
 
@@ -110,13 +71,13 @@ place-spec =
     (tie.spec
     Inv-loop
     μ-loop
-    arity-requires
-    size16-requires
+    (λ c κs. search needs)
+    (λ c κs. search needs)
     loop-holds
     mul-old
     array-read-old
     cast-child-word
-    child-word-requires
+    (λ c κs. search needs)
     mul-tail
     slice-write-tail
     cast-numbers
@@ -127,7 +88,7 @@ place-spec =
     mul-numbers-2
     array-write-numbers-2
     add-f
-    loop-less
+    (λ c. omega (arith, c .before .loop-test .taken))
     loop-again
     same-length
     returns)

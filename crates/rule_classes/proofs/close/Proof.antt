@@ -11,17 +11,9 @@ Inv-loop p₀ r₀ n₀ sites rows words kids m p r n = Between (held sites rows
 abbrev μ-loop : tie.MeasureT-loop
 μ-loop p₀ r₀ n₀ sites rows words kids m p r n = class-count p
 
-loop-holds : tie.Need-loop-holds Inv-loop μ-loop
-loop-holds c =
-    between-none _ _ _ _ _ (c .before .before .before .before .pre .0)
-
 sweep-requires : tie.Need-sweep-requires Inv-loop μ-loop
 sweep-requires c κs =
     (c .before .before .before .loop .inv .well, c .before .before .before .before .before .before .before .before .pre .1)
-
-loop-less : tie.Need-loop-less Inv-loop μ-loop
-loop-less c =
-    c .before .sweep .ensures .grown .fewer (c .if1 .taken)
 
 loop-again : tie.Need-loop-again Inv-loop μ-loop
 loop-again c =
@@ -33,4 +25,4 @@ returns c =
 
 pub close-spec : {M : Type 1} → statement M
 close-spec =
-    tie.close (tie.spec Inv-loop μ-loop loop-holds sweep-requires loop-less loop-again returns)
+    tie.close (tie.spec Inv-loop μ-loop (λ c. between-none _ _ _ _ _ (c .before .before .before .before .pre .0)) sweep-requires (λ c. c .before .sweep .ensures .grown .fewer (c .if1 .taken)) loop-again returns)

@@ -14,41 +14,13 @@ Inv-loop p sites rows words boss₀ m h₀ boss h = (h ≤ m) × Seated (bare si
 abbrev μ-loop : tie.MeasureT-loop
 μ-loop p sites rows words boss₀ m h₀ boss h = m - h
 
-loop-holds : tie.Need-loop-holds Inv-loop μ-loop
-loop-holds c =
-    (omega arith, seated-none _ _ _ (c .before .before .before .pre .1 .1))
-
 seat-requires : tie.Need-seat-requires Inv-loop μ-loop
 seat-requires c κs =
     (c .before .before .before .before .before .before .pre .0, ((omega (arith, c .before .before .before .before .before .before .pre .1 .0 .0, c .before .loop-test .taken), c .before .before .before .before .before .before .pre .1 .0 .1), c .before .before .loop .inv .1))
 
-size16-requires : tie.Need-size16-requires Inv-loop μ-loop
-size16-requires c κs = tt
-
-at-requires : tie.Need-at-requires Inv-loop μ-loop
-at-requires c κs = tt
-
-size16-requires-2 : tie.Need-size16-requires-2 Inv-loop μ-loop
-size16-requires-2 c κs = tt
-
-at-requires-2 : tie.Need-at-requires-2 Inv-loop μ-loop
-at-requires-2 c κs = tt
-
 returns : tie.Need-returns Inv-loop μ-loop
 returns c =
     clash-at (bare (c .before .before .before .before .before .before .before .before .before .before .before .before .args .sites .now) (c .before .before .before .before .before .before .before .before .before .before .before .before .args .rows .now) (c .before .before .before .before .before .before .before .before .before .before .before .before .args .words .now)) _ _ _ _ _ _ _ _ _ (c .before .before .before .before .before .before .before .before .loop .inv .1) (c .before .before .before .before .before .before .before .loop-test .taken) (c .before .before .before .before .before .seat .ensures .1 (c .before .before .before .before .if1 .taken)) (c .before .before .before .size16 .ensures) (c .before .before .at .ensures) (c .before .size162 .ensures) (c .at2 .ensures) _
-
-add-h : tie.Need-add-h Inv-loop μ-loop
-add-h c =
-    omega arith
-
-loop-less : tie.Need-loop-less Inv-loop μ-loop
-loop-less c =
-    omega arith
-
-loop-again : tie.Need-loop-again Inv-loop μ-loop
-loop-again c =
-    (omega arith, c .before .seat .ensures .0 (c .if1 .left))
 
 returns-2 : tie.Need-returns-2 Inv-loop μ-loop
 returns-2 c =
@@ -61,14 +33,14 @@ conflict-spec =
     (tie.spec
     Inv-loop
     μ-loop
-    loop-holds
+    (λ c. (omega arith, seated-none _ _ _ (c .before .before .before .pre .1 .1)))
     seat-requires
-    size16-requires
-    at-requires
-    size16-requires-2
-    at-requires-2
+    (λ c κs. tt)
+    (λ c κs. tt)
+    (λ c κs. tt)
+    (λ c κs. tt)
     returns
-    add-h
-    loop-less
-    loop-again
+    (λ c. omega arith)
+    (λ c. omega arith)
+    (λ c. (omega arith, c .before .seat .ensures .0 (c .if1 .left)))
     returns-2)

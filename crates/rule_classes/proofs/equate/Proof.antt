@@ -4,15 +4,6 @@ use borrow.Author.Needs.{needs}
 use Rattle.rule_classes.proofs.equate.Statement.{statement}
 use Rattle.rule_classes.proofs.equate.Tie as tie
 
-merge-in-requires : tie.Need-merge-in-requires
-merge-in-requires c κs = tt
-
-enum-known-j : tie.Need-enum-known-j
-enum-known-j c = search needs
-
-enum-told : tie.Need-enum-told
-enum-told c = search needs
-
 returns : tie.Need-returns
 returns c =
     equate-not _ _ _ _ _ (c .before .before .before .before .before .before .pre .0) (c .before .before .before .before .before .before .pre .1 .0) (c .before .before .before .before .before .before .pre .1 .1) _ _ _ _ _ (c .before .before .merge-in .ensures) (c .enum-told .given .1)
@@ -22,4 +13,4 @@ returns-2 c =
     equate-done _ _ _ _ _ (c .before .before .before .before .before .before .before .pre .0) (c .before .before .before .before .before .before .before .pre .1 .0) (c .before .before .before .before .before .before .before .pre .1 .1) _ _ _ _ _ (c .before .before .before .merge-in .ensures) (c .before .j .given .1)
 
 pub equate-spec : {M : Type 1} → statement M
-equate-spec = tie.close (tie.spec merge-in-requires enum-known-j enum-told returns returns-2)
+equate-spec = tie.close (tie.spec (λ c κs. tt) (λ c. search needs) (λ c. search needs) returns returns-2)

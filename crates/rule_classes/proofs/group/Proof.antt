@@ -4,22 +4,13 @@ use Rattle.rule_classes.proofs.Grouping.{stray-eqs, stray-sites, stray-
 use Rattle.rule_classes.proofs.group.Statement.{statement}
 use Rattle.rule_classes.proofs.group.Tie as tie
 
-first-stray-requires : tie.Need-first-stray-requires
-first-stray-requires c κs = tt
-
 returns : tie.Need-returns
 returns c =
     stray-eqs (c .before .before .before .before .before .before .before .args .eqs .now) (held (c .before .before .before .before .before .before .before .args .sites .now) (c .before .before .before .before .before .before .before .args .rows .now) (c .before .before .before .before .before .before .before .args .words .now) (c .before .before .before .before .before .before .before .args .kids .now)) _ (c .before .first-stray .ensures) (c .if1 .taken)
 
-first-stray-requires-2 : tie.Need-first-stray-requires-2
-first-stray-requires-2 c κs = tt
-
 returns-2 : tie.Need-returns-2
 returns-2 c =
     stray-sites (c .before .before .before .before .before .before .before .before .before .args .eqs .now) (held (c .before .before .before .before .before .before .before .before .before .args .sites .now) (c .before .before .before .before .before .before .before .before .before .args .rows .now) (c .before .before .before .before .before .before .before .before .before .args .words .now) (c .before .before .before .before .before .before .before .before .before .args .kids .now)) _ (c .before .before .before .first-stray .ensures) (c .before .before .if1 .left) _ (c .before .first-stray2 .ensures) (c .if2 .taken)
-
-first-stray-requires-3 : tie.Need-first-stray-requires-3
-first-stray-requires-3 c κs = tt
 
 returns-3 : tie.Need-returns-3
 returns-3 c =
@@ -37,11 +28,11 @@ pub group-spec : {M : Type 1} → statement M
 group-spec =
     tie.close
     (tie.spec
-    first-stray-requires
+    (λ c κs. tt)
     returns
-    first-stray-requires-2
+    (λ c κs. tt)
     returns-2
-    first-stray-requires-3
+    (λ c κs. tt)
     returns-3
     join-requires
     returns-4)

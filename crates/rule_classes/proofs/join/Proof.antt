@@ -7,18 +7,6 @@ use borrow.Author.Needs.{needs}
 use Rattle.rule_classes.proofs.join.Statement.{statement}
 use Rattle.rule_classes.proofs.join.Tie as tie
 
-holder-count-requires : tie.Need-holder-count-requires
-holder-count-requires c κs = tt
-
-clear-in-requires : tie.Need-clear-in-requires
-clear-in-requires c κs = tt
-
-written-requires : tie.Need-written-requires
-written-requires c κs = tt
-
-size16-requires : tie.Need-size16-requires
-size16-requires c κs = tt
-
 close-requires : tie.Need-close-requires
 close-requires c κs =
     (start-well _ _ _ _ (c .before .before .before .before .before .before .before .before .before .before .before .before .before .before .before .before .before .before .pre .0) (from-none _ _ _ _ _ _ _ (c .before .before .before .before .before .before .before .before .clear-in .ensures) (c .before .before .before .before .written .ensures)), c .before .before .before .before .before .before .before .before .before .before .before .before .before .before .before .before .before .before .pre .1 .1)
@@ -26,12 +14,6 @@ close-requires c κs =
 conflict-requires : tie.Need-conflict-requires
 conflict-requires c κs =
     (reps-of _ _ _ _ _ _ (c .before .before .before .close .ensures), ((omega (arith, c .before .before .before .before .before .before .before .before .before .before .before .before .before .before .before .before .holder-count .ensures), c .before .before .before .before .before .before .before .before .before .before .before .before .before .before .before .before .before .before .before .before .before .before .pre .1 .0), refl))
-
-enum-known-c : tie.Need-enum-known-c
-enum-known-c c = search needs
-
-enum-told : tie.Need-enum-told
-enum-told c = search needs
 
 returns : tie.Need-returns
 returns c =
@@ -45,13 +27,13 @@ pub join-spec : {M : Type 1} → statement M
 join-spec =
     tie.close
     (tie.spec
-    holder-count-requires
-    clear-in-requires
-    written-requires
-    size16-requires
+    (λ c κs. tt)
+    (λ c κs. tt)
+    (λ c κs. tt)
+    (λ c κs. tt)
     close-requires
     conflict-requires
-    enum-known-c
-    enum-told
+    (λ c. search needs)
+    (λ c. search needs)
     returns
     returns-2)

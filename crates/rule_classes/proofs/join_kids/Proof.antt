@@ -15,27 +15,9 @@ Inv-loop p₀ r₀ n₀ kids i j m moved₀ f₀ p r n moved f = (f ≤ m) × Jo
 abbrev μ-loop : tie.MeasureT-loop
 μ-loop p₀ r₀ n₀ kids i j m moved₀ f₀ p r n moved f = m - f
 
-loop-holds : tie.Need-loop-holds Inv-loop μ-loop
-loop-holds c =
-    (omega arith, kids-none _ _ _ _ _ _ (c .before .pre .0))
-
-kid-requires : tie.Need-kid-requires Inv-loop μ-loop
-kid-requires c κs = tt
-
-kid-requires-2 : tie.Need-kid-requires-2 Inv-loop μ-loop
-kid-requires-2 c κs = tt
-
 equate-requires : tie.Need-equate-requires Inv-loop μ-loop
 equate-requires c κs =
     (c .before .before .before .before .before .before .loop .inv .1 .grown .well, (rw (c .before .before .before .before .kid .ensures) (kid-inside _ _ _ (c .before .before .before .before .before .before .before .before .pre .1 .0)), rw (c .before .before .before .kid2 .ensures) (kid-inside _ _ _ (c .before .before .before .before .before .before .before .before .pre .1 .0))))
-
-add-f : tie.Need-add-f Inv-loop μ-loop
-add-f c =
-    omega arith
-
-loop-less : tie.Need-loop-less Inv-loop μ-loop
-loop-less c =
-    omega arith
 
 loop-again : tie.Need-loop-again Inv-loop μ-loop
 loop-again c =
@@ -51,11 +33,11 @@ join-kids-spec =
     (tie.spec
     Inv-loop
     μ-loop
-    loop-holds
-    kid-requires
-    kid-requires-2
+    (λ c. (omega arith, kids-none _ _ _ _ _ _ (c .before .pre .0)))
+    (λ c κs. tt)
+    (λ c κs. tt)
     equate-requires
-    add-f
-    loop-less
+    (λ c. omega arith)
+    (λ c. omega arith)
     loop-again
     returns)

@@ -3,18 +3,6 @@ use Rattle.rule_classes.proofs.Turning.{mates-yes, mates-no}
 use Rattle.rule_classes.proofs.mates.Statement.{statement}
 use Rattle.rule_classes.proofs.mates.Tie as tie
 
-at-requires : tie.Need-at-requires
-at-requires c κs = tt
-
-alike-requires : tie.Need-alike-requires
-alike-requires c κs = tt
-
-at-requires-2 : tie.Need-at-requires-2
-at-requires-2 c κs = tt
-
-rep-in-requires : tie.Need-rep-in-requires
-rep-in-requires c κs = tt
-
 returns : tie.Need-returns
 returns c =
     mates-yes (c .before .before .before .before .before .before .before .before .args .words .now) (c .before .before .before .before .before .before .before .before .args .rows .now) (c .before .before .before .before .before .before .before .before .args .sites .now) (c .before .before .before .before .before .before .before .before .args .p .now) (c .before .before .before .before .before .before .before .before .args .g) (c .before .before .before .before .before .before .before .before .args .j) (c .before .before .before .before .before .before .before .before .args .b) _ _ (c .before .before .before .before .at .ensures) (c .before .before .before .alike .ensures) (c .before .before .if1 .taken) _ _ (c .before .at2 .ensures) (c .rep-in .ensures)
@@ -25,4 +13,4 @@ returns-2 c =
 
 pub mates-spec : {M : Type 1} → statement M
 mates-spec =
-    tie.close (tie.spec at-requires alike-requires at-requires-2 rep-in-requires returns returns-2)
+    tie.close (tie.spec (λ c κs. tt) (λ c κs. tt) (λ c κs. tt) (λ c κs. tt) returns returns-2)

@@ -18,27 +18,9 @@ Inv-loop p₀ r₀ n₀ sites rows words kids h j s b g₀ p r n g = (g ≤ h) �
 abbrev μ-loop : tie.MeasureT-loop
 μ-loop p₀ r₀ n₀ sites rows words kids h j s b g₀ p r n g = h - g
 
-at-requires : tie.Need-at-requires Inv-loop μ-loop
-at-requires c κs = tt
-
-at-requires-2 : tie.Need-at-requires-2 Inv-loop μ-loop
-at-requires-2 c κs = tt
-
-rep-in-requires : tie.Need-rep-in-requires Inv-loop μ-loop
-rep-in-requires c κs = tt
-
 loop-holds : tie.Need-loop-holds Inv-loop μ-loop
 loop-holds c =
     (omega arith, (refl, (c .before .before .before .before .before .before .before .before .pre .0, λ f l. absurd (omega arith))))
-
-mates-requires : tie.Need-mates-requires Inv-loop μ-loop
-mates-requires c κs = tt
-
-at-requires-3 : tie.Need-at-requires-3 Inv-loop μ-loop
-at-requires-3 c κs = tt
-
-fields-requires : tie.Need-fields-requires Inv-loop μ-loop
-fields-requires c κs = tt
 
 join-kids-requires : tie.Need-join-kids-requires Inv-loop μ-loop
 join-kids-requires c κs =
@@ -47,14 +29,6 @@ join-kids-requires c κs =
 returns : tie.Need-returns Inv-loop μ-loop
 returns c =
     met (held (c .before .before .before .before .before .before .before .before .before .before .before .before .before .before .before .before .before .before .before .args .sites .now) (c .before .before .before .before .before .before .before .before .before .before .before .before .before .before .before .before .before .before .before .args .rows .now) (c .before .before .before .before .before .before .before .before .before .before .before .before .before .before .before .before .before .before .before .args .words .now) (c .before .before .before .before .before .before .before .before .before .before .before .before .before .before .before .before .before .before .before .args .kids .now)) _ _ (c .before .before .before .before .before .before .before .before .before .before .loop .inv .1 .0) _ _ _ _ (c .before .before .before .before .before .before .before .before .before .before .before .before .before .before .at .ensures) (c .before .before .before .before .before .before .before .before .before .before .before .before .before .at2 .ensures) (c .before .before .before .before .before .before .before .before .before .before .before .rep-in .ensures) _ _ _ _ _ _ _ _ (c .before .before .before .before .before .before .before .before .before .loop-test .taken) (c .before .before .before .before .before .before .before .mates .ensures) (c .before .before .before .before .before .before .if1 .taken) (c .before .before .before .before .before .before .before .before .before .before .loop .inv .1 .1 .1) (c .before .before .before .before .before .at3 .ensures) (c .before .before .before .before .fields .ensures) (c .join-kids .ensures)
-
-add-g : tie.Need-add-g Inv-loop μ-loop
-add-g c =
-    omega arith
-
-loop-less : tie.Need-loop-less Inv-loop μ-loop
-loop-less c =
-    omega arith
 
 loop-again : tie.Need-loop-again Inv-loop μ-loop
 loop-again c =
@@ -71,16 +45,16 @@ meet-spec =
     (tie.spec
     Inv-loop
     μ-loop
-    at-requires
-    at-requires-2
-    rep-in-requires
+    (λ c κs. tt)
+    (λ c κs. tt)
+    (λ c κs. tt)
     loop-holds
-    mates-requires
-    at-requires-3
-    fields-requires
+    (λ c κs. tt)
+    (λ c κs. tt)
+    (λ c κs. tt)
     join-kids-requires
     returns
-    add-g
-    loop-less
+    (λ c. omega arith)
+    (λ c. omega arith)
     loop-again
     returns-2)

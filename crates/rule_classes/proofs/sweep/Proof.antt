@@ -15,21 +15,9 @@ Inv-loop p₀ r₀ n₀ sites rows words kids m moved₀ h₀ p r n moved h = (h
 abbrev μ-loop : tie.MeasureT-loop
 μ-loop p₀ r₀ n₀ sites rows words kids m moved₀ h₀ p r n moved h = m - h
 
-loop-holds : tie.Need-loop-holds Inv-loop μ-loop
-loop-holds c =
-    (omega arith, swept-none _ _ _ _ _ (c .before .before .before .before .pre .0))
-
 meet-requires : tie.Need-meet-requires Inv-loop μ-loop
 meet-requires c κs =
     (c .before .before .before .before .loop .inv .1 .grown .well, c .before .before .before .before .before .before .before .before .before .pre .1)
-
-add-h : tie.Need-add-h Inv-loop μ-loop
-add-h c =
-    omega arith
-
-loop-less : tie.Need-loop-less Inv-loop μ-loop
-loop-less c =
-    omega arith
 
 loop-again : tie.Need-loop-again Inv-loop μ-loop
 loop-again c =
@@ -43,4 +31,4 @@ returns c =
 pub sweep-spec : {M : Type 1} → statement M
 sweep-spec =
     tie.close
-    (tie.spec Inv-loop μ-loop loop-holds meet-requires add-h loop-less loop-again returns)
+    (tie.spec Inv-loop μ-loop (λ c. (omega arith, swept-none _ _ _ _ _ (c .before .before .before .before .pre .0))) meet-requires (λ c. omega arith) (λ c. omega arith) loop-again returns)

@@ -15,49 +15,6 @@ Inv-loop parents₀ ranks₀ count₀ eqs m k₀ parents ranks count k = (k ≤ 
 abbrev μ-loop : tie.MeasureT-loop
 μ-loop parents₀ ranks₀ count₀ eqs m k₀ parents ranks count k = m - k
 
-loop-holds : tie.Need-loop-holds Inv-loop μ-loop
-loop-holds c =
-    (omega arith, all-none _ _)
-
-mul-x : tie.Need-mul-x Inv-loop μ-loop
-mul-x c =
-    omega arith
-
-mul-x-2 : tie.Need-mul-x-2 Inv-loop μ-loop
-mul-x-2 c =
-    omega arith
-
-shared-slice-read-x : tie.Need-shared-slice-read-x Inv-loop μ-loop
-shared-slice-read-x c =
-    omega arith
-
-mul-y : tie.Need-mul-y Inv-loop μ-loop
-mul-y c =
-    omega arith
-
-add-y : tie.Need-add-y Inv-loop μ-loop
-add-y c =
-    omega arith
-
-mul-y-2 : tie.Need-mul-y-2 Inv-loop μ-loop
-mul-y-2 c =
-    omega arith
-
-shared-slice-read-y : tie.Need-shared-slice-read-y Inv-loop μ-loop
-shared-slice-read-y c =
-    omega arith
-
-merge-in-requires : tie.Need-merge-in-requires Inv-loop μ-loop
-merge-in-requires c κs = tt
-
-add-k : tie.Need-add-k Inv-loop μ-loop
-add-k c =
-    omega arith
-
-loop-less : tie.Need-loop-less Inv-loop μ-loop
-loop-less c =
-    omega arith
-
 loop-again : tie.Need-loop-again Inv-loop μ-loop
 loop-again c =
     (omega arith, all-step _ (c .before .before .before .before .before .before .before .before .before .args .eqs .now) _ _ _ _ (c .before .before .before .before .before .before .before .loop .inv .1) (c .merge-in .ensures))
@@ -72,16 +29,16 @@ written-spec =
     (tie.spec
     Inv-loop
     μ-loop
-    loop-holds
-    mul-x
-    mul-x-2
-    shared-slice-read-x
-    mul-y
-    add-y
-    mul-y-2
-    shared-slice-read-y
-    merge-in-requires
-    add-k
-    loop-less
+    (λ c. (omega arith, all-none _ _))
+    (λ c. omega arith)
+    (λ c. omega arith)
+    (λ c. omega arith)
+    (λ c. omega arith)
+    (λ c. omega arith)
+    (λ c. omega arith)
+    (λ c. omega arith)
+    (λ c κs. tt)
+    (λ c. omega arith)
+    (λ c. omega arith)
     loop-again
     returns)

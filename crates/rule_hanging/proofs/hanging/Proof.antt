@@ -25,18 +25,6 @@ abbrev μ-loop : tie.MeasureT-loop
 loop-holds : tie.Need-loop-holds Inv-loop μ-loop
 loop-holds c = (omega arith, λ l X K. lowest-none (held-items (c .before .before .before .before .before .before .args .items .now) (c .before .before .before .before .before .before .args .count)) l)
 
-item-at-requires : tie.Need-item-at-requires Inv-loop μ-loop
-item-at-requires c κs = search needs
-
-lower-item-requires : tie.Need-lower-item-requires Inv-loop μ-loop
-lower-item-requires c κs = tt
-
-add-i : tie.Need-add-i Inv-loop μ-loop
-add-i c = omega arith
-
-loop-less : tie.Need-loop-less Inv-loop μ-loop
-loop-less c = omega arith
-
 loop-again : tie.Need-loop-again Inv-loop μ-loop
 loop-again c = (omega arith, λ l X K. lowest-step (held-items (c .before .before .before .before .before .before .before .before .before .before .args .items .now) (c .before .before .before .before .before .before .before .before .before .before .args .count)) _ _ l _ _ (let z = items-length (c .before .before .before .before .before .before .before .before .before .before .args .items .now) (c .before .before .before .before .before .before .before .before .before .before .args .count) in let b = c .before .before .loop-test .taken in omega arith) (held-read (c .before .before .before .before .before .before .before .before .before .before .args .items .now) (c .before .before .before .before .before .before .before .before .before .before .args .count) _ _ (c .before .before .loop-test .taken) (c .before .item-at .ensures)) K (c .before .before .before .loop .inv .1 l X K) (c .lower-item .ensures l X))
 
@@ -50,9 +38,9 @@ hanging-spec =
     Inv-loop
     μ-loop
     loop-holds
-    item-at-requires
-    lower-item-requires
-    add-i
-    loop-less
+    (λ c κs. search needs)
+    (λ c κs. tt)
+    (λ c. omega arith)
+    (λ c. omega arith)
     loop-again
     returns)

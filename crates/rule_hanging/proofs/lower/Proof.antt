@@ -8,15 +8,6 @@ use borrow.Author.Needs.{needs}
 use Rattle.rule_hanging.proofs.lower.Statement.{statement}
 use Rattle.rule_hanging.proofs.lower.Tie as tie
 
-returns : tie.Need-returns
-returns c = λ p ns eb ey. lower-off p _ ns _ eb (sym ey ∙ not-true _ (c .if1 .taken))
-
-enum-known-best : tie.Need-enum-known-best
-enum-known-best c = search needs
-
-enum-told : tie.Need-enum-told
-enum-told c = search needs
-
 returns-2 : tie.Need-returns-2
 returns-2 c = λ p ns eb ey. lower-first p _ ns _ eb (sym ey ∙ not-false _ (c .before .before .if1 .left)) (c .enum-told .given .1)
 
@@ -27,4 +18,4 @@ returns-4 : tie.Need-returns-4
 returns-4 c = λ p ns eb ey. lower-high p _ ns _ eb (sym ey ∙ not-false _ (c .before .before .before .before .if1 .left)) _ (c .before .before .best .given .1) (let a = c .if2 .left in omega arith)
 
 pub lower-spec : {M : Type 1} → statement M
-lower-spec = tie.close (tie.spec returns enum-known-best enum-told returns-2 returns-3 returns-4)
+lower-spec = tie.close (tie.spec (λ c. λ p ns eb ey. lower-off p _ ns _ eb (sym ey ∙ not-true _ (c .if1 .taken))) (λ c. search needs) (λ c. search needs) returns-2 returns-3 returns-4)

@@ -11,62 +11,11 @@ use borrow.Author.Needs.{needs}
 use Rattle.rule_items.proofs.load_items.Statement.{statement}
 use Rattle.rule_items.proofs.load_items.Tie as tie
 
-size16-requires : tie.Need-size16-requires
-size16-requires c κs = tt
-
-refuse-requires : tie.Need-refuse-requires
-refuse-requires c κs = tt
-
 returns : tie.Need-returns
 returns c = (told-sites _ _ _ _ _ _ _ _ _ _ _ _ (let e = c .before .before .size16 .ensures in let x = c .before .if1 .taken in omega arith) (c .refuse .ensures), (long-self _ _ _ _ _ _, (λ I. I, rowed-refused _ _ _ _ (c .refuse .ensures))))
 
-has-room-requires : tie.Need-has-room-requires
-has-room-requires c κs = tt
-
-refuse-requires-2 : tie.Need-refuse-requires-2
-refuse-requires-2 c κs = tt
-
-same-length : tie.Need-same-length
-same-length c = refl
-
-same-length-2 : tie.Need-same-length-2
-same-length-2 c = refl
-
-same-length-3 : tie.Need-same-length-3
-same-length-3 c = refl
-
-same-length-4 : tie.Need-same-length-4
-same-length-4 c = refl
-
-same-length-5 : tie.Need-same-length-5
-same-length-5 c = refl
-
-same-length-6 : tie.Need-same-length-6
-same-length-6 c = refl
-
 returns-2 : tie.Need-returns-2
 returns-2 c = (told-short _ _ _ _ _ _ _ _ _ _ _ _ (let e = c .before .before .before .before .before .before .before .before .before .before .size16 .ensures in let x = c .before .before .before .before .before .before .before .before .before .if1 .left in omega arith) (sym (c .before .before .has-room .ensures) ∙ not-true _ (c .before .if2 .taken)) (c .refuse2 .ensures), (long-self _ _ _ _ _ _, (λ I. I, rowed-refused _ _ _ _ (c .refuse2 .ensures))))
-
-refuse-requires-3 : tie.Need-refuse-requires-3
-refuse-requires-3 c κs = tt
-
-same-length-7 : tie.Need-same-length-7
-same-length-7 c = refl
-
-same-length-8 : tie.Need-same-length-8
-same-length-8 c = refl
-
-same-length-9 : tie.Need-same-length-9
-same-length-9 c = refl
-
-same-length-10 : tie.Need-same-length-10
-same-length-10 c = refl
-
-same-length-11 : tie.Need-same-length-11
-same-length-11 c = refl
-
-same-length-12 : tie.Need-same-length-12
-same-length-12 c = refl
 
 returns-3 : tie.Need-returns-3
 returns-3 c = (told-many _ _ _ _ _ _ _ _ _ _ _ _ (let e = c .before .before .before .before .before .before .before .before .before .before .before .size16 .ensures in let x = c .before .before .before .before .before .before .before .before .before .before .if1 .left in omega arith) (sym (c .before .before .before .has-room .ensures) ∙ not-false _ (c .before .before .if2 .left)) (c .before .if3 .taken) (c .refuse3 .ensures), (long-self _ _ _ _ _ _, (λ I. I, rowed-refused _ _ _ _ (c .refuse3 .ensures))))
@@ -74,41 +23,14 @@ returns-3 c = (told-many _ _ _ _ _ _ _ _ _ _ _ _ (let e = c .before .before .bef
 walk-requires : tie.Need-walk-requires
 walk-requires c κs = (((let e = c .before .before .before .before .before .before .before .before .before .before .before .before .before .before .before .before .size16 .ensures in let x = c .before .before .before .before .before .before .before .before .before .before .before .before .before .before .before .if1 .left in omega arith), (let x = c .before .before .before .before .before .before .if3 .left in omega arith)), (sym (c .before .before .before .before .before .before .before .before .has-room .ensures) ∙ not-false _ (c .before .before .before .before .before .before .before .if2 .left)))
 
-enum-told : tie.Need-enum-told
-enum-told c = search needs
-
-enum-told-2 : tie.Need-enum-told-2
-enum-told-2 c = search needs
-
 same-length-13 : tie.Need-same-length-13
 same-length-13 c = c .before .before .before .before .before .before .before .before .before .before .before .before .before .tail .given
 
 same-length-14 : tie.Need-same-length-14
 same-length-14 c = c .before .before .before .before .before .before .before .before .before .before .before .sites .given
 
-same-length-15 : tie.Need-same-length-15
-same-length-15 c = c .before .before .before .before .before .before .before .before .before .rows .given
-
-same-length-16 : tie.Need-same-length-16
-same-length-16 c = c .before .before .before .before .before .before .before .words .given
-
-same-length-17 : tie.Need-same-length-17
-same-length-17 c = c .before .before .before .before .before .kids .given
-
-same-length-18 : tie.Need-same-length-18
-same-length-18 c = c .before .before .before .eqs .given
-
 returns-4 : tie.Need-returns-4
 returns-4 c = (told-stop _ _ _ _ _ _ _ _ _ _ _ _ (let e = c .before .before .before .before .before .before .before .before .before .before .before .before .before .before .before .before .before .before .before .before .before .before .before .before .before .before .before .before .before .before .before .size16 .ensures in let x = c .before .before .before .before .before .before .before .before .before .before .before .before .before .before .before .before .before .before .before .before .before .before .before .before .before .before .before .before .before .before .if1 .left in omega arith) (sym (c .before .before .before .before .before .before .before .before .before .before .before .before .before .before .before .before .before .before .before .before .before .before .before .has-room .ensures) ∙ not-false _ (c .before .before .before .before .before .before .before .before .before .before .before .before .before .before .before .before .before .before .before .before .before .before .if2 .left)) (let x = c .before .before .before .before .before .before .before .before .before .before .before .before .before .before .before .before .before .before .before .before .before .if3 .left in omega arith) _ (c .enum-told2 .given .1) (c .before .before .before .before .before .before .before .before .before .before .before .before .before .before .walk .ensures .0), (record { tail-long = c .before .before .before .before .before .before .before .before .before .before .before .before .before .tail .given; sites-long = c .before .before .before .before .before .before .before .before .before .before .before .sites .given; rows-long = c .before .before .before .before .before .before .before .before .before .rows .given; words-long = c .before .before .before .before .before .before .before .words .given; kids-long = c .before .before .before .before .before .kids .given; eqs-long = c .before .before .before .eqs .given }, (c .before .before .before .before .before .before .before .before .before .before .before .before .before .before .walk .ensures .1, rowed-walk (c .before .before .before .before .before .before .before .before .before .before .before .before .before .before .before .before .before .before .before .before .before .before .before .before .before .before .before .before .before .before .before .before .before .before .before .before .before .before .before .before .args .m .now) (c .before .before .before .before .before .before .before .before .before .before .before .before .before .before .before .before .before .before .before .before .before .before .before .before .before .before .before .before .before .before .before .before .before .before .before .before .before .before .before .before .args .n) (held-items (c .before .before .before .before .before .before .before .before .before .before .before .before .before .before .before .before .before .before .before .before .before .before .before .before .before .before .before .before .before .before .before .before .before .before .before .before .before .before .before .before .args .items .now) (min (c .before .before .before .before .before .before .before .before .before .before .before .before .before .before .before .before .before .before .before .before .before .before .before .before .before .before .before .before .before .before .before .before .before .before .before .before .before .before .before .before .args .count) max-items)) _ _ _ _ _ _ _ _ (c .before .before .before .before .before .before .before .before .before .before .before .before .before .before .walk .ensures .0))))
-
-hanging-requires : tie.Need-hanging-requires
-hanging-requires c κs = tt
-
-enum-known-found : tie.Need-enum-known-found
-enum-known-found c = search needs
-
-enum-told-3 : tie.Need-enum-told-3
-enum-told-3 c = search needs
 
 same-length-19 : tie.Need-same-length-19
 same-length-19 c = c .before .before .before .before .before .before .before .before .before .before .before .before .before .before .before .before .before .before .before .before .tail .given
@@ -130,9 +52,6 @@ same-length-24 c = c .before .before .before .before .before .before .before .be
 
 returns-5 : tie.Need-returns-5
 returns-5 c = (told-fine _ _ _ _ _ _ _ _ _ _ _ _ (let e = c .before .before .before .before .before .before .before .before .before .before .before .before .before .before .before .before .before .before .before .before .before .before .before .before .before .before .before .before .before .before .before .before .before .before .before .before .before .before .size16 .ensures in let x = c .before .before .before .before .before .before .before .before .before .before .before .before .before .before .before .before .before .before .before .before .before .before .before .before .before .before .before .before .before .before .before .before .before .before .before .before .before .if1 .left in omega arith) (sym (c .before .before .before .before .before .before .before .before .before .before .before .before .before .before .before .before .before .before .before .before .before .before .before .before .before .before .before .before .before .before .has-room .ensures) ∙ not-false _ (c .before .before .before .before .before .before .before .before .before .before .before .before .before .before .before .before .before .before .before .before .before .before .before .before .before .before .before .before .before .if2 .left)) (let x = c .before .before .before .before .before .before .before .before .before .before .before .before .before .before .before .before .before .before .before .before .before .before .before .before .before .before .before .before .if3 .left in omega arith) _ (c .before .before .before .before .before .before .before .before .before .before .before .before .before .before .before .before .before .before .before .before .before .walk .ensures .0) (c .before .before .before .before .before .before .before .enum-told .given .1) _ (few-items _ _ _ _ _ _ _ (c .before .before .before .before .before .before .before .before .before .before .before .before .before .before .before .before .before .before .before .before .before .before .before .before .before .before .before .before .before .before .before .before .before .before .before .before .before .before .before .before .before .before .before .before .before .before .before .args .items .now) (c .before .before .before .before .before .before .before .before .before .before .before .before .before .before .before .before .before .before .before .before .before .before .before .before .before .before .before .before .before .before .before .before .before .before .before .before .before .before .before .before .before .before .before .before .before .before .before .args .count) _ (let x = c .before .before .before .before .before .before .before .before .before .before .before .before .before .before .before .before .before .before .before .before .before .before .before .before .before .before .before .before .if3 .left in omega arith) (c .before .before .hanging .ensures)) (c .enum-told3 .given .1) refl, (record { tail-long = c .before .before .before .before .before .before .before .before .before .before .before .before .before .before .before .before .before .before .before .before .tail .given; sites-long = c .before .before .before .before .before .before .before .before .before .before .before .before .before .before .before .before .before .before .sites .given; rows-long = c .before .before .before .before .before .before .before .before .before .before .before .before .before .before .before .before .rows .given; words-long = c .before .before .before .before .before .before .before .before .before .before .before .before .before .before .words .given; kids-long = c .before .before .before .before .before .before .before .before .before .before .before .before .kids .given; eqs-long = c .before .before .before .before .before .before .before .before .before .before .eqs .given }, (c .before .before .before .before .before .before .before .before .before .before .before .before .before .before .before .before .before .before .before .before .before .walk .ensures .1, rowed-walk (c .before .before .before .before .before .before .before .before .before .before .before .before .before .before .before .before .before .before .before .before .before .before .before .before .before .before .before .before .before .before .before .before .before .before .before .before .before .before .before .before .before .before .before .before .before .before .before .args .m .now) (c .before .before .before .before .before .before .before .before .before .before .before .before .before .before .before .before .before .before .before .before .before .before .before .before .before .before .before .before .before .before .before .before .before .before .before .before .before .before .before .before .before .before .before .before .before .before .before .args .n) (held-items (c .before .before .before .before .before .before .before .before .before .before .before .before .before .before .before .before .before .before .before .before .before .before .before .before .before .before .before .before .before .before .before .before .before .before .before .before .before .before .before .before .before .before .before .before .before .before .before .args .items .now) (min (c .before .before .before .before .before .before .before .before .before .before .before .before .before .before .before .before .before .before .before .before .before .before .before .before .before .before .before .before .before .before .before .before .before .before .before .before .before .before .before .before .before .before .before .before .before .before .before .args .count) max-items)) _ _ _ _ _ _ _ _ (c .before .before .before .before .before .before .before .before .before .before .before .before .before .before .before .before .before .before .before .before .before .walk .ensures .0))))
-
-refuse-requires-4 : tie.Need-refuse-requires-4
-refuse-requires-4 c κs = tt
 
 same-length-25 : tie.Need-same-length-25
 same-length-25 c = c .before .before .before .before .before .before .before .before .before .before .before .before .before .before .before .before .before .before .before .before .before .before .tail .given
@@ -159,39 +78,39 @@ pub load-items-spec : {M : Type 1} → statement M
 load-items-spec =
     tie.close
     (tie.spec
-    size16-requires
-    refuse-requires
+    (λ c κs. tt)
+    (λ c κs. tt)
     returns
-    has-room-requires
-    refuse-requires-2
-    same-length
-    same-length-2
-    same-length-3
-    same-length-4
-    same-length-5
-    same-length-6
+    (λ c κs. tt)
+    (λ c κs. tt)
+    (λ c. refl)
+    (λ c. refl)
+    (λ c. refl)
+    (λ c. refl)
+    (λ c. refl)
+    (λ c. refl)
     returns-2
-    refuse-requires-3
-    same-length-7
-    same-length-8
-    same-length-9
-    same-length-10
-    same-length-11
-    same-length-12
+    (λ c κs. tt)
+    (λ c. refl)
+    (λ c. refl)
+    (λ c. refl)
+    (λ c. refl)
+    (λ c. refl)
+    (λ c. refl)
     returns-3
     walk-requires
-    enum-told
-    enum-told-2
+    (λ c. search needs)
+    (λ c. search needs)
     same-length-13
     same-length-14
-    same-length-15
-    same-length-16
-    same-length-17
-    same-length-18
+    (λ c. c .before .before .before .before .before .before .before .before .before .rows .given)
+    (λ c. c .before .before .before .before .before .before .before .words .given)
+    (λ c. c .before .before .before .before .before .kids .given)
+    (λ c. c .before .before .before .eqs .given)
     returns-4
-    hanging-requires
-    enum-known-found
-    enum-told-3
+    (λ c κs. tt)
+    (λ c. search needs)
+    (λ c. search needs)
     same-length-19
     same-length-20
     same-length-21
@@ -199,7 +118,7 @@ load-items-spec =
     same-length-23
     same-length-24
     returns-5
-    refuse-requires-4
+    (λ c κs. tt)
     same-length-25
     same-length-26
     same-length-27

@@ -6,35 +6,11 @@ use borrow.Author.Needs.{needs}
 use Rattle.rule_items.proofs.same_row.Statement.{statement}
 use Rattle.rule_items.proofs.same_row.Tie as tie
 
-pack-requires : tie.Need-pack-requires
-pack-requires c κs = tt
-
-size16-requires : tie.Need-size16-requires
-size16-requires c κs = tt
-
-mul-k : tie.Need-mul-k
-mul-k c = search needs
-
-word-requires : tie.Need-word-requires
-word-requires c κs = tt
-
 returns : tie.Need-returns
 returns c = row-first _ _ _ _ (in-range (c .before .before .before .before .before .before .args .c) _ (c .before .before .before .before .before .before .good .1 .1 .0)) (let e = c .before .before .before .size16 .ensures in omega arith) _ _ (c .before .before .before .before .pack .ensures .0) (c .before .before .word .ensures) (c .if1 .taken)
 
-add-word : tie.Need-add-word
-add-word c = search needs
-
-word-requires-2 : tie.Need-word-requires-2
-word-requires-2 c κs = tt
-
 returns-2 : tie.Need-returns-2
 returns-2 c = row-second _ _ _ _ (in-range (c .before .before .before .before .before .before .before .before .before .args .c) _ (c .before .before .before .before .before .before .before .before .before .good .1 .1 .0)) (let e = c .before .before .before .before .before .before .size16 .ensures in omega arith) _ _ (c .before .before .before .before .before .before .before .pack .ensures .1 .0) (c .before .before .word2 .ensures) (c .if2 .taken)
-
-add-word-2 : tie.Need-add-word-2
-add-word-2 c = search needs
-
-word-requires-3 : tie.Need-word-requires-3
-word-requires-3 c κs = tt
 
 returns-3 : tie.Need-returns-3
 returns-3 c = row-third _ _ _ _ (in-range (c .before .before .before .before .before .before .before .before .before .before .before .args .c) _ (c .before .before .before .before .before .before .before .before .before .before .before .good .1 .1 .0)) (let e = c .before .before .before .before .before .before .before .before .size16 .ensures in omega arith) _ _ _ _ _ _ (c .before .before .before .before .before .before .before .before .before .pack .ensures .0) (c .before .before .before .before .before .before .before .before .before .pack .ensures .1 .0) (c .before .before .before .before .before .before .before .before .before .pack .ensures .1 .1) (c .before .before .before .before .before .before .before .word .ensures) (c .before .before .before .before .word2 .ensures) (c .before .word3 .ensures) (c .before .before .before .before .before .if1 .left) (c .before .before .if2 .left)
@@ -43,14 +19,14 @@ pub same-row-spec : {M : Type 1} → statement M
 same-row-spec =
     tie.close
     (tie.spec
-    pack-requires
-    size16-requires
-    mul-k
-    word-requires
+    (λ c κs. tt)
+    (λ c κs. tt)
+    (λ c. search needs)
+    (λ c κs. tt)
     returns
-    add-word
-    word-requires-2
+    (λ c. search needs)
+    (λ c κs. tt)
     returns-2
-    add-word-2
-    word-requires-3
+    (λ c. search needs)
+    (λ c κs. tt)
     returns-3)

@@ -14,38 +14,8 @@ Inv-loop kids₀ i of k f₀ kids f = (f ≤ max-fields) × Filled kids₀ i of 
 abbrev μ-loop : tie.MeasureT-loop
 μ-loop kids₀ i of k f₀ kids f = max-fields - f
 
-mul-k : tie.Need-mul-k Inv-loop μ-loop
-mul-k c = omega arith
-
-loop-holds : tie.Need-loop-holds Inv-loop μ-loop
-loop-holds c = (omega arith, filled-none _ _ _)
-
-mul-kids : tie.Need-mul-kids Inv-loop μ-loop
-mul-kids c = omega arith
-
-array-read-kids : tie.Need-array-read-kids Inv-loop μ-loop
-array-read-kids c = omega arith
-
-add-kids : tie.Need-add-kids Inv-loop μ-loop
-add-kids c = omega arith
-
-mul-kids-2 : tie.Need-mul-kids-2 Inv-loop μ-loop
-mul-kids-2 c = omega arith
-
-slice-write-kids : tie.Need-slice-write-kids Inv-loop μ-loop
-slice-write-kids c = let l = c .before .loop .inv .1 .long in omega arith
-
-add-f : tie.Need-add-f Inv-loop μ-loop
-add-f c = omega arith
-
-loop-less : tie.Need-loop-less Inv-loop μ-loop
-loop-less c = omega arith
-
 loop-again : tie.Need-loop-again Inv-loop μ-loop
 loop-again c = (omega arith, filled-step _ _ _ _ _ _ _ _ refl (omega arith) (c .before .loop .inv .1) refl refl)
-
-same-length : tie.Need-same-length Inv-loop μ-loop
-same-length c = c .before .loop .inv .1 .long
 
 returns : tie.Need-returns Inv-loop μ-loop
 returns c = filled-done _ _ _ _ _ (c .before .loop .inv .0) (c .loop-test .left) (c .before .loop .inv .1)
@@ -56,15 +26,15 @@ set-kids-spec =
     (tie.spec
     Inv-loop
     μ-loop
-    mul-k
-    loop-holds
-    mul-kids
-    array-read-kids
-    add-kids
-    mul-kids-2
-    slice-write-kids
-    add-f
-    loop-less
+    (λ c. omega arith)
+    (λ c. (omega arith, filled-none _ _ _))
+    (λ c. omega arith)
+    (λ c. omega arith)
+    (λ c. omega arith)
+    (λ c. omega arith)
+    (λ c. let l = c .before .loop .inv .1 .long in omega arith)
+    (λ c. omega arith)
+    (λ c. omega arith)
     loop-again
-    same-length
+    (λ c. c .before .loop .inv .1 .long)
     returns)

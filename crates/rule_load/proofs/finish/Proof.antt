@@ -6,38 +6,11 @@ use Rattle.rule_load.proofs.Keeping.{finish-refuses, keepable, finish-k
 use Rattle.rule_load.proofs.finish.Statement.{statement}
 use Rattle.rule_load.proofs.finish.Tie as tie
 
-size16-requires : tie.Need-size16-requires
-size16-requires c κs = search needs
-
-size16-requires-2 : tie.Need-size16-requires-2
-size16-requires-2 c κs = search needs
-
-add-total : tie.Need-add-total
-add-total c = search needs
-
-settle-requires : tie.Need-settle-requires
-settle-requires c κs = search needs
-
-enum-known-last : tie.Need-enum-known-last
-enum-known-last c = search needs
-
 returns : tie.Need-returns
 returns c = let start = c .before .before .before .before .before .before .before .before .before .before .before .before .before .before in finish-refuses (start .args .m .now) _ (start .args .words .now) (start .args .kept) (start .args .place) (start .args .priority) _ _ _ _ _ _ _ _ (start .pre) (c .before .before .before .before .before .size16 .result + c .before .before .before .before .size162 .result) (omega (arith, c .before .before .before .before .before .size16 .ensures, c .before .before .before .before .size162 .ensures)) _ (c .before .before .before .settle .ensures) _ (c .before .last .given .1)
 
-enum-told : tie.Need-enum-told
-enum-told c = search needs
-
 keep-requires : tie.Need-keep-requires
 keep-requires c κs = let start = c .before .before .before .before .before .before .before .before .before .before .before .before .before .before .before in keepable (start .args .m .now) (start .args .n) (start .args .words .now) (start .args .kept) (start .args .place) (start .args .priority) (start .args .count) _ _ _ _ _ _ _ (start .pre) (c .before .before .before .before .before .before .size16 .result + c .before .before .before .before .before .size162 .result) (omega (arith, c .before .before .before .before .before .before .size16 .ensures, c .before .before .before .before .before .size162 .ensures)) _ (c .before .before .before .before .settle .ensures) (c .before .before .enum-told .given .1)
-
-cast-many : tie.Need-cast-many
-cast-many c = search needs
-
-same-length : tie.Need-same-length
-same-length c = search needs
-
-same-length-2 : tie.Need-same-length-2
-same-length-2 c = search needs
 
 returns-2 : tie.Need-returns-2
 returns-2 c = let at-settle = c .before .before .before .before .before .before .before .before .before in let at-size162 = at-settle .before in let at-size16 = at-size162 .before in let start = at-size16 .before .before .before .before .before .before .before .before .before in finish-keeps (start .args .m .now) _ (start .args .words .now) (start .args .kept) (start .args .place) (start .args .priority) _ _ _ _ _ _ _ _ (start .pre) (at-size16 .size16 .result + at-size162 .size162 .result) (omega (arith, at-size16 .size16 .ensures, at-size162 .size162 .ensures)) _ (at-settle .settle .ensures) (c .before .before .before .before .before .before .before .enum-told .given .1) _ _ (c .before .before .before .before .keep .ensures .0) (c .before .before .before .before .keep .ensures .1)
@@ -46,15 +19,15 @@ pub finish-spec : {M : Type 1} → statement M
 finish-spec =
     tie.close
     (tie.spec
-    size16-requires
-    size16-requires-2
-    add-total
-    settle-requires
-    enum-known-last
+    (λ c κs. search needs)
+    (λ c κs. search needs)
+    (λ c. search needs)
+    (λ c κs. search needs)
+    (λ c. search needs)
     returns
-    enum-told
+    (λ c. search needs)
     keep-requires
-    cast-many
-    same-length
-    same-length-2
+    (λ c. search needs)
+    (λ c. search needs)
+    (λ c. search needs)
     returns-2)

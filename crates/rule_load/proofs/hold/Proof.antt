@@ -3,7 +3,6 @@ use mathlib.Core.Path.{_≡_, refl, _∙_}
 use Prim.Native.Nat.{_≤_, _-_}
 use native.Mathlib.Omega.{arith}
 use lib.ListN.{length}
-use borrow.Author.Needs.{needs}
 use Rattle.item_words.specs.Items.{items-in}
 use Rattle.rule_load.proofs.Holding.{rule-long, first-items, hold-none, hold-more, hold-few, hold-all}
 use Rattle.rule_load.proofs.hold.Statement.{statement}
@@ -15,38 +14,11 @@ Inv-loop out₀ rule count k₀ out k = (k ≤ 32) × (k ≤ rule .count) × (co
 abbrev μ-loop : tie.MeasureT-loop
 μ-loop out₀ rule count k₀ out k = 32 - k
 
-loop-holds : tie.Need-loop-holds Inv-loop μ-loop
-loop-holds c = (omega arith, omega arith, refl, refl, hold-none (c .before .args .t1) _)
-
-same-length : tie.Need-same-length Inv-loop μ-loop
-same-length c = c .before .before .loop .inv .3
-
 returns : tie.Need-returns Inv-loop μ-loop
 returns c = hold-few (c .before .before .before .before .args .t1) _ _ (c .before .before .loop .inv .4) (c .before .before .loop .inv .0) (c .before .before .loop .inv .1) (let a = c .before .before .loop .inv .2 in let b = c .if1 .taken in omega arith)
 
-cast-e : tie.Need-cast-e Inv-loop μ-loop
-cast-e c = omega arith
-
-mul-e : tie.Need-mul-e Inv-loop μ-loop
-mul-e c = omega arith
-
-element-copy-out-e : tie.Need-element-copy-out-e Inv-loop μ-loop
-element-copy-out-e c = omega arith
-
-hold-item-requires : tie.Need-hold-item-requires Inv-loop μ-loop
-hold-item-requires c κs = tt
-
-add-k : tie.Need-add-k Inv-loop μ-loop
-add-k c = omega (arith, c .before .before .before .before .before .before .loop-test .taken)
-
-loop-less : tie.Need-loop-less Inv-loop μ-loop
-loop-less c = omega (arith, c .before .before .before .before .before .before .loop-test .taken)
-
 loop-again : tie.Need-loop-again Inv-loop μ-loop
 loop-again c = let start = c .before .before .before .before .before .before .before .before .before in (omega (arith, c .before .before .before .before .before .before .loop-test .taken), (let a = c .before .before .before .before .before .before .before .loop .inv .2 in let b = c .before .before .before .before .before .if1 .left in omega arith), c .before .before .before .before .before .before .before .loop .inv .2, c .before .out .given ∙ c .before .before .before .before .before .before .before .loop .inv .3, hold-more (start .args .t1) _ _ _ _ _ (c .before .before .before .before .before .before .before .loop .inv .4) (let a = rule-long (start .args .t1) _ (start .good .0) in let b = c .before .before .before .before .before .before .loop-test .taken in omega arith) (let a = start .pre in let b = c .before .before .before .before .before .before .loop-test .taken in let d = c .before .before .before .before .before .before .before .loop .inv .3 in omega arith) refl (c .before .before .hold-item .ensures .1) (c .before .before .hold-item .ensures .0))
-
-same-length-2 : tie.Need-same-length-2 Inv-loop μ-loop
-same-length-2 c = c .before .loop .inv .3
 
 returns-2 : tie.Need-returns-2 Inv-loop μ-loop
 returns-2 c = hold-all (c .before .before .before .args .t1) _ _ (c .before .loop .inv .4) (rule-long (c .before .before .before .args .t1) _ (c .before .before .before .good .0)) (c .before .loop .inv .0) (c .loop-test .left) (c .before .loop .inv .1)
@@ -57,15 +29,15 @@ hold-spec =
     (tie.spec
     Inv-loop
     μ-loop
-    loop-holds
-    same-length
+    (λ c. (omega arith, omega arith, refl, refl, hold-none (c .before .args .t1) _))
+    (λ c. c .before .before .loop .inv .3)
     returns
-    cast-e
-    mul-e
-    element-copy-out-e
-    hold-item-requires
-    add-k
-    loop-less
+    (λ c. omega arith)
+    (λ c. omega arith)
+    (λ c. omega arith)
+    (λ c κs. tt)
+    (λ c. omega (arith, c .before .before .before .before .before .before .loop-test .taken))
+    (λ c. omega (arith, c .before .before .before .before .before .before .loop-test .taken))
     loop-again
-    same-length-2
+    (λ c. c .before .loop .inv .3)
     returns-2)

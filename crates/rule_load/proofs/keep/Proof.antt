@@ -1,6 +1,5 @@
 -- `rule_load::keep` meets its contract. Assumes nothing.
-use mathlib.Core.Path.{_≡_, refl, sym, ap, _∙_}
-use Prim.Native.Nat.{ℕ, _+_, _-_, _*_, _/_, _%_, _≤_, _<_}
+use mathlib.Core.Path.{sym}
 use native.Mathlib.Omega.{arith}
 use lib.Seq.{length-take-le}
 use Rattle.rule_load.proofs.Keeping.{wrote-as}
@@ -8,23 +7,8 @@ use borrow.Author.Needs.{needs}
 use Rattle.rule_load.proofs.keep.Statement.{statement}
 use Rattle.rule_load.proofs.keep.Tie as tie
 
-mul-count : tie.Need-mul-count
-mul-count c = search needs
-
-slice-aggregate-gather : tie.Need-slice-aggregate-gather
-slice-aggregate-gather c = search needs
-
-gather-requires : tie.Need-gather-requires
-gather-requires c κs = search needs
-
-write-children-requires : tie.Need-write-children-requires
-write-children-requires c κs = search needs
-
 slice-aggregate-write : tie.Need-slice-aggregate-write
 slice-aggregate-write c = let start = c .before .before .before .before .before .before .before .before .before .before .before .before .before .before .before .before .before in sym (length-take-le _ _ (start .pre .long-sites))
-
-array-share-prefix-out : tie.Need-array-share-prefix-out
-array-share-prefix-out c = search needs
 
 slice-aggregate-write-2 : tie.Need-slice-aggregate-write-2
 slice-aggregate-write-2 c = let start = c .before .before .before .before .before .before .before .before .before .before .before .before .before .before .before .before .before .before in sym (length-take-le _ _ (omega (arith, c .before .before .before .before .before .before .before .before .gather .kept .1 .1 .1 .0, start .pre .few)))
@@ -35,15 +19,6 @@ slice-aggregate-write-3 c = let start = c .before .before .before .before .befor
 slice-aggregate-write-4 : tie.Need-slice-aggregate-write-4
 slice-aggregate-write-4 c = let start = c .before .before .before .before .before .before .before .before .before .before .before .before .before .before .before .before .before .before .before .before in sym (length-take-le _ _ (start .pre .long-low))
 
-write-requires : tie.Need-write-requires
-write-requires c κs = search needs
-
-same-length : tie.Need-same-length
-same-length c = search needs
-
-same-length-2 : tie.Need-same-length-2
-same-length-2 c = search needs
-
 returns : tie.Need-returns
 returns c = let at-write-children = c .before .before .before .before .before .before .before .before .before .before in let at-gather = at-write-children .before .before .before in (at-write-children .write-children .ensures, wrote-as _ _ _ _ _ _ _ _ _ _ (c .before .before .write .ensures .1) (at-gather .gather .ensures))
 
@@ -51,16 +26,16 @@ pub keep-spec : {M : Type 1} → statement M
 keep-spec =
     tie.close
     (tie.spec
-    mul-count
-    slice-aggregate-gather
-    gather-requires
-    write-children-requires
+    (λ c. search needs)
+    (λ c. search needs)
+    (λ c κs. search needs)
+    (λ c κs. search needs)
     slice-aggregate-write
-    array-share-prefix-out
+    (λ c. search needs)
     slice-aggregate-write-2
     slice-aggregate-write-3
     slice-aggregate-write-4
-    write-requires
-    same-length
-    same-length-2
+    (λ c κs. search needs)
+    (λ c. search needs)
+    (λ c. search needs)
     returns)

@@ -23,26 +23,8 @@ slice-reshare-prefix-check-2 c = let start = c .before .before .before .before .
 slice-aggregate-check-3 : tie.Need-slice-aggregate-check-3
 slice-aggregate-check-3 c = let start = c .before .before .before .before .before .before .before .before .before .before .before .before .before .before in sym (length-take-le _ _ (omega (arith, left-held (start .args .m .now) (start .args .n) (start .args .tail .now) (start .args .sites .now) (start .args .rows .now) (start .args .shapes .now) (start .args .kids .now) (start .args .eqs .now) (start .args .a) (start .args .equal .now) (start .args .low .now) (start .args .count) (start .pre .0 .0) (start .pre .0 .1), start .pre .0 .1 .long-sites, start .pre .0 .1 .long-rows)))
 
-check-requires : tie.Need-check-requires
-check-requires c κs = search needs
-
-enum-known-v : tie.Need-enum-known-v
-enum-known-v c = search needs
-
-refuse-requires : tie.Need-refuse-requires
-refuse-requires c κs = search needs
-
-same-length : tie.Need-same-length
-same-length c = search needs
-
-same-length-2 : tie.Need-same-length-2
-same-length-2 c = search needs
-
 returns : tie.Need-returns
 returns c = let start = c .before .before .before .before .before .before .before .before .before .before .before .before .before .before .before .before .before .before .before in told-refused _ _ (c .refuse .ensures) (λ is L. rounds-by _ _ _ _ _ _ _ _ _ _ _ (left-refuse (start .args .m .now) (start .args .n) (start .args .tail .now) (start .args .sites .now) (start .args .rows .now) (start .args .shapes .now) (start .args .kids .now) (start .args .eqs .now) (start .args .a) (start .args .equal .now) (start .args .low .now) (start .args .count) is L _ _ (c .before .before .before .before .check .ensures) (c .before .before .v .given .1)) (c .refuse .ensures))
-
-enum-told : tie.Need-enum-told
-enum-told c = search needs
 
 slice-aggregate-turn : tie.Need-slice-aggregate-turn
 slice-aggregate-turn c = let start = c .before .before .before .before .before .before .before .before .before .before .before .before .before .before .before .before .before .before .before .before .before in sym (length-take-le _ _ (left-equal (start .args .m .now) (start .args .n) (start .args .tail .now) (start .args .sites .now) (start .args .rows .now) (start .args .shapes .now) (start .args .kids .now) (start .args .eqs .now) (start .args .a) (start .args .equal .now) (start .args .low .now) (start .args .count) (start .pre .0 .0) (start .pre .0 .1)))
@@ -56,27 +38,6 @@ copy-requires c κs = let start = c .before .before .before .before .before .bef
 copy-requires-2 : tie.Need-copy-requires-2
 copy-requires-2 c κs = let start = c .before .before .before .before .before .before .before .before .before .before .before .before .before .before .before .before .before .before .before .before .before .before .before .before .before .before .before .before .before .before .before .before .before .before .before .before .before .before .before .before .before .before .before in start .pre .0 .1 .long-low
 
-same-length-3 : tie.Need-same-length-3
-same-length-3 c = search needs
-
-same-length-4 : tie.Need-same-length-4
-same-length-4 c = search needs
-
-same-length-5 : tie.Need-same-length-5
-same-length-5 c = search needs
-
-same-length-6 : tie.Need-same-length-6
-same-length-6 c = search needs
-
-same-length-7 : tie.Need-same-length-7
-same-length-7 c = search needs
-
-same-length-8 : tie.Need-same-length-8
-same-length-8 c = search needs
-
-same-length-9 : tie.Need-same-length-9
-same-length-9 c = search needs
-
 returns-2 : tie.Need-returns-2
 returns-2 c = let at-turn = c .before .before .before .before .before .before .before .before .before .before .before .before .before .before .before .before .before .before .before .before in let at-enum-told = at-turn .before .before .before .before .before .before .before .before .before in let at-check = at-enum-told .before .before in let start = at-check .before .before .before .before .before .before .before .before .before .before .before .before .before .before .before in told-up _ _ _ _ refl refl (at-turn .turn .ensures) (λ E is L. rounds-copied _ _ _ _ _ _ _ _ _ _ _ _ _ (left-solved (start .args .m .now) (start .args .n) (start .args .tail .now) (start .args .sites .now) (start .args .rows .now) (start .args .shapes .now) (start .args .kids .now) (start .args .eqs .now) (start .args .a) (start .args .equal .now) (start .args .low .now) (start .args .count) is L _ (at-check .check .ensures) (at-enum-told .enum-told .given .1)) (c .before .before .before .before .before .before .before .copy .ensures) (c .before .before .copy2 .ensures) E)
 
@@ -89,22 +50,22 @@ normalise-spec =
     slice-aggregate-check-2
     slice-reshare-prefix-check-2
     slice-aggregate-check-3
-    check-requires
-    enum-known-v
-    refuse-requires
-    same-length
-    same-length-2
+    (λ c κs. search needs)
+    (λ c. search needs)
+    (λ c κs. search needs)
+    (λ c. search needs)
+    (λ c. search needs)
     returns
-    enum-told
+    (λ c. search needs)
     slice-aggregate-turn
     turn-requires
     copy-requires
     copy-requires-2
-    same-length-3
-    same-length-4
-    same-length-5
-    same-length-6
-    same-length-7
-    same-length-8
-    same-length-9
+    (λ c. search needs)
+    (λ c. search needs)
+    (λ c. search needs)
+    (λ c. search needs)
+    (λ c. search needs)
+    (λ c. search needs)
+    (λ c. search needs)
     returns-2)

@@ -8,44 +8,8 @@ use Rattle.rule_rounds.proofs.RoundStep.{told-refused, told-up}
 use Rattle.rule_load.proofs.solve.Statement.{statement}
 use Rattle.rule_load.proofs.solve.Tie as tie
 
-slice-aggregate-load-items : tie.Need-slice-aggregate-load-items
-slice-aggregate-load-items c = search needs
-
-slice-aggregate-load-items-2 : tie.Need-slice-aggregate-load-items-2
-slice-aggregate-load-items-2 c = search needs
-
-load-items-requires : tie.Need-load-items-requires
-load-items-requires c κs = search needs
-
-enum-known-answer : tie.Need-enum-known-answer
-enum-known-answer c = search needs
-
-refuse-requires : tie.Need-refuse-requires
-refuse-requires c κs = search needs
-
-same-length : tie.Need-same-length
-same-length c = search needs
-
-same-length-2 : tie.Need-same-length-2
-same-length-2 c = search needs
-
-same-length-3 : tie.Need-same-length-3
-same-length-3 c = search needs
-
-same-length-4 : tie.Need-same-length-4
-same-length-4 c = search needs
-
 returns : tie.Need-returns
 returns c = let at-load-items = c .before .before .before .before .before .before .before .before .before .before .before .before .before .before in let start = at-load-items .before .before .before .before .before .before .before .before .before .before .before .before .before .before .before .before .before in told-refused _ _ (c .refuse .ensures) (rounds-by _ _ _ _ _ _ _ _ _ _ _ (items-refuse _ _ _ _ _ _ _ _ _ (start .args .count) _ _ _ _ (roomy-so (start .args .tail .now) (start .args .sites .now) (start .args .rows .now) (start .args .shapes .now) (replicate 256 0) (replicate 64 0) (start .pre .0 .0) (start .pre .0 .1 .0) refl refl) (at-load-items .load-items .ensures .0) refl (c .before .before .answer .given .1)) (c .refuse .ensures))
-
-enum-told : tie.Need-enum-told
-enum-told c = search needs
-
-slice-aggregate-normalise : tie.Need-slice-aggregate-normalise
-slice-aggregate-normalise c = search needs
-
-slice-aggregate-normalise-2 : tie.Need-slice-aggregate-normalise-2
-slice-aggregate-normalise-2 c = search needs
 
 normalise-requires : tie.Need-normalise-requires
 normalise-requires c κs = let at-enum-told = c .before .before .before .before .before .before .before .before .before .before in let at-load-items = at-enum-told .before .before .before .before .before .before .before .before .before .before .before .before in let start = at-load-items .before .before .before .before .before .before .before .before .before .before .before .before .before .before .before .before .before in ((_, left-so _ _ _ _ _ _ _ _ _ _ _ _ _ _ (roomy-so (start .args .tail .now) (start .args .sites .now) (start .args .rows .now) (start .args .shapes .now) (replicate 256 0) (replicate 64 0) (start .pre .0 .0) (start .pre .0 .1 .0) refl refl) (at-load-items .load-items .ensures .0) (at-enum-told .enum-told .given .1) (at-load-items .load-items .ensures .1 .1 .0 (zeros-inside 256)) _ _ _ (start .pre .0 .0) (at-load-items .load-items .ensures .1 .0 .tail-long) (at-load-items .load-items .ensures .1 .0 .sites-long) (at-load-items .load-items .ensures .1 .0 .rows-long) (start .pre .0 .1 .1 .0) (start .pre .0 .1 .1 .1)), (let a = at-load-items .load-items .ensures .1 .0 .sites-long in let b = start .pre .1 .0 in omega arith, start .pre .1 .1))
@@ -56,24 +20,6 @@ same-length-5 c = let at-tail2 = c .before .before .before .before .before .befo
 same-length-6 : tie.Need-same-length-6
 same-length-6 c = let at-sites2 = c .before .before .before .before .before .before .before .before .before .before .before in let at-sites = at-sites2 .before .before .before .before .before .before .before .before .before .before .before .before .before .before .before .before .before .before .before .before .before .before .before in at-sites2 .sites2 .given ∙ at-sites .sites .given
 
-same-length-7 : tie.Need-same-length-7
-same-length-7 c = search needs
-
-same-length-8 : tie.Need-same-length-8
-same-length-8 c = search needs
-
-same-length-9 : tie.Need-same-length-9
-same-length-9 c = search needs
-
-same-length-10 : tie.Need-same-length-10
-same-length-10 c = search needs
-
-same-length-11 : tie.Need-same-length-11
-same-length-11 c = search needs
-
-same-length-12 : tie.Need-same-length-12
-same-length-12 c = search needs
-
 returns-2 : tie.Need-returns-2
 returns-2 c = let at-normalise = c .before .before .before .before .before .before .before .before .before .before .before .before .before .before in let at-enum-told = at-normalise .before .before .before .before .before .before .before .before .before .before .before in let at-load-items = at-enum-told .before .before .before .before .before .before .before .before .before .before .before .before in let start = at-load-items .before .before .before .before .before .before .before .before .before .before .before .before .before .before .before .before .before in told-up _ _ _ _ (at-load-items .load-items .ensures .1 .0 .tail-long) (at-load-items .load-items .ensures .1 .0 .sites-long) (at-normalise .normalise .ensures) (λ E. E _ (left-so _ _ _ _ _ _ _ _ _ _ _ _ _ _ (roomy-so (start .args .tail .now) (start .args .sites .now) (start .args .rows .now) (start .args .shapes .now) (replicate 256 0) (replicate 64 0) (start .pre .0 .0) (start .pre .0 .1 .0) refl refl) (at-load-items .load-items .ensures .0) (at-enum-told .enum-told .given .1) (at-load-items .load-items .ensures .1 .1 .0 (zeros-inside 256)) _ _ _ (start .pre .0 .0) (at-load-items .load-items .ensures .1 .0 .tail-long) (at-load-items .load-items .ensures .1 .0 .sites-long) (at-load-items .load-items .ensures .1 .0 .rows-long) (start .pre .0 .1 .1 .0) (start .pre .0 .1 .1 .1)))
 
@@ -81,26 +27,26 @@ pub solve-spec : {M : Type 1} → statement M
 solve-spec =
     tie.close
     (tie.spec
-    slice-aggregate-load-items
-    slice-aggregate-load-items-2
-    load-items-requires
-    enum-known-answer
-    refuse-requires
-    same-length
-    same-length-2
-    same-length-3
-    same-length-4
+    (λ c. search needs)
+    (λ c. search needs)
+    (λ c κs. search needs)
+    (λ c. search needs)
+    (λ c κs. search needs)
+    (λ c. search needs)
+    (λ c. search needs)
+    (λ c. search needs)
+    (λ c. search needs)
     returns
-    enum-told
-    slice-aggregate-normalise
-    slice-aggregate-normalise-2
+    (λ c. search needs)
+    (λ c. search needs)
+    (λ c. search needs)
     normalise-requires
     same-length-5
     same-length-6
-    same-length-7
-    same-length-8
-    same-length-9
-    same-length-10
-    same-length-11
-    same-length-12
+    (λ c. search needs)
+    (λ c. search needs)
+    (λ c. search needs)
+    (λ c. search needs)
+    (λ c. search needs)
+    (λ c. search needs)
     returns-2)

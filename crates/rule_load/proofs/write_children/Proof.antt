@@ -1,6 +1,6 @@
 -- `rule_load::write_children` meets its contract. Assumes nothing.
-use mathlib.Core.Path.{_≡_, refl, sym, ap, _∙_}
-use Prim.Native.Nat.{ℕ, _+_, _-_, _*_, _/_, _%_, _≤_, _<_}
+use mathlib.Core.Path.{_≡_, refl, _∙_}
+use Prim.Native.Nat.{_-_, _≤_}
 use native.Mathlib.Omega.{arith}
 use lib.ListN.{length}
 use Rattle.sites.specs.Slots.{store}
@@ -15,23 +15,11 @@ Inv-loop m₀ n tail t first count i₀ m i = (i ≤ count) × (m ≡ store m₀
 abbrev μ-loop : tie.MeasureT-loop
 μ-loop m₀ n tail t first count i₀ m i = count - i
 
-size16-requires : tie.Need-size16-requires Inv-loop μ-loop
-size16-requires c κs = tt
-
-size16-requires-2 : tie.Need-size16-requires-2 Inv-loop μ-loop
-size16-requires-2 c κs = tt
-
-loop-holds : tie.Need-loop-holds Inv-loop μ-loop
-loop-holds c = (omega arith, none-stored _ _ _, refl)
-
 add-write-child : tie.Need-add-write-child Inv-loop μ-loop
 add-write-child c = omega (arith, c .before .before .before .before .size16 .ensures, c .before .before .before .size162 .ensures)
 
 mul-write-child : tie.Need-mul-write-child Inv-loop μ-loop
 mul-write-child c = omega (arith, c .before .before .before .size162 .ensures, c .before .before .before .before .before .before .before .pre .0)
-
-shared-slice-read-write-child : tie.Need-shared-slice-read-write-child Inv-loop μ-loop
-shared-slice-read-write-child c = omega (arith, c .before .before .before .before .size162 .ensures)
 
 write-child-requires : tie.Need-write-child-requires Inv-loop μ-loop
 write-child-requires c κs = (omega (arith, c .before .before .before .before .before .size16 .ensures, c .before .before .before .before .size162 .ensures), omega (arith, c .before .before .before .before .before .size16 .ensures, c .before .before .before .before .size162 .ensures, c .before .before .before .loop .inv .2), c .before .before .before .before .before .before .before .before .pre .3 _ (omega (arith, c .before .before .before .before .size162 .ensures)))
@@ -39,14 +27,8 @@ write-child-requires c κs = (omega (arith, c .before .before .before .before .b
 add-i : tie.Need-add-i Inv-loop μ-loop
 add-i c = let start = c .before .before .before .before .before .before .before .before .before .before .before in omega (arith, c .before .before .before .before .before .before .before .size162 .ensures, start .pre .0)
 
-loop-less : tie.Need-loop-less Inv-loop μ-loop
-loop-less c = omega arith
-
 loop-again : tie.Need-loop-again Inv-loop μ-loop
 loop-again c = (omega arith, one-stored _ _ _ _ _ _ _ (c .before .before .before .before .before .before .before .before .size16 .ensures) (c .before .before .before .before .before .before .loop .inv .1) (c .before .before .write-child .ensures), c .before .before .write-child .kept .0 ∙ c .before .before .before .before .before .before .loop .inv .2)
-
-same-length : tie.Need-same-length Inv-loop μ-loop
-same-length c = c .before .loop .inv .2
 
 returns : tie.Need-returns Inv-loop μ-loop
 returns c = all-stored _ _ _ _ _ _ (omega (arith, c .before .before .size162 .ensures)) (omega (arith, c .before .before .size162 .ensures)) (c .before .loop .inv .1)
@@ -57,15 +39,15 @@ write-children-spec =
     (tie.spec
     Inv-loop
     μ-loop
-    size16-requires
-    size16-requires-2
-    loop-holds
+    (λ c κs. tt)
+    (λ c κs. tt)
+    (λ c. (omega arith, none-stored _ _ _, refl))
     add-write-child
     mul-write-child
-    shared-slice-read-write-child
+    (λ c. omega (arith, c .before .before .before .before .size162 .ensures))
     write-child-requires
     add-i
-    loop-less
+    (λ c. omega arith)
     loop-again
-    same-length
+    (λ c. c .before .loop .inv .2)
     returns)

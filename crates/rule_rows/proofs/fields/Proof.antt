@@ -4,40 +4,13 @@ use borrow.Author.Needs.{needs}
 use Rattle.rule_rows.proofs.fields.Statement.{statement}
 use Rattle.rule_rows.proofs.fields.Tie as tie
 
-size16-requires : tie.Need-size16-requires
-size16-requires c κs = tt
-
-mul-k : tie.Need-mul-k
-mul-k c = search needs
-
-word-requires : tie.Need-word-requires
-word-requires c κs = tt
-
-add-word : tie.Need-add-word
-add-word c = search needs
-
-word-requires-2 : tie.Need-word-requires-2
-word-requires-2 c κs = tt
-
-add-word-2 : tie.Need-add-word-2
-add-word-2 c = search needs
-
-word-requires-3 : tie.Need-word-requires-3
-word-requires-3 c κs = tt
-
 returns : tie.Need-returns
 returns c =
     fields-int _ _ _ (c .before .before .before .before .size16 .ensures) _ _ _ (c .before .before .before .word .ensures) (c .before .before .word2 .ensures) (c .before .word3 .ensures) (c .if1 .taken)
 
-few-requires : tie.Need-few-requires
-few-requires c κs = tt
-
 returns-2 : tie.Need-returns-2
 returns-2 c =
     fields-third _ _ _ (c .before .before .before .before .before .before .size16 .ensures) _ _ _ (c .before .before .before .before .before .word .ensures) (c .before .before .before .before .word2 .ensures) (c .before .before .before .word3 .ensures) (c .before .before .if1 .left) (c .before .if2 .taken) _ (c .few .ensures)
-
-few-requires-2 : tie.Need-few-requires-2
-few-requires-2 c κs = tt
 
 returns-3 : tie.Need-returns-3
 returns-3 c =
@@ -59,17 +32,17 @@ pub fields-spec : {M : Type 1} → statement M
 fields-spec =
     tie.close
     (tie.spec
-    size16-requires
-    mul-k
-    word-requires
-    add-word
-    word-requires-2
-    add-word-2
-    word-requires-3
+    (λ c κs. tt)
+    (λ c. search needs)
+    (λ c κs. tt)
+    (λ c. search needs)
+    (λ c κs. tt)
+    (λ c. search needs)
+    (λ c κs. tt)
     returns
-    few-requires
+    (λ c κs. tt)
     returns-2
-    few-requires-2
+    (λ c κs. tt)
     returns-3
     returns-4
     returns-5

@@ -14,37 +14,9 @@ Inv-loop xs k₀ k-end k = (k ≤ length xs) × (stray xs ≡ stray (drop k xs))
 abbrev μ-loop : tie.MeasureT-loop
 μ-loop xs k₀ k-end k = length xs - k
 
-highest-requires : tie.Need-highest-requires Inv-loop μ-loop
-highest-requires c κs =
-    tt
-
-returns : tie.Need-returns Inv-loop μ-loop
-returns c =
-    stray-low _ _ (c .before .highest .ensures) (c .if1 .taken)
-
-loop-holds : tie.Need-loop-holds Inv-loop μ-loop
-loop-holds c =
-    (omega arith, refl)
-
-mul-x : tie.Need-mul-x Inv-loop μ-loop
-mul-x c =
-    omega arith
-
-shared-slice-read-x : tie.Need-shared-slice-read-x Inv-loop μ-loop
-shared-slice-read-x c =
-    omega arith
-
 returns-2 : tie.Need-returns-2 Inv-loop μ-loop
 returns-2 c =
     stray-found _ _ (c .before .before .loop-test .taken) (c .if2 .taken) (c .before .before .before .loop .inv .1)
-
-add-k : tie.Need-add-k Inv-loop μ-loop
-add-k c =
-    omega arith
-
-loop-less : tie.Need-loop-less Inv-loop μ-loop
-loop-less c =
-    omega arith
 
 loop-again : tie.Need-loop-again Inv-loop μ-loop
 loop-again c =
@@ -61,13 +33,13 @@ first-stray-spec =
     (tie.spec
     Inv-loop
     μ-loop
-    highest-requires
-    returns
-    loop-holds
-    mul-x
-    shared-slice-read-x
+    (λ c κs. tt)
+    (λ c. stray-low _ _ (c .before .highest .ensures) (c .if1 .taken))
+    (λ c. (omega arith, refl))
+    (λ c. omega arith)
+    (λ c. omega arith)
     returns-2
-    add-k
-    loop-less
+    (λ c. omega arith)
+    (λ c. omega arith)
     loop-again
     returns-3)

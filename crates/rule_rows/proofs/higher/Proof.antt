@@ -15,28 +15,6 @@ Inv-loop words kids i s m f₀ f = (f ≤ m) × ((g : ℕ) → g < f → s < kid
 abbrev μ-loop : tie.MeasureT-loop
 μ-loop words kids i s m f₀ f = m - f
 
-fields-requires : tie.Need-fields-requires Inv-loop μ-loop
-fields-requires c κs = tt
-
-loop-holds : tie.Need-loop-holds Inv-loop μ-loop
-loop-holds c =
-    (omega arith, λ g h. absurd (omega arith))
-
-kid-requires : tie.Need-kid-requires Inv-loop μ-loop
-kid-requires c κs = tt
-
-returns : tie.Need-returns Inv-loop μ-loop
-returns c =
-    λ e. no-way (sym e)
-
-add-f : tie.Need-add-f Inv-loop μ-loop
-add-f c =
-    omega arith
-
-loop-less : tie.Need-loop-less Inv-loop μ-loop
-loop-less c =
-    omega arith
-
 loop-again : tie.Need-loop-again Inv-loop μ-loop
 loop-again c =
     (omega arith, below-more _ _ (c .before .before .before .loop .inv .1) (kid-higher _ _ _ _ _ (c .before .kid .ensures) (c .if1 .left)))
@@ -51,11 +29,11 @@ higher-spec =
     (tie.spec
     Inv-loop
     μ-loop
-    fields-requires
-    loop-holds
-    kid-requires
-    returns
-    add-f
-    loop-less
+    (λ c κs. tt)
+    (λ c. (omega arith, λ g h. absurd (omega arith)))
+    (λ c κs. tt)
+    (λ c. λ e. no-way (sym e))
+    (λ c. omega arith)
+    (λ c. omega arith)
     loop-again
     returns-2)

@@ -12,24 +12,6 @@ Inv-loop xs top₀ k₀ k-end top k = (k ≤ length xs) × ((i : ℕ) → i < k 
 abbrev μ-loop : tie.MeasureT-loop
 μ-loop xs top₀ k₀ k-end top k = length xs - k
 
-loop-holds : tie.Need-loop-holds Inv-loop μ-loop
-loop-holds c = (omega arith, λ i h. absurd (omega arith))
-
-mul-greater : tie.Need-mul-greater Inv-loop μ-loop
-mul-greater c = omega arith
-
-shared-slice-read-greater : tie.Need-shared-slice-read-greater Inv-loop μ-loop
-shared-slice-read-greater c = omega arith
-
-greater-requires : tie.Need-greater-requires Inv-loop μ-loop
-greater-requires c κs = tt
-
-add-k : tie.Need-add-k Inv-loop μ-loop
-add-k c = omega arith
-
-loop-less : tie.Need-loop-less Inv-loop μ-loop
-loop-less c = omega arith
-
 loop-again : tie.Need-loop-again Inv-loop μ-loop
 loop-again c = (omega arith, low-step (c .before .before .before .before .before .args .xs .now) _ _ _ (c .before .before .before .loop .inv .1) (c .greater .ensures .0) (c .greater .ensures .1))
 
@@ -42,11 +24,11 @@ highest-spec =
     (tie.spec
     Inv-loop
     μ-loop
-    loop-holds
-    mul-greater
-    shared-slice-read-greater
-    greater-requires
-    add-k
-    loop-less
+    (λ c. (omega arith, λ i h. absurd (omega arith)))
+    (λ c. omega arith)
+    (λ c. omega arith)
+    (λ c κs. tt)
+    (λ c. omega arith)
+    (λ c. omega arith)
     loop-again
     returns)

@@ -6,24 +6,9 @@ use lib.ListN.{length, List·getD-eq-default}
 use borrow.Author.Needs.{needs}
 use Rattle.rule_words.proofs.word.Statement.{statement}
 use Rattle.rule_words.proofs.word.Tie as tie
-use Rattle.rule_words.proofs.word.Reads as reads
-use Rattle.rule_words.proofs.word.Lts as lts
 
--- src/lib.rt:91:16
-mul-result : tie.Need-mul-result
-mul-result c = search needs
-
--- src/lib.rt:91:16
-shared-slice-read-result : tie.Need-shared-slice-read-result
-shared-slice-read-result c = search needs
-
--- src/lib.rt:91:9
-returns : tie.Need-returns
-returns c = search needs
-
--- src/lib.rt:87:1
 returns-2 : tie.Need-returns-2
 returns-2 c = let h : length (now (c .before .args .words)) ≤ c .before .args .k = omega arith in sym (List·getD-eq-default (now (c .before .args .words)) 0 h)
 
 pub word-spec : {M : Type 1} → statement M
-word-spec = tie.close (tie.spec mul-result shared-slice-read-result returns returns-2)
+word-spec = tie.close (tie.spec (λ c. search needs) (λ c. search needs) (λ c. search needs) returns-2)

@@ -1,7 +1,6 @@
 use Rattle.run_answers.proofs.Laws.{pairs-start, pairs-turn, pairs-done}
 use mathlib.Core.Path.{_≡_}
 use Prim.Native.Nat.{_-_}
-use native.Mathlib.Omega.{arith}
 use lib.ListN.{length}
 use Rattle.tell_text.specs.Written.{wrote}
 use Rattle.rule_words.specs.Stored.{kept-in, kept-first, run}
@@ -9,9 +8,6 @@ use Rattle.run_answers.specs.Told.{pair-lines}
 use borrow.Author.Needs.{needs}
 use Rattle.run_answers.proofs.put_pairs.Statement.{statement}
 use Rattle.run_answers.proofs.put_pairs.Tie as tie
-use Rattle.run_answers.proofs.put_pairs.Reads as reads
-use Rattle.run_answers.proofs.put_pairs.Lts as lts
-use Rattle.run_answers.proofs.put_pairs_of.Reads as put-pairs-of-reads
 
 abbrev Inv-loop : tie.InvT-loop
 Inv-loop words rules out₀ at n₀ i₀ out n i = (length out ≡ length out₀) × (wrote (out, n) (pair-lines (run (kept-in words) i (rules - i))) ≡ wrote (out₀, at) (pair-lines (kept-first words rules)))
@@ -19,26 +15,8 @@ Inv-loop words rules out₀ at n₀ i₀ out n i = (length out ≡ length out₀
 abbrev μ-loop : tie.MeasureT-loop
 μ-loop words rules out₀ at n₀ i₀ out n i = rules - i
 
-loop-holds : tie.Need-loop-holds Inv-loop μ-loop
-loop-holds c = (search needs, pairs-start _ _ _)
-
-put-pairs-of-requires : tie.Need-put-pairs-of-requires Inv-loop μ-loop
-put-pairs-of-requires c κs = search needs
-
-add-i : tie.Need-add-i Inv-loop μ-loop
-add-i c = search needs
-
-loop-less : tie.Need-loop-less Inv-loop μ-loop
-loop-less c = search needs
-
 loop-again : tie.Need-loop-again Inv-loop μ-loop
 loop-again c = (search needs, pairs-turn _ _ _ _ _ _ (c .before .before .before .before .loop-test .taken) (c .before .before .before .before .before .loop .inv .1) (c .before .before .put-pairs-of .ensures))
-
-same-length : tie.Need-same-length Inv-loop μ-loop
-same-length c = search needs
-
-returns : tie.Need-returns Inv-loop μ-loop
-returns c = pairs-done _ _ _ _ _ (c .loop-test .left) (c .before .loop .inv .1)
 
 pub put-pairs-spec : {M : Type 1} → statement M
 put-pairs-spec =
@@ -46,10 +24,10 @@ put-pairs-spec =
     (tie.spec
     Inv-loop
     μ-loop
-    loop-holds
-    put-pairs-of-requires
-    add-i
-    loop-less
+    (λ c. (search needs, pairs-start _ _ _))
+    (λ c κs. search needs)
+    (λ c. search needs)
+    (λ c. search needs)
     loop-again
-    same-length
-    returns)
+    (λ c. search needs)
+    (λ c. pairs-done _ _ _ _ _ (c .loop-test .left) (c .before .loop .inv .1)))

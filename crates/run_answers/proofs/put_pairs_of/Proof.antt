@@ -1,7 +1,6 @@
 use Rattle.run_answers.proofs.Laws.{pair-turn, pair-done}
 use mathlib.Core.Path.{_≡_, refl}
 use Prim.Native.Nat.{_+_, _-_, _≤_}
-use native.Mathlib.Omega.{arith}
 use lib.ListN.{length}
 use Rattle.tell_text.specs.Written.{wrote}
 use Rattle.rule_words.specs.Stored.{kept-in, run}
@@ -9,9 +8,6 @@ use Rattle.run_answers.specs.Told.{pairs-with}
 use borrow.Author.Needs.{needs}
 use Rattle.run_answers.proofs.put_pairs_of.Statement.{statement}
 use Rattle.run_answers.proofs.put_pairs_of.Tie as tie
-use Rattle.run_answers.proofs.put_pairs_of.Reads as reads
-use Rattle.run_answers.proofs.put_pairs_of.Lts as lts
-use Rattle.tell_kept.proofs.put_pair.Reads as put-pair-reads
 
 abbrev Inv-loop : tie.InvT-loop
 Inv-loop words i rules out₀ at n₀ j₀ out n j = (length out ≡ length out₀) × (i + 1 ≤ j) × (wrote (out, n) (pairs-with (kept-in words i) (run (kept-in words) j (rules - j))) ≡ wrote (out₀, at) (pairs-with (kept-in words i) (run (kept-in words) (i + 1) (rules - (i + 1)))))
@@ -19,29 +15,8 @@ Inv-loop words i rules out₀ at n₀ j₀ out n j = (length out ≡ length out�
 abbrev μ-loop : tie.MeasureT-loop
 μ-loop words i rules out₀ at n₀ j₀ out n j = rules - j
 
-add-j : tie.Need-add-j Inv-loop μ-loop
-add-j c = search needs
-
-loop-holds : tie.Need-loop-holds Inv-loop μ-loop
-loop-holds c = (search needs, search needs, refl)
-
-put-pair-requires : tie.Need-put-pair-requires Inv-loop μ-loop
-put-pair-requires c κs = search needs
-
-add-j-2 : tie.Need-add-j-2 Inv-loop μ-loop
-add-j-2 c = search needs
-
-loop-less : tie.Need-loop-less Inv-loop μ-loop
-loop-less c = search needs
-
 loop-again : tie.Need-loop-again Inv-loop μ-loop
 loop-again c = (search needs, search needs, pair-turn _ _ _ _ _ _ _ (c .before .before .before .before .loop-test .taken) (c .before .before .before .before .before .loop .inv .2) (c .before .before .put-pair .ensures))
-
-same-length : tie.Need-same-length Inv-loop μ-loop
-same-length c = search needs
-
-returns : tie.Need-returns Inv-loop μ-loop
-returns c = pair-done _ _ _ _ _ _ (c .loop-test .left) (c .before .loop .inv .2)
 
 pub put-pairs-of-spec : {M : Type 1} → statement M
 put-pairs-of-spec =
@@ -49,11 +24,11 @@ put-pairs-of-spec =
     (tie.spec
     Inv-loop
     μ-loop
-    add-j
-    loop-holds
-    put-pair-requires
-    add-j-2
-    loop-less
+    (λ c. search needs)
+    (λ c. (search needs, search needs, refl))
+    (λ c κs. search needs)
+    (λ c. search needs)
+    (λ c. search needs)
     loop-again
-    same-length
-    returns)
+    (λ c. search needs)
+    (λ c. pair-done _ _ _ _ _ _ (c .loop-test .left) (c .before .loop .inv .2)))

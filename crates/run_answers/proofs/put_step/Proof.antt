@@ -2,44 +2,12 @@ use Rattle.run_answers.proofs.Laws.{check-put, explain-put, show-put}
 use borrow.Author.Needs.{needs}
 use Rattle.run_answers.proofs.put_step.Statement.{statement}
 use Rattle.run_answers.proofs.put_step.Tie as tie
-use Rattle.run_answers.proofs.put_step.Reads as reads
-use Rattle.run_answers.proofs.put_step.Lts as lts
-use Rattle.run_answers.proofs.put_all_explained.Reads as put-all-explained-reads
-use Rattle.run_answers.proofs.put_event.Reads as put-event-reads
-use Rattle.tell_text.proofs.put_text.Reads as put-text-reads
-
-enum-told : tie.Need-enum-told
-enum-told c = search needs
-
-put-text-requires : tie.Need-put-text-requires
-put-text-requires c κs = search needs
-
-enum-told-2 : tie.Need-enum-told-2
-enum-told-2 c = search needs
-
-put-all-explained-requires : tie.Need-put-all-explained-requires
-put-all-explained-requires c κs = search needs
-
-enum-told-3 : tie.Need-enum-told-3
-enum-told-3 c = search needs
-
-put-event-requires : tie.Need-put-event-requires
-put-event-requires c κs = search needs
-
-same-length : tie.Need-same-length
-same-length c = search needs
 
 returns : tie.Need-returns
 returns c = check-put _ _ _ _ _ _ _ _ _ (c .before .before .before .before .enum-told .given .1) (c .before .before .put-text .ensures)
 
-same-length-2 : tie.Need-same-length-2
-same-length-2 c = search needs
-
 returns-2 : tie.Need-returns-2
 returns-2 c = explain-put _ _ _ _ _ _ _ _ _ (c .before .before .before .before .enum-told2 .given .1) (c .before .before .put-all-explained .ensures)
-
-same-length-3 : tie.Need-same-length-3
-same-length-3 c = search needs
 
 returns-3 : tie.Need-returns-3
 returns-3 c = show-put _ _ _ _ _ _ _ _ _ (c .before .before .before .before .enum-told3 .given .1) (c .before .before .put-event .ensures)
@@ -48,15 +16,15 @@ pub put-step-spec : {M : Type 1} → statement M
 put-step-spec =
     tie.close
     (tie.spec
-    enum-told
-    put-text-requires
-    enum-told-2
-    put-all-explained-requires
-    enum-told-3
-    put-event-requires
-    same-length
+    (λ c. search needs)
+    (λ c κs. search needs)
+    (λ c. search needs)
+    (λ c κs. search needs)
+    (λ c. search needs)
+    (λ c κs. search needs)
+    (λ c. search needs)
     returns
-    same-length-2
+    (λ c. search needs)
     returns-2
-    same-length-3
+    (λ c. search needs)
     returns-3)

@@ -17,26 +17,8 @@ Inv-loop parents₀ ranks₀ count₀ members₀ line₀ out₀ bytes q₀ i₀ 
 abbrev μ-loop : tie.MeasureT-loop
 μ-loop parents₀ ranks₀ count₀ members₀ line₀ out₀ bytes q₀ i₀ parents ranks count members line out q i = length bytes - i
 
-loop-holds : tie.Need-loop-holds Inv-loop μ-loop
-loop-holds c = (omega arith, (refl, refl, refl), fed-none _ _)
-
-same-length : tie.Need-same-length Inv-loop μ-loop
-same-length c = c .before .before .before .loop .inv .1 .0
-
-same-length-2 : tie.Need-same-length-2 Inv-loop μ-loop
-same-length-2 c = c .before .before .before .loop .inv .1 .1
-
-same-length-3 : tie.Need-same-length-3 Inv-loop μ-loop
-same-length-3 c = c .before .before .before .loop .inv .1 .2
-
-returns : tie.Need-returns Inv-loop μ-loop
-returns c = fed-stop _ _ _ _ (c .before .before .before .loop .inv .2) (not-true _ (c .if1 .taken))
-
 shared-slice-read-take : tie.Need-shared-slice-read-take Inv-loop μ-loop
 shared-slice-read-take c = omega (arith, c .before .before .before .before .before .before .before .before .before .loop-test .taken)
-
-take-requires : tie.Need-take-requires Inv-loop μ-loop
-take-requires c κs = search needs
 
 add-i : tie.Need-add-i Inv-loop μ-loop
 add-i c = omega (arith, c .before .before .before .before .before .before .before .before .before .before .before .before .before .before .before .before .loop-test .taken, c .before .before .before .before .before .before .before .before .before .before .before .before .before .before .before .before .before .before .before .before .before .before .good .1 .1 .1 .1 .1 .1 .1 .0 .0)
@@ -47,35 +29,23 @@ loop-less c = omega (arith, c .before .before .before .before .before .before .b
 loop-again : tie.Need-loop-again Inv-loop μ-loop
 loop-again c = ((let t = c .before .before .before .before .before .before .before .before .before .before .before .before .before .before .before .before .loop-test .taken in omega arith), (c .before .before .before .before .before .members .given ∙ c .before .before .before .before .before .before .before .before .before .before .before .before .before .before .before .before .before .loop .inv .1 .0, c .before .before .before .line .given ∙ c .before .before .before .before .before .before .before .before .before .before .before .before .before .before .before .before .before .loop .inv .1 .1, c .before .out .given ∙ c .before .before .before .before .before .before .before .before .before .before .before .before .before .before .before .before .before .loop .inv .1 .2), fed-more _ _ _ _ _ (c .before .before .before .before .before .before .before .before .before .before .before .before .before .before .before .before .before .loop .inv .2) (goes _ (c .before .before .before .before .before .before .before .before .before .before .before .before .before .before .if1 .left)) (c .before .before .before .before .before .before .take .ensures))
 
-same-length-4 : tie.Need-same-length-4 Inv-loop μ-loop
-same-length-4 c = c .before .loop .inv .1 .0
-
-same-length-5 : tie.Need-same-length-5 Inv-loop μ-loop
-same-length-5 c = c .before .loop .inv .1 .1
-
-same-length-6 : tie.Need-same-length-6 Inv-loop μ-loop
-same-length-6 c = c .before .loop .inv .1 .2
-
-returns-2 : tie.Need-returns-2 Inv-loop μ-loop
-returns-2 c = fed-all _ _ _ _ (c .before .loop .inv .2) (c .before .loop .inv .0) (c .loop-test .left)
-
 pub feed-spec : {M : Type 1} → statement M
 feed-spec =
     tie.close
     (tie.spec
     Inv-loop
     μ-loop
-    loop-holds
-    same-length
-    same-length-2
-    same-length-3
-    returns
+    (λ c. (omega arith, (refl, refl, refl), fed-none _ _))
+    (λ c. c .before .before .before .loop .inv .1 .0)
+    (λ c. c .before .before .before .loop .inv .1 .1)
+    (λ c. c .before .before .before .loop .inv .1 .2)
+    (λ c. fed-stop _ _ _ _ (c .before .before .before .loop .inv .2) (not-true _ (c .if1 .taken)))
     shared-slice-read-take
-    take-requires
+    (λ c κs. search needs)
     add-i
     loop-less
     loop-again
-    same-length-4
-    same-length-5
-    same-length-6
-    returns-2)
+    (λ c. c .before .loop .inv .1 .0)
+    (λ c. c .before .loop .inv .1 .1)
+    (λ c. c .before .loop .inv .1 .2)
+    (λ c. fed-all _ _ _ _ (c .before .loop .inv .2) (c .before .loop .inv .0) (c .loop-test .left)))

@@ -6,18 +6,6 @@ use borrow.Author.Needs.{needs}
 use Rattle.run_script.proofs.reply_to.Statement.{statement}
 use Rattle.run_script.proofs.reply_to.Tie as tie
 
-returns : tie.Need-returns
-returns c = replied-long _ _ _ _ (c .if1 .taken)
-
-slice-aggregate-step : tie.Need-slice-aggregate-step
-slice-aggregate-step c = sym (length-take-le _ _ (c .before .before .before .before .before .if1 .left))
-
-step-requires : tie.Need-step-requires
-step-requires c κs = search needs
-
-same-length : tie.Need-same-length
-same-length c = search needs
-
 returns-2 : tie.Need-returns-2
 returns-2 c = replied-call _ _ _ _ _ (c .before .before .before .before .before .before .before .before .if1 .left) (c .before .before .step .ensures)
 
@@ -25,8 +13,8 @@ pub reply-to-spec : {M : Type 1} → statement M
 reply-to-spec =
     tie.close
     (tie.spec
-    returns
-    slice-aggregate-step
-    step-requires
-    same-length
+    (λ c. replied-long _ _ _ _ (c .if1 .taken))
+    (λ c. sym (length-take-le _ _ (c .before .before .before .before .before .if1 .left)))
+    (λ c κs. search needs)
+    (λ c. search needs)
     returns-2)

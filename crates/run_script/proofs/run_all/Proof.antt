@@ -17,27 +17,6 @@ Inv-loop parents₀ ranks₀ count₀ members₀ line₀ out₀ bytes₀ fd q₀
 abbrev μ-loop : tie.MeasureT-loop
 μ-loop parents₀ ranks₀ count₀ members₀ line₀ out₀ bytes₀ fd q₀ turns₀ parents ranks count members line out bytes q turns = turns
 
-loop-holds : tie.Need-loop-holds Inv-loop μ-loop
-loop-holds c = ((refl, refl, refl, refl), omega arith, read-none _ _ refl)
-
-same-length : tie.Need-same-length Inv-loop μ-loop
-same-length c = c .before .before .before .loop .inv .0 .0
-
-same-length-2 : tie.Need-same-length-2 Inv-loop μ-loop
-same-length-2 c = c .before .before .before .loop .inv .0 .1
-
-same-length-3 : tie.Need-same-length-3 Inv-loop μ-loop
-same-length-3 c = c .before .before .before .loop .inv .0 .2
-
-same-length-4 : tie.Need-same-length-4 Inv-loop μ-loop
-same-length-4 c = c .before .before .before .loop .inv .0 .3
-
-returns : tie.Need-returns Inv-loop μ-loop
-returns c = read-stop _ _ _ (c .before .before .before .loop .inv .2) (not-true _ (c .if1 .taken))
-
-read-some-requires : tie.Need-read-some-requires Inv-loop μ-loop
-read-some-requires c κs = search needs
-
 sub-turns : tie.Need-sub-turns Inv-loop μ-loop
 sub-turns c = omega (arith, c .before .before .before .before .before .before .before .before .before .before .before .before .before .before .before .before .before .before .loop-test .taken)
 
@@ -47,39 +26,24 @@ loop-less c = omega (arith, c .before .before .before .before .before .before .b
 loop-again : tie.Need-loop-again Inv-loop μ-loop
 loop-again c = ((c .before .before .before .before .before .before .before .members .given ∙ c .before .before .before .before .before .before .before .before .before .before .before .before .before .before .before .before .before .before .before .loop .inv .0 .0, c .before .before .before .before .before .line .given ∙ c .before .before .before .before .before .before .before .before .before .before .before .before .before .before .before .before .before .before .before .loop .inv .0 .1, c .before .before .before .out .given ∙ c .before .before .before .before .before .before .before .before .before .before .before .before .before .before .before .before .before .before .before .loop .inv .0 .2, c .before .bytes .given ∙ c .before .before .before .before .before .before .before .before .before .before .before .before .before .before .before .before .before .before .before .loop .inv .0 .3), (let t = c .before .before .before .before .before .before .before .before .before .before .before .before .before .before .before .before .before .before .before .loop .inv .1 in omega arith), read-more _ _ _ _ (c .before .before .before .before .before .before .before .before .before .before .before .before .before .before .before .before .before .before .loop-test .taken) (c .before .before .before .before .before .before .before .before .before .before .before .before .before .before .before .before .before .before .before .loop .inv .1) (c .before .before .before .before .before .before .before .before .before .before .before .before .before .before .before .before .before .before .before .loop .inv .2) (goes _ (c .before .before .before .before .before .before .before .before .before .before .before .before .before .before .before .before .if1 .left)) (c .before .before .before .before .before .before .before .before .read-some .ensures))
 
-same-length-5 : tie.Need-same-length-5 Inv-loop μ-loop
-same-length-5 c = c .before .loop .inv .0 .0
-
-same-length-6 : tie.Need-same-length-6 Inv-loop μ-loop
-same-length-6 c = c .before .loop .inv .0 .1
-
-same-length-7 : tie.Need-same-length-7 Inv-loop μ-loop
-same-length-7 c = c .before .loop .inv .0 .2
-
-same-length-8 : tie.Need-same-length-8 Inv-loop μ-loop
-same-length-8 c = c .before .loop .inv .0 .3
-
-returns-2 : tie.Need-returns-2 Inv-loop μ-loop
-returns-2 c = read-all _ _ _ (c .before .loop .inv .2) (c .loop-test .left)
-
 pub run-all-spec : {M : Type 1} → statement M
 run-all-spec =
     tie.close
     (tie.spec
     Inv-loop
     μ-loop
-    loop-holds
-    same-length
-    same-length-2
-    same-length-3
-    same-length-4
-    returns
-    read-some-requires
+    (λ c. ((refl, refl, refl, refl), omega arith, read-none _ _ refl))
+    (λ c. c .before .before .before .loop .inv .0 .0)
+    (λ c. c .before .before .before .loop .inv .0 .1)
+    (λ c. c .before .before .before .loop .inv .0 .2)
+    (λ c. c .before .before .before .loop .inv .0 .3)
+    (λ c. read-stop _ _ _ (c .before .before .before .loop .inv .2) (not-true _ (c .if1 .taken)))
+    (λ c κs. search needs)
     sub-turns
     loop-less
     loop-again
-    same-length-5
-    same-length-6
-    same-length-7
-    same-length-8
-    returns-2)
+    (λ c. c .before .loop .inv .0 .0)
+    (λ c. c .before .loop .inv .0 .1)
+    (λ c. c .before .loop .inv .0 .2)
+    (λ c. c .before .loop .inv .0 .3)
+    (λ c. read-all _ _ _ (c .before .loop .inv .2) (c .loop-test .left)))

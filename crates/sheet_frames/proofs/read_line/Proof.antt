@@ -5,9 +5,6 @@ use borrow.Author.Needs.{needs}
 use Rattle.sheet_frames.proofs.read_line.Statement.{statement}
 use Rattle.sheet_frames.proofs.read_line.Tie as tie
 
-take-bytes-requires : tie.Need-take-bytes-requires
-take-bytes-requires c κs = search needs
-
 returns : tie.Need-returns
 returns c = wrong-read (now (c .before .before .before .before .before .args .line)) _ (c .before .before .take-bytes .result) (c .before .before .take-bytes .ensures) (not-true _ (c .if1 .taken))
 
@@ -17,9 +14,6 @@ array-share-prefix-bytes c = taken-fits (now (c .before .before .before .before 
 slice-aggregate-frame-of : tie.Need-slice-aggregate-frame-of
 slice-aggregate-frame-of c = taken-lent (now (c .before .before .before .before .before .before .args .line)) _ (c .before .before .before .take-bytes .result) (c .before .before .before .take-bytes .ensures) (not-false _ (c .before .if1 .left))
 
-frame-of-requires : tie.Need-frame-of-requires
-frame-of-requires c κs = search needs
-
 returns-2 : tie.Need-returns-2
 returns-2 c = taken-read (now (c .before .before .before .before .before .before .before .args .line)) _ (c .before .before .before .before .take-bytes .result) (c .before .before .before .before .take-bytes .ensures) (not-false _ (c .before .before .if1 .left)) (c .frame-of .result) (c .frame-of .ensures)
 
@@ -27,9 +21,9 @@ pub read-line-spec : {M : Type 1} → statement M
 read-line-spec =
     tie.close
     (tie.spec
-    take-bytes-requires
+    (λ c κs. search needs)
     returns
     array-share-prefix-bytes
     slice-aggregate-frame-of
-    frame-of-requires
+    (λ c κs. search needs)
     returns-2)

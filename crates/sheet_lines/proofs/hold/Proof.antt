@@ -19,36 +19,12 @@ abbrev μ-loop : tie.MeasureT-loop
 returns : tie.Need-returns Inv-loop μ-loop
 returns c = holding (c .before .before .before .before .args .h) _ (now (c .before .before .before .before .args .s)) _ (c .before .before .before .before .good .0 .1 .1 .1 .0 .1 .0 .1) (held-full (c .before .before .before .before .args .h) (now (c .before .before .before .before .args .s)) (c .if1 .taken))
 
-sub-least : tie.Need-sub-least Inv-loop μ-loop
-sub-least c = omega arith
-
-least-requires : tie.Need-least-requires Inv-loop μ-loop
-least-requires c κs = search needs
-
 loop-holds : tie.Need-loop-holds Inv-loop μ-loop
 unfolding stored
 loop-holds c = (omega arith, refl, omega arith, omega arith)
 
-shared-slice-read-bytes : tie.Need-shared-slice-read-bytes Inv-loop μ-loop
-shared-slice-read-bytes c = omega arith
-
-add-bytes : tie.Need-add-bytes Inv-loop μ-loop
-add-bytes c = omega arith
-
-array-write-bytes : tie.Need-array-write-bytes Inv-loop μ-loop
-array-write-bytes c = omega arith
-
-add-j : tie.Need-add-j Inv-loop μ-loop
-add-j c = omega arith
-
-loop-less : tie.Need-loop-less Inv-loop μ-loop
-loop-less c = omega arith
-
 loop-again : tie.Need-loop-again Inv-loop μ-loop
 loop-again c = (omega arith, one-stored _ _ _ _ _ (c .before .before .loop .inv .1), omega arith, omega arith)
-
-add-t9 : tie.Need-add-t9 Inv-loop μ-loop
-add-t9 c = omega arith
 
 returns-2 : tie.Need-returns-2 Inv-loop μ-loop
 returns-2 c = holding (c .before .before .before .before .before .before .before .args .h) _ (now (c .before .before .before .before .before .before .before .args .s)) _ (c .before .before .before .before .before .before .before .good .0 .1 .1 .1 .0 .1 .0 .1) (held-is (c .before .before .before .before .before .before .before .args .h) (now (c .before .before .before .before .before .before .before .args .s)) (c .before .before .least .result) (c .before .loop .j) (c .before .loop .bytes) (omega arith) (c .before .before .least .ensures) (omega arith) (c .before .loop .inv .1))
@@ -60,14 +36,14 @@ hold-spec =
     Inv-loop
     μ-loop
     returns
-    sub-least
-    least-requires
+    (λ c. omega arith)
+    (λ c κs. search needs)
     loop-holds
-    shared-slice-read-bytes
-    add-bytes
-    array-write-bytes
-    add-j
-    loop-less
+    (λ c. omega arith)
+    (λ c. omega arith)
+    (λ c. omega arith)
+    (λ c. omega arith)
+    (λ c. omega arith)
     loop-again
-    add-t9
+    (λ c. omega arith)
     returns-2)

@@ -14,20 +14,8 @@ Inv-loop s from i₀ i = line-end i (drop i s) ≡ line-end from (drop from s)
 abbrev μ-loop : tie.MeasureT-loop
 μ-loop s from i₀ i = length s - i
 
-loop-holds : tie.Need-loop-holds Inv-loop μ-loop
-loop-holds c = refl
-
-shared-slice-read-if1 : tie.Need-shared-slice-read-if1 Inv-loop μ-loop
-shared-slice-read-if1 c = omega arith
-
 returns : tie.Need-returns Inv-loop μ-loop
 returns c = ends-here (now (c .before .before .before .before .args .s)) (c .before .before .before .loop .i) _ (omega arith) (c .if1 .taken) (c .before .before .before .loop .inv)
-
-add-i : tie.Need-add-i Inv-loop μ-loop
-add-i c = omega arith
-
-loop-less : tie.Need-loop-less Inv-loop μ-loop
-loop-less c = omega arith
 
 loop-again : tie.Need-loop-again Inv-loop μ-loop
 loop-again c = goes-on (now (c .before .before .before .before .args .s)) (c .before .before .before .loop .i) _ (omega arith) (c .if1 .left) (c .before .before .before .loop .inv)
@@ -41,10 +29,10 @@ line-end-spec =
     (tie.spec
     Inv-loop
     μ-loop
-    loop-holds
-    shared-slice-read-if1
+    (λ c. refl)
+    (λ c. omega arith)
     returns
-    add-i
-    loop-less
+    (λ c. omega arith)
+    (λ c. omega arith)
     loop-again
     returns-2)

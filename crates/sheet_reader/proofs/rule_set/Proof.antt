@@ -2,42 +2,16 @@ use Rattle.sheet_reader.proofs.Small.{at-rule-1, at-rule-2}
 use borrow.Author.Needs.{needs}
 use Rattle.sheet_reader.proofs.rule_set.Statement.{statement}
 use Rattle.sheet_reader.proofs.rule_set.Tie as tie
-use Rattle.sheet_reader.proofs.rule_set.Reads as reads
-use Rattle.sheet_reader.proofs.rule_set.Lts as lts
-
-enum-told : tie.Need-enum-told
-enum-told c = search needs
-
-enum-known-s : tie.Need-enum-known-s
-enum-known-s c = search needs
-
-enum-known-s-2 : tie.Need-enum-known-s-2
-enum-known-s-2 c = search needs
-
-enum-told-2 : tie.Need-enum-told-2
-enum-told-2 c = search needs
-
-returns : tie.Need-returns
-returns c = search needs
-
-returns-2 : tie.Need-returns-2
-returns-2 c = at-rule-1 _ _ (c .before .s .given .1)
-
-returns-3 : tie.Need-returns-3
-returns-3 c = at-rule-2 _ _ (c .before .s2 .given .1)
-
-returns-4 : tie.Need-returns-4
-returns-4 c = search needs
 
 pub rule-set-spec : {M : Type 1} → statement M
 rule-set-spec =
     tie.close
     (tie.spec
-    enum-told
-    enum-known-s
-    enum-known-s-2
-    enum-told-2
-    returns
-    returns-2
-    returns-3
-    returns-4)
+    (λ c. search needs)
+    (λ c. search needs)
+    (λ c. search needs)
+    (λ c. search needs)
+    (λ c. search needs)
+    (λ c. at-rule-1 _ _ (c .before .s .given .1))
+    (λ c. at-rule-2 _ _ (c .before .s2 .given .1))
+    (λ c. search needs))

@@ -15,21 +15,6 @@ Inv-loop held bytes₀ i₀ bytes i = (i ≤ max-held) × (bytes ≡ paste bytes
 abbrev μ-loop : tie.MeasureT-loop
 μ-loop held bytes₀ i₀ bytes i = max-held - i
 
-loop-holds : tie.Need-loop-holds Inv-loop μ-loop
-loop-holds c = (omega arith, paste-zero _ 0 (now (c .args .held)))
-
-shared-slice-read-bytes : tie.Need-shared-slice-read-bytes Inv-loop μ-loop
-shared-slice-read-bytes c = omega (arith, c .before .before .before .pre)
-
-array-write-bytes : tie.Need-array-write-bytes Inv-loop μ-loop
-array-write-bytes c = omega arith
-
-add-i : tie.Need-add-i Inv-loop μ-loop
-add-i c = omega arith
-
-loop-less : tie.Need-loop-less Inv-loop μ-loop
-loop-less c = omega arith
-
 loop-again : tie.Need-loop-again Inv-loop μ-loop
 loop-again c = (omega arith, bytes-turn _ _ _ _ max-held (long-zeros max-held) (c .before .before .before .pre) (c .before .loop-test .taken) (c .before .before .loop .inv .1))
 
@@ -42,10 +27,10 @@ first-bytes-spec =
     (tie.spec
     Inv-loop
     μ-loop
-    loop-holds
-    shared-slice-read-bytes
-    array-write-bytes
-    add-i
-    loop-less
+    (λ c. (omega arith, paste-zero _ 0 (now (c .args .held))))
+    (λ c. omega (arith, c .before .before .before .pre))
+    (λ c. omega arith)
+    (λ c. omega arith)
+    (λ c. omega arith)
     loop-again
     returns)

@@ -4,17 +4,8 @@ use Rattle.sheet_state.proofs.Reading.{both-put}
 use Rattle.sheet_state.proofs.put_both.Statement.{statement}
 use Rattle.sheet_state.proofs.put_both.Tie as tie
 
-put-set-requires : tie.Need-put-set-requires
-put-set-requires c κs = search needs
-
-put-rule-requires : tie.Need-put-rule-requires
-put-rule-requires c κs = search needs
-
-same-length : tie.Need-same-length
-same-length c = search needs
-
 returns : tie.Need-returns
 returns c = both-put _ _ _ _ _ _ _ (c .before .before .before .before .before .before .put-set .ensures) (c .before .before .put-rule .ensures)
 
 pub put-both-spec : {M : Type 1} → statement M
-put-both-spec = tie.close (tie.spec put-set-requires put-rule-requires same-length returns)
+put-both-spec = tie.close (tie.spec (λ c κs. search needs) (λ c κs. search needs) (λ c. search needs) returns)

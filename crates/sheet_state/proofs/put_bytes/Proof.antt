@@ -16,20 +16,8 @@ Inv-loop held₀ bytes i₀ held i = (i ≤ max-held) × (held ≡ paste held₀
 abbrev μ-loop : tie.MeasureT-loop
 μ-loop held₀ bytes i₀ held i = max-held - i
 
-loop-holds : tie.Need-loop-holds Inv-loop μ-loop
-loop-holds c = (omega arith, copied-none (now (c .args .held)) (now (c .args .bytes)))
-
-shared-slice-read-held : tie.Need-shared-slice-read-held Inv-loop μ-loop
-shared-slice-read-held c = omega (arith, c .before .before .before .pre .1)
-
 slice-write-held : tie.Need-slice-write-held Inv-loop μ-loop
 slice-write-held c = omega (arith, copied-length _ _ _ _ _ (c .before .before .before .pre .0) (c .before .before .before .pre .1) (c .before .before .loop .inv .0) (c .before .before .loop .inv .1), c .before .before .before .pre .0)
-
-add-i : tie.Need-add-i Inv-loop μ-loop
-add-i c = search needs
-
-loop-less : tie.Need-loop-less Inv-loop μ-loop
-loop-less c = search needs
 
 loop-again : tie.Need-loop-again Inv-loop μ-loop
 loop-again c = (omega arith, copied-turn _ _ _ _ _ (c .before .before .before .pre .0) (c .before .before .before .pre .1) (c .before .loop-test .taken) (c .before .before .loop .inv .1))
@@ -46,11 +34,11 @@ put-bytes-spec =
     (tie.spec
     Inv-loop
     μ-loop
-    loop-holds
-    shared-slice-read-held
+    (λ c. (omega arith, copied-none (now (c .args .held)) (now (c .args .bytes))))
+    (λ c. omega (arith, c .before .before .before .pre .1))
     slice-write-held
-    add-i
-    loop-less
+    (λ c. search needs)
+    (λ c. search needs)
     loop-again
     same-length
     returns)

@@ -6,15 +6,6 @@ use Rattle.sheet_state.proofs.Reading.{reader-put, sets-room, sets-leng
 use Rattle.sheet_state.proofs.put_reader.Statement.{statement}
 use Rattle.sheet_state.proofs.put_reader.Tie as tie
 
-word32-requires : tie.Need-word32-requires
-word32-requires c κs = search needs
-
-slice-write-state : tie.Need-slice-write-state
-slice-write-state c = search needs
-
-put-stands-requires : tie.Need-put-stands-requires
-put-stands-requires c κs = search needs
-
 put-ended-requires : tie.Need-put-ended-requires
 put-ended-requires c κs = sets-room (now (c .before .before .before .before .before .before .before .before .args .state)) _ (c .before .before .before .before .before .word32 .result) 1 22 (stands-words (c .before .before .before .before .before .before .before .before .args .r .stands)) (c .before .before .before .put-stands .ensures) (c .before .before .before .before .before .before .before .before .pre)
 
@@ -28,9 +19,9 @@ pub put-reader-spec : {M : Type 1} → statement M
 put-reader-spec =
     tie.close
     (tie.spec
-    word32-requires
-    slice-write-state
-    put-stands-requires
+    (λ c κs. search needs)
+    (λ c. search needs)
+    (λ c κs. search needs)
     put-ended-requires
     same-length
     returns)

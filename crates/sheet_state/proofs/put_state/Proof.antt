@@ -4,26 +4,11 @@ use borrow.Author.Needs.{needs}
 use Rattle.sheet_state.proofs.put_state.Statement.{statement}
 use Rattle.sheet_state.proofs.put_state.Tie as tie
 
-keeps-requires : tie.Need-keeps-requires
-keeps-requires c κs = search needs
-
-same-length : tie.Need-same-length
-same-length c = search needs
-
-same-length-2 : tie.Need-same-length-2
-same-length-2 c = search needs
-
 returns : tie.Need-returns
 returns c = put-not _ _ _ _ _ (c .before .before .before .before .before .before .args .s) (no-of _ _ (c .before .keeps .ensures) (c .if1 .taken))
 
 put-in-requires : tie.Need-put-in-requires
 put-in-requires c κs = keeps-long _ _ (yes-of _ _ (c .before .before .before .keeps .ensures) (c .before .before .if1 .left))
-
-same-length-3 : tie.Need-same-length-3
-same-length-3 c = search needs
-
-same-length-4 : tie.Need-same-length-4
-same-length-4 c = search needs
 
 returns-2 : tie.Need-returns-2
 returns-2 c = put-all _ _ _ _ _ (c .before .before .before .before .before .before .before .before .before .before .before .before .before .args .s) (yes-of _ _ (c .before .before .before .before .before .before .before .before .keeps .ensures) (c .before .before .before .before .before .before .before .if1 .left)) (c .before .before .before .before .put-in .ensures)
@@ -32,11 +17,11 @@ pub put-state-spec : {M : Type 1} → statement M
 put-state-spec =
     tie.close
     (tie.spec
-    keeps-requires
-    same-length
-    same-length-2
+    (λ c κs. search needs)
+    (λ c. search needs)
+    (λ c. search needs)
     returns
     put-in-requires
-    same-length-3
-    same-length-4
+    (λ c. search needs)
+    (λ c. search needs)
     returns-2)

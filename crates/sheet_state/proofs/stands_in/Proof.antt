@@ -6,32 +6,11 @@ use Rattle.sheet_state.proofs.Reading.{sites-is, rules-is, items-is, ou
 use Rattle.sheet_state.proofs.stands_in.Statement.{statement}
 use Rattle.sheet_state.proofs.stands_in.Tie as tie
 
-word-requires : tie.Need-word-requires
-word-requires c κs = search needs
-
-set-in-requires : tie.Need-set-in-requires
-set-in-requires c κs = search needs
-
 returns : tie.Need-returns
 returns c = sites-is _ _ _ (c .before .before .word .ensures) (c .before .if1 .taken) (c .set-in .ensures)
 
-set-in-requires-2 : tie.Need-set-in-requires-2
-set-in-requires-2 c κs = search needs
-
 returns-2 : tie.Need-returns-2
 returns-2 c = rules-is _ _ _ (c .before .before .before .word .ensures) (c .before .before .if1 .left) (c .before .if2 .taken) (c .set-in2 .ensures)
-
-word-requires-2 : tie.Need-word-requires-2
-word-requires-2 c κs = search needs
-
-one-byte-requires : tie.Need-one-byte-requires
-one-byte-requires c κs = search needs
-
-rule-in-requires : tie.Need-rule-in-requires
-rule-in-requires c κs = search needs
-
-set-in-requires-3 : tie.Need-set-in-requires-3
-set-in-requires-3 c κs = search needs
 
 returns-3 : tie.Need-returns-3
 returns-3 c = items-is _ _ _ _ _ (c .before .before .before .before .before .before .before .word .ensures) (c .before .before .before .before .before .before .if1 .left) (c .before .before .before .before .before .if2 .left) (c .before .before .before .before .if3 .taken) (c .set-in3 .ensures) (c .before .rule-in .ensures) (c .before .before .one-byte .ensures ∙ ap (λ (x : ℕ). x % 256) (c .before .before .before .word2 .ensures))
@@ -43,14 +22,14 @@ pub stands-in-spec : {M : Type 1} → statement M
 stands-in-spec =
     tie.close
     (tie.spec
-    word-requires
-    set-in-requires
+    (λ c κs. search needs)
+    (λ c κs. search needs)
     returns
-    set-in-requires-2
+    (λ c κs. search needs)
     returns-2
-    word-requires-2
-    one-byte-requires
-    rule-in-requires
-    set-in-requires-3
+    (λ c κs. search needs)
+    (λ c κs. search needs)
+    (λ c κs. search needs)
+    (λ c κs. search needs)
     returns-3
     returns-4)

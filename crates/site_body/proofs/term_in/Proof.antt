@@ -5,36 +5,17 @@ use native.Mathlib.Omega.{arith}
 use borrow.Author.Needs.{needs}
 use Rattle.site_body.proofs.term_in.Statement.{statement}
 use Rattle.site_body.proofs.term_in.Tie as tie
-use Rattle.site_body.proofs.term_in.Reads as reads
-use Rattle.site_body.proofs.term_in.Lts as lts
-use Rattle.site_body.proofs.byte_at.Reads as byte-at-reads
-use Rattle.site_body.proofs.word_at.Reads as word-at-reads
 
--- src/lib.rt:148:9
-byte-at-requires : tie.Need-byte-at-requires
-byte-at-requires c κs = search needs
-
--- src/lib.rt:150:26
-word-at-requires : tie.Need-word-at-requires
-word-at-requires c κs = search needs
-
--- src/lib.rt:150:9
 returns : tie.Need-returns
 returns c = term-four (now (c .before .before .before .before .args .b)) (λ i. omega (arith, c .before .before .before .shared-slice-known .given i)) (c .before .before .before .before .pre) (c .word-at .result) (sym (c .before .before .byte-at .ensures) ∙ c .before .if1 .taken) (c .word-at .ensures)
 
--- src/lib.rt:153:26
-word-at-requires-2 : tie.Need-word-at-requires-2
-word-at-requires-2 c κs = search needs
-
--- src/lib.rt:153:9
 returns-2 : tie.Need-returns-2
 returns-2 c = term-five (now (c .before .before .before .before .before .args .b)) (λ i. omega (arith, c .before .before .before .before .shared-slice-known .given i)) (c .before .before .before .before .before .pre) (c .word-at2 .result) (sym (c .before .before .before .byte-at .ensures) ∙ c .before .if2 .taken) (c .word-at2 .ensures)
 
--- src/lib.rt:144:1
 returns-3 : tie.Need-returns-3
 returns-3 c = term-other (now (c .before .before .before .before .args .b)) (λ i. omega (arith, c .before .before .before .shared-slice-known .given i)) (c .before .before .before .before .pre) (λ q. c .before .if1 .left (c .before .before .byte-at .ensures ∙ q)) (λ q. c .if2 .left (c .before .before .byte-at .ensures ∙ q))
 
 pub term-in-spec : {M : Type 1} → statement M
 term-in-spec =
     tie.close
-    (tie.spec byte-at-requires word-at-requires returns word-at-requires-2 returns-2 returns-3)
+    (tie.spec (λ c κs. search needs) (λ c κs. search needs) returns (λ c κs. search needs) returns-2 returns-3)

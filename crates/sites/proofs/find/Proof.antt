@@ -6,21 +6,12 @@ use Rattle.sites.proofs.Places.{find-here, find-none}
 use borrow.Author.Needs.{needs}
 use Rattle.sites.proofs.find.Statement.{statement}
 use Rattle.sites.proofs.find.Tie as tie
-use Rattle.sites.proofs.find.Reads as reads
-use Rattle.sites.proofs.find.Lts as lts
-use Rattle.site_slots.proofs.find.Reads as find-reads
 
--- src/lib.rt:323:9
-find-requires : tie.Need-find-requires
-find-requires c κs = search needs
-
--- src/lib.rt:325:9
 returns : tie.Need-returns
 returns c = ap found-as (sym (find-here (now (c .before .before .before .before .args .m)) (now (c .before .before .before .before .args .b)) (λ i. omega (arith, c .before .before .before .shared-slice-known .given i)) (λ i. omega (arith, c .before .before .shared-slice-known2 .given i)) (c .before .before .before .before .pre) (c .before .before .before .before .args .count) (c .before .find .result) (c .before .find .ensures) (c .if1 .taken)))
 
--- src/lib.rt:319:1
 returns-2 : tie.Need-returns-2
 returns-2 c = ap found-as (sym (find-none (now (c .before .before .before .before .args .m)) (now (c .before .before .before .before .args .b)) (λ i. omega (arith, c .before .before .before .shared-slice-known .given i)) (λ i. omega (arith, c .before .before .shared-slice-known2 .given i)) (c .before .before .before .before .pre) (c .before .before .before .before .args .count) (c .before .find .result) (c .before .find .ensures) (c .if1 .left)))
 
 pub find-spec : {M : Type 1} → statement M
-find-spec = tie.close (tie.spec find-requires returns returns-2)
+find-spec = tie.close (tie.spec (λ c κs. search needs) returns returns-2)

@@ -6,26 +6,8 @@ use borrow.Author.Needs.{needs}
 use Rattle.tell_reply.proofs.put_bool.Statement.{statement}
 use Rattle.tell_reply.proofs.put_bool.Tie as tie
 
-slice-aggregate-put-text : tie.Need-slice-aggregate-put-text
-slice-aggregate-put-text c = search needs
-
-put-text-requires : tie.Need-put-text-requires
-put-text-requires c κs = search needs
-
-same-length : tie.Need-same-length
-same-length c = search needs
-
 returns : tie.Need-returns
 returns c = told _ _ _ _ (ap bool-text (sym (c .before .before .before .before .before .if1 .taken))) (c .before .before .put-text .ensures)
-
-slice-aggregate-put-text-2 : tie.Need-slice-aggregate-put-text-2
-slice-aggregate-put-text-2 c = search needs
-
-put-text-requires-2 : tie.Need-put-text-requires-2
-put-text-requires-2 c κs = search needs
-
-same-length-2 : tie.Need-same-length-2
-same-length-2 c = search needs
 
 returns-2 : tie.Need-returns-2
 returns-2 c = told _ _ _ _ (ap bool-text (sym (c .before .before .before .before .before .if1 .left))) (c .before .before .put-text2 .ensures)
@@ -34,11 +16,11 @@ pub put-bool-spec : {M : Type 1} → statement M
 put-bool-spec =
     tie.close
     (tie.spec
-    slice-aggregate-put-text
-    put-text-requires
-    same-length
+    (λ c. search needs)
+    (λ c κs. search needs)
+    (λ c. search needs)
     returns
-    slice-aggregate-put-text-2
-    put-text-requires-2
-    same-length-2
+    (λ c. search needs)
+    (λ c κs. search needs)
+    (λ c. search needs)
     returns-2)

@@ -6,23 +6,8 @@ use borrow.Author.Needs.{needs}
 use Rattle.tell_reply.proofs.put_member.Statement.{statement}
 use Rattle.tell_reply.proofs.put_member.Tie as tie
 
-put-decimal-requires : tie.Need-put-decimal-requires
-put-decimal-requires c κs = search needs
-
-same-length : tie.Need-same-length
-same-length c = search needs
-
 returns : tie.Need-returns
 returns c = told _ _ _ _ (sym (member-first _ _ (c .before .before .before .before .if1 .taken))) (c .before .before .put-decimal .ensures)
-
-put-requires : tie.Need-put-requires
-put-requires c κs = search needs
-
-put-decimal-requires-2 : tie.Need-put-decimal-requires-2
-put-decimal-requires-2 c κs = search needs
-
-same-length-2 : tie.Need-same-length-2
-same-length-2 c = search needs
 
 returns-2 : tie.Need-returns-2
 returns-2 c = told _ _ _ _ (sym (member-next _ _ (c .before .before .before .before .before .before .before .before .if1 .left))) (follows _ _ _ _ _ (c .before .before .before .before .before .before .put .ensures) (c .before .before .put-decimal2 .ensures))
@@ -31,10 +16,10 @@ pub put-member-spec : {M : Type 1} → statement M
 put-member-spec =
     tie.close
     (tie.spec
-    put-decimal-requires
-    same-length
+    (λ c κs. search needs)
+    (λ c. search needs)
     returns
-    put-requires
-    put-decimal-requires-2
-    same-length-2
+    (λ c κs. search needs)
+    (λ c κs. search needs)
+    (λ c. search needs)
     returns-2)

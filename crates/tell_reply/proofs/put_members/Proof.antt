@@ -16,35 +16,11 @@ Inv-loop out₀ n members k m₀ i₀ out m i = (i ≤ length members) × (i ≤
 abbrev μ-loop : tie.MeasureT-loop
 μ-loop out₀ n members k m₀ i₀ out m i = length members - i
 
-loop-holds : tie.Need-loop-holds Inv-loop μ-loop
-loop-holds c = (omega arith, omega arith, refl, members-none _ _)
-
-same-length : tie.Need-same-length Inv-loop μ-loop
-same-length c = c .before .before .loop .inv .2
-
 returns : tie.Need-returns Inv-loop μ-loop
 returns c = members-all _ _ _ _ _ (c .before .before .loop .inv .3) (let a = c .before .before .loop .inv .0 in let b = c .before .before .loop .inv .1 in let d = c .if1 .taken in omega arith)
 
-mul-put-member : tie.Need-mul-put-member Inv-loop μ-loop
-mul-put-member c = omega (arith, c .before .before .loop-test .taken)
-
-shared-slice-read-put-member : tie.Need-shared-slice-read-put-member Inv-loop μ-loop
-shared-slice-read-put-member c = omega (arith, c .before .before .before .loop-test .taken)
-
-put-member-requires : tie.Need-put-member-requires Inv-loop μ-loop
-put-member-requires c κs = search needs
-
-add-i : tie.Need-add-i Inv-loop μ-loop
-add-i c = omega (arith, c .before .before .before .before .before .before .loop-test .taken)
-
-loop-less : tie.Need-loop-less Inv-loop μ-loop
-loop-less c = omega (arith, c .before .before .before .before .before .before .loop-test .taken)
-
 loop-again : tie.Need-loop-again Inv-loop μ-loop
 loop-again c = ((let t = c .before .before .before .before .before .before .loop-test .taken in omega arith), (let d = c .before .before .before .before .before .if1 .left in omega arith), (let e = c .before .out .given in let f = c .before .before .before .before .before .before .before .loop .inv .2 in omega arith), members-more _ _ _ _ _ (c .before .before .before .before .before .before .before .loop .inv .3) (c .before .before .put-member .ensures))
-
-same-length-2 : tie.Need-same-length-2 Inv-loop μ-loop
-same-length-2 c = c .before .loop .inv .2
 
 returns-2 : tie.Need-returns-2 Inv-loop μ-loop
 returns-2 c = members-all _ _ _ _ _ (c .before .loop .inv .3) (let a = c .before .loop .inv .0 in let b = c .before .loop .inv .1 in let d = c .loop-test .left in omega arith)
@@ -55,14 +31,14 @@ put-members-spec =
     (tie.spec
     Inv-loop
     μ-loop
-    loop-holds
-    same-length
+    (λ c. (omega arith, omega arith, refl, members-none _ _))
+    (λ c. c .before .before .loop .inv .2)
     returns
-    mul-put-member
-    shared-slice-read-put-member
-    put-member-requires
-    add-i
-    loop-less
+    (λ c. omega (arith, c .before .before .loop-test .taken))
+    (λ c. omega (arith, c .before .before .before .loop-test .taken))
+    (λ c κs. search needs)
+    (λ c. omega (arith, c .before .before .before .before .before .before .loop-test .taken))
+    (λ c. omega (arith, c .before .before .before .before .before .before .loop-test .taken))
     loop-again
-    same-length-2
+    (λ c. c .before .loop .inv .2)
     returns-2)

@@ -6,26 +6,8 @@ use borrow.Author.Needs.{needs}
 use Rattle.tell_reply.proofs.put_sought.Statement.{statement}
 use Rattle.tell_reply.proofs.put_sought.Tie as tie
 
-enum-known-s : tie.Need-enum-known-s
-enum-known-s c = search needs
-
-put-found-requires : tie.Need-put-found-requires
-put-found-requires c κs = search needs
-
-enum-known-s-2 : tie.Need-enum-known-s-2
-enum-known-s-2 c = search needs
-
-put-refusal-requires : tie.Need-put-refusal-requires
-put-refusal-requires c κs = search needs
-
-same-length : tie.Need-same-length
-same-length c = search needs
-
 returns : tie.Need-returns
 returns c = told _ _ _ _ (ap sought-text (sym (c .before .before .before .before .before .s .given .1))) (c .before .before .put-found .ensures)
-
-same-length-2 : tie.Need-same-length-2
-same-length-2 c = search needs
 
 returns-2 : tie.Need-returns-2
 returns-2 c = told _ _ _ _ (ap sought-text (sym (c .before .before .before .before .before .s2 .given .1))) (c .before .before .put-refusal .ensures)
@@ -34,11 +16,11 @@ pub put-sought-spec : {M : Type 1} → statement M
 put-sought-spec =
     tie.close
     (tie.spec
-    enum-known-s
-    put-found-requires
-    enum-known-s-2
-    put-refusal-requires
-    same-length
+    (λ c. search needs)
+    (λ c κs. search needs)
+    (λ c. search needs)
+    (λ c κs. search needs)
+    (λ c. search needs)
     returns
-    same-length-2
+    (λ c. search needs)
     returns-2)

@@ -22,43 +22,6 @@ abbrev put-decimal-below : ℕ → In 1 put-decimal-kinds.ps
 put-decimal-below t =
     and 1 put-decimal-kinds.ps (falls 1 put-decimal-kinds.ps _<_ μ-put-decimal t) put-decimal.Pre
 
--- src/lib.rt:34:22
-put-decimal-cast-digit : (t : ℕ) → put-decimal-lts.Need-cast-digit (
-  put-reads.Asked,
-  put-reads.Learnt,
-  put-decimal-below t,
-  put-decimal.Post,
-) (put-decimal-at t) put-decimal.Post
-put-decimal-cast-digit t c = search needs
-
--- src/lib.rt:34:17
-put-decimal-add-digit : (t : ℕ) → put-decimal-lts.Need-add-digit (
-  put-reads.Asked,
-  put-reads.Learnt,
-  put-decimal-below t,
-  put-decimal.Post,
-) (put-decimal-at t) put-decimal.Post
-put-decimal-add-digit t c = search needs
-
--- src/lib.rt:36:9
-put-decimal-put-requires : (t : ℕ) → put-decimal-lts.Need-put-requires (
-  put-reads.Asked,
-  put-reads.Learnt,
-  put-decimal-below t,
-  put-decimal.Post,
-) (put-decimal-at t) put-decimal.Post
-put-decimal-put-requires t c κs = search needs
-
--- src/lib.rt:36:9
-put-decimal-same-length : (t : ℕ) → put-decimal-lts.Need-same-length (
-  put-reads.Asked,
-  put-reads.Learnt,
-  put-decimal-below t,
-  put-decimal.Post,
-) (put-decimal-at t) put-decimal.Post
-put-decimal-same-length t c = search needs
-
--- src/lib.rt:36:9
 put-decimal-returns : (t : ℕ) → put-decimal-lts.Need-returns (
   put-reads.Asked,
   put-reads.Learnt,
@@ -67,7 +30,6 @@ put-decimal-returns : (t : ℕ) → put-decimal-lts.Need-returns (
 ) (put-decimal-at t) put-decimal.Post
 put-decimal-returns t c = last-digit _ _ _ (c .before .before .before .before .if1 .taken) (c .before .before .put .ensures)
 
--- src/lib.rt:38:9
 put-decimal-put-decimal-requires : (t : ℕ) → put-decimal-lts.Need-put-decimal-requires (
   put-reads.Asked,
   put-reads.Learnt,
@@ -76,25 +38,6 @@ put-decimal-put-decimal-requires : (t : ℕ) → put-decimal-lts.Need-put-decima
 ) (put-decimal-at t) put-decimal.Post
 put-decimal-put-decimal-requires t c κs = (omega (arith, c .before .before .before .pre .0), tt)
 
--- src/lib.rt:39:5
-put-decimal-put-requires-2 : (t : ℕ) → put-decimal-lts.Need-put-requires-2 (
-  put-reads.Asked,
-  put-reads.Learnt,
-  put-decimal-below t,
-  put-decimal.Post,
-) (put-decimal-at t) put-decimal.Post
-put-decimal-put-requires-2 t c κs = search needs
-
--- src/lib.rt:31:1
-put-decimal-same-length-2 : (t : ℕ) → put-decimal-lts.Need-same-length-2 (
-  put-reads.Asked,
-  put-reads.Learnt,
-  put-decimal-below t,
-  put-decimal.Post,
-) (put-decimal-at t) put-decimal.Post
-put-decimal-same-length-2 t c = search needs
-
--- src/lib.rt:31:1
 put-decimal-returns-2 : (t : ℕ) → put-decimal-lts.Need-returns-2 (
   put-reads.Asked,
   put-reads.Learnt,
@@ -112,12 +55,12 @@ pub +put-decimal-spec : {M : Type 1} → statement M
 )
     (put-decimal-at t)
     put-decimal.Post
-    (put-decimal-cast-digit t)
-    (put-decimal-add-digit t)
-    (put-decimal-put-requires t)
-    (put-decimal-same-length t)
+    (λ c. search needs)
+    (λ c. search needs)
+    (λ c κs. search needs)
+    (λ c. search needs)
     (put-decimal-returns t)
     (put-decimal-put-decimal-requires t)
-    (put-decimal-put-requires-2 t)
-    (put-decimal-same-length-2 t)
+    (λ c κs. search needs)
+    (λ c. search needs)
     (put-decimal-returns-2 t)

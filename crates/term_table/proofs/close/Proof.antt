@@ -18,18 +18,6 @@ loop-holds : tie.Need-loop-holds Inv-loop μ-loop
 unfolding reach-to
 loop-holds c = (omega arith, refl)
 
-mul-through : tie.Need-mul-through Inv-loop μ-loop
-mul-through c = omega arith
-
-through-requires : tie.Need-through-requires Inv-loop μ-loop
-through-requires c κs = omega arith
-
-add-h : tie.Need-add-h Inv-loop μ-loop
-add-h c = omega arith
-
-loop-less : tie.Need-loop-less Inv-loop μ-loop
-loop-less c = omega arith
-
 loop-again : tie.Need-loop-again Inv-loop μ-loop
 loop-again c = (omega arith, reach-turn _ _ _ _ (c .before .before .before .loop .inv .1) (c .through .ensures))
 
@@ -43,9 +31,9 @@ close-spec =
     Inv-loop
     μ-loop
     loop-holds
-    mul-through
-    through-requires
-    add-h
-    loop-less
+    (λ c. omega arith)
+    (λ c κs. omega arith)
+    (λ c. omega arith)
+    (λ c. omega arith)
     loop-again
     returns)

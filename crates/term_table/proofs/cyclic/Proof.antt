@@ -5,17 +5,8 @@ use Rattle.term_table.proofs.Closing.{diagonal}
 use Rattle.term_table.proofs.cyclic.Statement.{statement}
 use Rattle.term_table.proofs.cyclic.Tie as tie
 
-returns : tie.Need-returns
-returns c = cyclic-over _ _ (c .if1 .taken)
-
-close-requires : tie.Need-close-requires
-close-requires c κs = search needs
-
-has-requires : tie.Need-has-requires
-has-requires c κs = search needs
-
 returns-2 : tie.Need-returns-2
 returns-2 c = cyclic-told _ _ (search needs) (c .has .ensures ∙ diagonal _ _ _ (c .before .before .close .ensures) (search needs))
 
 pub cyclic-spec : {M : Type 1} → statement M
-cyclic-spec = tie.close (tie.spec returns close-requires has-requires returns-2)
+cyclic-spec = tie.close (tie.spec (λ c. cyclic-over _ _ (c .if1 .taken)) (λ c κs. search needs) (λ c κs. search needs) returns-2)

@@ -5,15 +5,9 @@ use Rattle.term_table.proofs.Answers.{cyclic-listed}
 use Rattle.term_table.proofs.cyclic_terms.Statement.{statement}
 use Rattle.term_table.proofs.cyclic_terms.Tie as tie
 
-close-requires : tie.Need-close-requires
-close-requires c κs = search needs
-
-list-requires : tie.Need-list-requires
-list-requires c κs = search needs
-
 returns : tie.Need-returns
 unfolding no-marks
 returns c = c .list .ensures ∙ ap listed (cyclic-listed _ _ (c .before .before .before .close .ensures))
 
 pub cyclic-terms-spec : {M : Type 1} → statement M
-cyclic-terms-spec = tie.close (tie.spec close-requires list-requires returns)
+cyclic-terms-spec = tie.close (tie.spec (λ c κs. search needs) (λ c κs. search needs) returns)

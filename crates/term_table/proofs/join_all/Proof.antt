@@ -17,22 +17,10 @@ loop-holds : tie.Need-loop-holds Inv-loop μ-loop
 unfolding join-to
 loop-holds c = (omega arith, refl)
 
-join-by-requires : tie.Need-join-by-requires Inv-loop μ-loop
-join-by-requires c κs = omega arith
-
-add-i : tie.Need-add-i Inv-loop μ-loop
-add-i c = omega arith
-
-loop-less : tie.Need-loop-less Inv-loop μ-loop
-loop-less c = omega arith
-
 loop-again : tie.Need-loop-again Inv-loop μ-loop
 loop-again c = (omega arith, join-turn _ _ _ _ _ _ _ _ (c .before .before .before .loop .inv .1) (c .join-by .ensures))
-
-returns : tie.Need-returns Inv-loop μ-loop
-returns c = let l = c .before .loop in let e : l .i ≡ terms = omega arith in rw e at (l .inv .1)
 
 pub join-all-spec : {M : Type 1} → statement M
 join-all-spec =
     tie.close
-    (tie.spec Inv-loop μ-loop loop-holds join-by-requires add-i loop-less loop-again returns)
+    (tie.spec Inv-loop μ-loop loop-holds (λ c κs. omega arith) (λ c. omega arith) (λ c. omega arith) loop-again (λ c. let l = c .before .loop in let e : l .i ≡ terms = omega arith in rw e at (l .inv .1)))

@@ -4,30 +4,6 @@ use Rattle.term_table.proofs.Turns.{by-none, by-one, by-other, by-two}
 use Rattle.term_table.proofs.join_by.Statement.{statement}
 use Rattle.term_table.proofs.join_by.Tie as tie
 
-has-requires : tie.Need-has-requires
-has-requires c κs = search needs
-
-add-has : tie.Need-add-has
-add-has c = search needs
-
-has-requires-2 : tie.Need-has-requires-2
-has-requires-2 c κs = search needs
-
-join-requires : tie.Need-join-requires
-join-requires c κs = search needs
-
-join-requires-2 : tie.Need-join-requires-2
-join-requires-2 c κs = search needs
-
-add-has-2 : tie.Need-add-has-2
-add-has-2 c = search needs
-
-has-requires-3 : tie.Need-has-requires-3
-has-requires-3 c κs = search needs
-
-join-requires-3 : tie.Need-join-requires-3
-join-requires-3 c κs = search needs
-
 returns : tie.Need-returns
 returns c = by-two _ _ _ _ _ _ (sym (c .before .before .before .before .before .before .has .ensures) ∙ c .before .before .before .before .before .if1 .taken) (sym (c .before .before .before .has2 .ensures) ∙ c .before .before .if2 .taken) (c .join .ensures)
 
@@ -44,14 +20,14 @@ pub join-by-spec : {M : Type 1} → statement M
 join-by-spec =
     tie.close
     (tie.spec
-    has-requires
-    add-has
-    has-requires-2
-    join-requires
-    join-requires-2
-    add-has-2
-    has-requires-3
-    join-requires-3
+    (λ c κs. search needs)
+    (λ c. search needs)
+    (λ c κs. search needs)
+    (λ c κs. search needs)
+    (λ c κs. search needs)
+    (λ c. search needs)
+    (λ c κs. search needs)
+    (λ c κs. search needs)
     returns
     returns-2
     returns-3

@@ -5,18 +5,6 @@ use Rattle.box_answers.specs.Border.{added-said}
 use Rattle.box_answers.proofs.calls.added_said.Statement.{statement}
 use Rattle.box_answers.proofs.calls.added_said.Tie as tie
 
-enum-told : tie.Need-enum-told
-enum-told c = search needs
-
-done-requires : tie.Need-done-requires
-done-requires c κs = search needs
-
-enum-known-a : tie.Need-enum-known-a
-enum-known-a c = search needs
-
-refused-requires : tie.Need-refused-requires
-refused-requires c κs = search needs
-
 returns : tie.Need-returns
 unfolding added-said
 returns c = c .done .ensures ∙ sym (ap added-said (c .before .enum-told .given .1))
@@ -27,4 +15,4 @@ returns-2 c = c .refused .ensures ∙ sym (ap added-said (c .before .before .a .
 
 pub added-said-spec : {M : Type 1} → statement M
 added-said-spec =
-    tie.close (tie.spec enum-told done-requires enum-known-a refused-requires returns returns-2)
+    tie.close (tie.spec (λ c. search needs) (λ c κs. search needs) (λ c. search needs) (λ c κs. search needs) returns returns-2)

@@ -6,21 +6,6 @@ use Rattle.box_answers.proofs.Crossing.{done-as}
 use Rattle.box_answers.proofs.calls.joined_said.Statement.{statement}
 use Rattle.box_answers.proofs.calls.joined_said.Tie as tie
 
-enum-known-j : tie.Need-enum-known-j
-enum-known-j c = search needs
-
-bit-requires : tie.Need-bit-requires
-bit-requires c κs = search needs
-
-done-requires : tie.Need-done-requires
-done-requires c κs = search needs
-
-enum-known-j-2 : tie.Need-enum-known-j-2
-enum-known-j-2 c = search needs
-
-refused-requires : tie.Need-refused-requires
-refused-requires c κs = search needs
-
 returns : tie.Need-returns
 unfolding joined-said
 returns c = done-as _ _ _ _ _ (c .done .ensures) (c .before .bit .ensures) refl ∙ sym (ap joined-said (c .before .before .before .j .given .1))
@@ -33,10 +18,10 @@ pub joined-said-spec : {M : Type 1} → statement M
 joined-said-spec =
     tie.close
     (tie.spec
-    enum-known-j
-    bit-requires
-    done-requires
-    enum-known-j-2
-    refused-requires
+    (λ c. search needs)
+    (λ c κs. search needs)
+    (λ c κs. search needs)
+    (λ c. search needs)
+    (λ c κs. search needs)
     returns
     returns-2)

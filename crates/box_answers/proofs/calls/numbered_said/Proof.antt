@@ -6,30 +6,6 @@ use Rattle.box_answers.proofs.Crossing.{done-as}
 use Rattle.box_answers.proofs.calls.numbered_said.Statement.{statement}
 use Rattle.box_answers.proofs.calls.numbered_said.Tie as tie
 
-enum-known-n : tie.Need-enum-known-n
-enum-known-n c = search needs
-
-word16-requires : tie.Need-word16-requires
-word16-requires c κs = search needs
-
-done-requires : tie.Need-done-requires
-done-requires c κs = search needs
-
-enum-known-n-2 : tie.Need-enum-known-n-2
-enum-known-n-2 c = search needs
-
-word16-requires-2 : tie.Need-word16-requires-2
-word16-requires-2 c κs = search needs
-
-done-requires-2 : tie.Need-done-requires-2
-done-requires-2 c κs = search needs
-
-enum-known-n-3 : tie.Need-enum-known-n-3
-enum-known-n-3 c = search needs
-
-refused-requires : tie.Need-refused-requires
-refused-requires c κs = search needs
-
 returns : tie.Need-returns
 unfolding numbered-said
 returns c = done-as _ _ _ _ _ (c .done .ensures) (c .before .word16 .ensures) refl ∙ sym (ap numbered-said (c .before .before .before .n .given .1))
@@ -46,14 +22,14 @@ pub numbered-said-spec : {M : Type 1} → statement M
 numbered-said-spec =
     tie.close
     (tie.spec
-    enum-known-n
-    word16-requires
-    done-requires
-    enum-known-n-2
-    word16-requires-2
-    done-requires-2
-    enum-known-n-3
-    refused-requires
+    (λ c. search needs)
+    (λ c κs. search needs)
+    (λ c κs. search needs)
+    (λ c. search needs)
+    (λ c κs. search needs)
+    (λ c κs. search needs)
+    (λ c. search needs)
+    (λ c κs. search needs)
     returns
     returns-2
     returns-3)

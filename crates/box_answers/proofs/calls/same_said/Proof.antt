@@ -6,21 +6,6 @@ use Rattle.box_answers.proofs.Crossing.{done-as}
 use Rattle.box_answers.proofs.calls.same_said.Statement.{statement}
 use Rattle.box_answers.proofs.calls.same_said.Tie as tie
 
-enum-known-e : tie.Need-enum-known-e
-enum-known-e c = search needs
-
-bit-requires : tie.Need-bit-requires
-bit-requires c κs = search needs
-
-done-requires : tie.Need-done-requires
-done-requires c κs = search needs
-
-enum-known-e-2 : tie.Need-enum-known-e-2
-enum-known-e-2 c = search needs
-
-refused-requires : tie.Need-refused-requires
-refused-requires c κs = search needs
-
 returns : tie.Need-returns
 unfolding same-said
 returns c = done-as _ _ _ _ _ (c .done .ensures) (c .before .bit .ensures) refl ∙ sym (ap same-said (c .before .before .before .e .given .1))
@@ -33,10 +18,10 @@ pub same-said-spec : {M : Type 1} → statement M
 same-said-spec =
     tie.close
     (tie.spec
-    enum-known-e
-    bit-requires
-    done-requires
-    enum-known-e-2
-    refused-requires
+    (λ c. search needs)
+    (λ c κs. search needs)
+    (λ c κs. search needs)
+    (λ c. search needs)
+    (λ c κs. search needs)
     returns
     returns-2)

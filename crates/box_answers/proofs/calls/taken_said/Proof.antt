@@ -5,18 +5,6 @@ use Rattle.box_answers.specs.Border.{taken-said}
 use Rattle.box_answers.proofs.calls.taken_said.Statement.{statement}
 use Rattle.box_answers.proofs.calls.taken_said.Tie as tie
 
-enum-known-t : tie.Need-enum-known-t
-enum-known-t c = search needs
-
-done-requires : tie.Need-done-requires
-done-requires c κs = search needs
-
-enum-known-t-2 : tie.Need-enum-known-t-2
-enum-known-t-2 c = search needs
-
-refused-requires : tie.Need-refused-requires
-refused-requires c κs = search needs
-
 returns : tie.Need-returns
 unfolding taken-said
 returns c = c .done .ensures ∙ sym (ap taken-said (c .before .before .t .given .1))
@@ -28,4 +16,4 @@ returns-2 c = c .refused .ensures ∙ sym (ap taken-said (c .before .before .t2 
 pub taken-said-spec : {M : Type 1} → statement M
 taken-said-spec =
     tie.close
-    (tie.spec enum-known-t done-requires enum-known-t-2 refused-requires returns returns-2)
+    (tie.spec (λ c. search needs) (λ c κs. search needs) (λ c. search needs) (λ c κs. search needs) returns returns-2)

@@ -5,18 +5,6 @@ use Rattle.box_answers.specs.Border.{unfolded-said}
 use Rattle.box_answers.proofs.calls.unfolded_said.Statement.{statement}
 use Rattle.box_answers.proofs.calls.unfolded_said.Tie as tie
 
-enum-known-u : tie.Need-enum-known-u
-enum-known-u c = search needs
-
-done-requires : tie.Need-done-requires
-done-requires c κs = search needs
-
-enum-known-u-2 : tie.Need-enum-known-u-2
-enum-known-u-2 c = search needs
-
-refused-requires : tie.Need-refused-requires
-refused-requires c κs = search needs
-
 returns : tie.Need-returns
 unfolding unfolded-said
 returns c = c .done .ensures ∙ sym (ap unfolded-said (c .before .before .u .given .1))
@@ -28,4 +16,4 @@ returns-2 c = c .refused .ensures ∙ sym (ap unfolded-said (c .before .before .
 pub unfolded-said-spec : {M : Type 1} → statement M
 unfolded-said-spec =
     tie.close
-    (tie.spec enum-known-u done-requires enum-known-u-2 refused-requires returns returns-2)
+    (tie.spec (λ c. search needs) (λ c κs. search needs) (λ c. search needs) (λ c κs. search needs) returns returns-2)

@@ -6,21 +6,9 @@ use Rattle.box_answers.proofs.Crossing.{via, looked-is}
 use Rattle.lintelbox.proofs.joins.lintel_find.Statement.{statement}
 use Rattle.lintelbox.proofs.joins.lintel_find.Tie as tie
 
-find-in-requires : tie.Need-find-in-requires
-find-in-requires c κs = search needs
-
-looked-said-requires : tie.Need-looked-said-requires
-looked-said-requires c κs = search needs
-
-say-requires : tie.Need-say-requires
-say-requires c κs = search needs
-
-same-length : tie.Need-same-length
-same-length c = search needs
-
 returns : tie.Need-returns
 returns c = λ R n. via _ _ _ _ _ (c .before .before .say .ensures) (c .before .before .before .looked-said .ensures ∙ ap looked-said (c .before .before .before .before .before .find-in .ensures R n) ∙ looked-is _)
 
 pub lintel-find-spec : {M : Type 1} → statement M
 lintel-find-spec =
-    tie.close (tie.spec find-in-requires looked-said-requires say-requires same-length returns)
+    tie.close (tie.spec (λ c κs. search needs) (λ c κs. search needs) (λ c κs. search needs) (λ c. search needs) returns)

@@ -6,22 +6,10 @@ use Rattle.box_answers.proofs.Crossing.{via, same-is}
 use Rattle.lintelbox.proofs.joins.lintel_in_same_set.Statement.{statement}
 use Rattle.lintelbox.proofs.joins.lintel_in_same_set.Tie as tie
 
-in-same-set-in-requires : tie.Need-in-same-set-in-requires
-in-same-set-in-requires c κs = search needs
-
-same-said-requires : tie.Need-same-said-requires
-same-said-requires c κs = search needs
-
-say-requires : tie.Need-say-requires
-say-requires c κs = search needs
-
-same-length : tie.Need-same-length
-same-length c = search needs
-
 returns : tie.Need-returns
 returns c = λ R n. via _ _ _ _ _ (c .before .before .say .ensures) (c .before .before .before .same-said .ensures ∙ ap same-said (c .before .before .before .before .before .in-same-set-in .ensures R n) ∙ same-is _)
 
 pub lintel-in-same-set-spec : {M : Type 1} → statement M
 lintel-in-same-set-spec =
     tie.close
-    (tie.spec in-same-set-in-requires same-said-requires say-requires same-length returns)
+    (tie.spec (λ c κs. search needs) (λ c κs. search needs) (λ c κs. search needs) (λ c. search needs) returns)

@@ -3,11 +3,5 @@ use Rattle.box_answers.proofs.Crossing.{empty-is, not-empty-is}
 use Rattle.lintelbox.proofs.joins.lintel_is_empty.Statement.{statement}
 use Rattle.lintelbox.proofs.joins.lintel_is_empty.Tie as tie
 
-returns : tie.Need-returns
-returns c = λ P R. empty-is _ _ _ (c .if1 .taken)
-
-returns-2 : tie.Need-returns-2
-returns-2 c = λ P R. not-empty-is _ _ _ (c .if1 .left)
-
 pub lintel-is-empty-spec : {M : Type 1} → statement M
-lintel-is-empty-spec = tie.close (tie.spec returns returns-2)
+lintel-is-empty-spec = tie.close (tie.spec (λ c. λ P R. empty-is _ _ _ (c .if1 .taken)) (λ c. λ P R. not-empty-is _ _ _ (c .if1 .left)))

@@ -5,25 +5,10 @@ use Rattle.box_answers.proofs.Crossing.{too-short, stayed, went, less, enough, 
 use Rattle.lintelbox.proofs.joins.lintel_merge.Statement.{statement}
 use Rattle.lintelbox.proofs.joins.lintel_merge.Tie as tie
 
-returns : tie.Need-returns
-returns c = (too-short _ _ _ (less _ _ (c .if1 .taken)), stayed _ _ _ (less _ _ (c .if1 .taken)))
-
-merge-in-requires : tie.Need-merge-in-requires
-merge-in-requires c κs = search needs
-
-joined-said-requires : tie.Need-joined-said-requires
-joined-said-requires c κs = search needs
-
-say-requires : tie.Need-say-requires
-say-requires c κs = search needs
-
-same-length : tie.Need-same-length
-same-length c = search needs
-
 returns-2 : tie.Need-returns-2
 returns-2 c = (via _ _ _ _ _ (c .before .before .say .ensures) (c .before .before .before .joined-said .ensures ∙ merged-is _ _ _ _ _ (c .before .before .before .before .before .merge-in .ensures) .0), went _ _ _ _ (enough _ _ (c .before .before .before .before .before .before .before .before .before .if1 .left)) (merged-is _ _ _ _ _ (c .before .before .before .before .before .merge-in .ensures) .1))
 
 pub lintel-merge-spec : {M : Type 1} → statement M
 lintel-merge-spec =
     tie.close
-    (tie.spec returns merge-in-requires joined-said-requires say-requires same-length returns-2)
+    (tie.spec (λ c. (too-short _ _ _ (less _ _ (c .if1 .taken)), stayed _ _ _ (less _ _ (c .if1 .taken)))) (λ c κs. search needs) (λ c κs. search needs) (λ c κs. search needs) (λ c. search needs) returns-2)

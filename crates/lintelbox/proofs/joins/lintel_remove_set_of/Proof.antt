@@ -12,21 +12,6 @@ returns c = ((λ R. too-short _ _ _ (first-no _ _ (less _ _ (c .if1 .taken)))), 
 returns-2 : tie.Need-returns-2
 returns-2 c = ((λ R. too-short _ _ _ (second-no _ _ (enough _ _ (c .before .if1 .left)) (less _ _ (c .if2 .taken)))), ((λ R. stayed _ _ _ (second-no _ _ (enough _ _ (c .before .if1 .left)) (less _ _ (c .if2 .taken)))), (λ R. stayed _ _ _ (second-no _ _ (enough _ _ (c .before .if1 .left)) (less _ _ (c .if2 .taken))))))
 
-remove-set-of-in-requires : tie.Need-remove-set-of-in-requires
-remove-set-of-in-requires c κs = search needs
-
-taken-said-requires : tie.Need-taken-said-requires
-taken-said-requires c κs = search needs
-
-say-requires : tie.Need-say-requires
-say-requires c κs = search needs
-
-same-length : tie.Need-same-length
-same-length c = search needs
-
-same-length-2 : tie.Need-same-length-2
-same-length-2 c = search needs
-
 returns-3 : tie.Need-returns-3
 returns-3 c = ((λ R. past _ _ _ _ _ (enough _ _ (c .before .before .before .before .before .before .before .before .before .before .before .before .if1 .left)) (via _ _ _ _ _ (c .before .before .say .ensures) (c .before .before .before .taken-said .ensures ∙ all-taken _ _ (now (c .before .before .before .before .before .before .before .before .before .before .before .before .before .before .before .args .members)) _ _ _ (c .before .before .before .before .before .before .before .before .before .before .before .before .if1 .left) (c .before .before .before .before .before .before .before .remove-set-of-in .ensures R) .says))), ((λ R. went _ _ _ _ (both-yes _ _ (enough _ _ (c .before .before .before .before .before .before .before .before .before .before .before .before .if1 .left)) (enough _ _ (c .before .before .before .before .before .before .before .before .before .before .before .if2 .left))) (all-taken _ _ (now (c .before .before .before .before .before .before .before .before .before .before .before .before .before .before .before .args .members)) _ _ _ (c .before .before .before .before .before .before .before .before .before .before .before .before .if1 .left) (c .before .before .before .before .before .before .before .remove-set-of-in .ensures R) .leaves)), (λ R. went _ _ _ _ (both-yes _ _ (enough _ _ (c .before .before .before .before .before .before .before .before .before .before .before .before .if1 .left)) (enough _ _ (c .before .before .before .before .before .before .before .before .before .before .before .if2 .left))) (all-taken _ _ (now (c .before .before .before .before .before .before .before .before .before .before .before .before .before .before .before .args .members)) _ _ _ (c .before .before .before .before .before .before .before .before .before .before .before .before .if1 .left) (c .before .before .before .before .before .before .before .remove-set-of-in .ensures R) .lists))))
 
@@ -36,9 +21,9 @@ lintel-remove-set-of-spec =
     (tie.spec
     returns
     returns-2
-    remove-set-of-in-requires
-    taken-said-requires
-    say-requires
-    same-length
-    same-length-2
+    (λ c κs. search needs)
+    (λ c κs. search needs)
+    (λ c κs. search needs)
+    (λ c. search needs)
+    (λ c. search needs)
     returns-3)

@@ -6,32 +6,11 @@ use Rattle.box_answers.proofs.Crossing.{too-short, stayed, went, less, enough, 
 use Rattle.lintelbox.proofs.loads.lintel_load.Statement.{statement}
 use Rattle.lintelbox.proofs.loads.lintel_load.Tie as tie
 
-mul-if1 : tie.Need-mul-if1
-mul-if1 c = search needs
-
 returns : tie.Need-returns
 returns c = (too-short _ _ _ (first-no _ _ (less _ _ (c .if1 .taken))), (stayed _ _ _ (first-no _ _ (less _ _ (c .if1 .taken))), stayed _ _ _ (first-no _ _ (less _ _ (c .if1 .taken)))))
 
 returns-2 : tie.Need-returns-2
 returns-2 c = (too-short _ _ _ (second-no _ _ (enough _ _ (c .before .if1 .left)) (less _ _ (c .if2 .taken))), (stayed _ _ _ (second-no _ _ (enough _ _ (c .before .if1 .left)) (less _ _ (c .if2 .taken))), stayed _ _ _ (second-no _ _ (enough _ _ (c .before .if1 .left)) (less _ _ (c .if2 .taken)))))
-
-load-handed-requires : tie.Need-load-handed-requires
-load-handed-requires c κs = search needs
-
-loaded-said-requires : tie.Need-loaded-said-requires
-loaded-said-requires c κs = search needs
-
-say-requires : tie.Need-say-requires
-say-requires c κs = search needs
-
-same-length : tie.Need-same-length
-same-length c = search needs
-
-same-length-2 : tie.Need-same-length-2
-same-length-2 c = search needs
-
-same-length-3 : tie.Need-same-length-3
-same-length-3 c = search needs
 
 returns-3 : tie.Need-returns-3
 returns-3 c = (
@@ -46,13 +25,13 @@ pub lintel-load-spec : {M : Type 1} → statement M
 lintel-load-spec =
     tie.close
     (tie.spec
-    mul-if1
+    (λ c. search needs)
     returns
     returns-2
-    load-handed-requires
-    loaded-said-requires
-    say-requires
-    same-length
-    same-length-2
-    same-length-3
+    (λ c κs. search needs)
+    (λ c κs. search needs)
+    (λ c κs. search needs)
+    (λ c. search needs)
+    (λ c. search needs)
+    (λ c. search needs)
     returns-3)

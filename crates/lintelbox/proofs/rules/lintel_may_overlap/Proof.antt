@@ -6,38 +6,11 @@ use Rattle.box_answers.proofs.Crossing.{too-short, no-rule, rule-there, first-n
 use Rattle.lintelbox.proofs.rules.lintel_may_overlap.Statement.{statement}
 use Rattle.lintelbox.proofs.rules.lintel_may_overlap.Tie as tie
 
-start-requires : tie.Need-start-requires
-start-requires c κs = search needs
-
-add-if1 : tie.Need-add-if1
-add-if1 c = search needs
-
 returns : tie.Need-returns
 returns c = too-short _ _ _ (first-no _ _ (no-rule _ _ _ (c .before .start .ensures .0) (c .if1 .taken)))
 
-start-requires-2 : tie.Need-start-requires-2
-start-requires-2 c κs = search needs
-
-add-if2 : tie.Need-add-if2
-add-if2 c = search needs
-
 returns-2 : tie.Need-returns-2
 returns-2 c = too-short _ _ _ (second-no _ _ (rule-there _ _ _ (c .before .before .before .start .ensures .0) (c .before .before .if1 .left)) (first-no _ _ (no-rule _ _ _ (c .before .start2 .ensures .0) (c .if2 .taken))))
-
-may-overlap-requires : tie.Need-may-overlap-requires
-may-overlap-requires c κs = search needs
-
-overlap-word-requires : tie.Need-overlap-word-requires
-overlap-word-requires c κs = search needs
-
-done-requires : tie.Need-done-requires
-done-requires c κs = search needs
-
-say-requires : tie.Need-say-requires
-say-requires c κs = search needs
-
-same-length : tie.Need-same-length
-same-length c = search needs
 
 returns-3 : tie.Need-returns-3
 returns-3 c = past _ _ _ _ _ (rule-there _ _ _ (c .before .before .before .before .before .before .before .before .before .before .start .ensures .0) (c .before .before .before .before .before .before .before .before .before .if1 .left)) (past _ _ _ _ _ (rule-there _ _ _ (c .before .before .before .before .before .before .before .before .start2 .ensures .0) (c .before .before .before .before .before .before .before .if2 .left)) (via _ _ _ _ _ (c .before .before .say .ensures) (done-as _ _ _ _ _ (c .before .before .before .done .ensures) (c .before .before .before .before .overlap-word .ensures ∙ ap overlap-word (c .before .before .before .before .before .before .may-overlap .ensures)) refl)))
@@ -46,15 +19,15 @@ pub lintel-may-overlap-spec : {M : Type 1} → statement M
 lintel-may-overlap-spec =
     tie.close
     (tie.spec
-    start-requires
-    add-if1
+    (λ c κs. search needs)
+    (λ c. search needs)
     returns
-    start-requires-2
-    add-if2
+    (λ c κs. search needs)
+    (λ c. search needs)
     returns-2
-    may-overlap-requires
-    overlap-word-requires
-    done-requires
-    say-requires
-    same-length
+    (λ c κs. search needs)
+    (λ c κs. search needs)
+    (λ c κs. search needs)
+    (λ c κs. search needs)
+    (λ c. search needs)
     returns-3)

@@ -5,26 +5,8 @@ use Rattle.box_answers.proofs.Crossing.{too-short, no-rule, rule-there, first-n
 use Rattle.lintelbox.proofs.rules.lintel_total_constraints.Statement.{statement}
 use Rattle.lintelbox.proofs.rules.lintel_total_constraints.Tie as tie
 
-start-requires : tie.Need-start-requires
-start-requires c κs = search needs
-
-add-if1 : tie.Need-add-if1
-add-if1 c = search needs
-
 returns : tie.Need-returns
 returns c = too-short _ _ _ (first-no _ _ (no-rule _ _ _ (c .before .start .ensures .0) (c .if1 .taken)))
-
-total-constraints-requires : tie.Need-total-constraints-requires
-total-constraints-requires c κs = search needs
-
-done-requires : tie.Need-done-requires
-done-requires c κs = search needs
-
-say-requires : tie.Need-say-requires
-say-requires c κs = search needs
-
-same-length : tie.Need-same-length
-same-length c = search needs
 
 returns-2 : tie.Need-returns-2
 returns-2 c = past _ _ _ _ _ (rule-there _ _ _ (c .before .before .before .before .before .before .before .start .ensures .0) (c .before .before .before .before .before .before .if1 .left)) (via _ _ _ _ _ (c .before .before .say .ensures) (done-as _ _ _ _ _ (c .before .before .before .done .ensures) (c .before .before .before .before .before .total-constraints .ensures) refl))
@@ -33,11 +15,11 @@ pub lintel-total-constraints-spec : {M : Type 1} → statement M
 lintel-total-constraints-spec =
     tie.close
     (tie.spec
-    start-requires
-    add-if1
+    (λ c κs. search needs)
+    (λ c. search needs)
     returns
-    total-constraints-requires
-    done-requires
-    say-requires
-    same-length
+    (λ c κs. search needs)
+    (λ c κs. search needs)
+    (λ c κs. search needs)
+    (λ c. search needs)
     returns-2)

@@ -6,24 +6,6 @@ use Rattle.box_answers.proofs.Crossing.{too-short, stayed, went, less, enough, 
 use Rattle.lintelbox.proofs.tables.lintel_unfold.Statement.{statement}
 use Rattle.lintelbox.proofs.tables.lintel_unfold.Tie as tie
 
-returns : tie.Need-returns
-returns c = (too-short _ _ _ (less _ _ (c .if1 .taken)), stayed _ _ _ (less _ _ (c .if1 .taken)))
-
-unfold-requires : tie.Need-unfold-requires
-unfold-requires c κs = search needs
-
-unfolded-said-requires : tie.Need-unfolded-said-requires
-unfolded-said-requires c κs = search needs
-
-say-requires : tie.Need-say-requires
-say-requires c κs = search needs
-
-same-length : tie.Need-same-length
-same-length c = search needs
-
-same-length-2 : tie.Need-same-length-2
-same-length-2 c = search needs
-
 returns-2 : tie.Need-returns-2
 returns-2 c = (via _ _ _ _ _ (c .before .before .say .ensures) (c .before .before .before .unfolded-said .ensures ∙ ap unfolded-said (c .before .before .before .before .before .before .before .«unfold» .ensures .0) ∙ unfolded-is _), went _ _ _ _ (enough _ _ (c .before .before .before .before .before .before .before .before .before .if1 .left)) (c .before .before .before .before .before .before .before .«unfold» .ensures .1))
 
@@ -31,10 +13,10 @@ pub lintel-unfold-spec : {M : Type 1} → statement M
 lintel-unfold-spec =
     tie.close
     (tie.spec
-    returns
-    unfold-requires
-    unfolded-said-requires
-    say-requires
-    same-length
-    same-length-2
+    (λ c. (too-short _ _ _ (less _ _ (c .if1 .taken)), stayed _ _ _ (less _ _ (c .if1 .taken))))
+    (λ c κs. search needs)
+    (λ c κs. search needs)
+    (λ c κs. search needs)
+    (λ c. search needs)
+    (λ c. search needs)
     returns-2)

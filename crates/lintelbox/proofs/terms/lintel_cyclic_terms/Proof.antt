@@ -16,30 +16,6 @@ returns c = (too-short _ _ _ (first-no _ _ (less _ _ (c .if1 .taken))), stayed _
 returns-2 : tie.Need-returns-2
 returns-2 c = (too-short _ _ _ (second-no _ _ (enough _ _ (c .before .if1 .left)) (less _ _ (c .if2 .taken))), stayed _ _ _ (second-no _ _ (enough _ _ (c .before .if1 .left)) (less _ _ (c .if2 .taken))))
 
-findings-requires : tie.Need-findings-requires
-findings-requires c κs = search needs
-
-slice-aggregate-put-terms : tie.Need-slice-aggregate-put-terms
-slice-aggregate-put-terms c = search needs
-
-put-terms-requires : tie.Need-put-terms-requires
-put-terms-requires c κs = search needs
-
-word16-requires : tie.Need-word16-requires
-word16-requires c κs = search needs
-
-done-requires : tie.Need-done-requires
-done-requires c κs = search needs
-
-say-requires : tie.Need-say-requires
-say-requires c κs = search needs
-
-same-length : tie.Need-same-length
-same-length c = search needs
-
-same-length-2 : tie.Need-same-length-2
-same-length-2 c = search needs
-
 returns-3 : tie.Need-returns-3
 returns-3 c = (past _ _ _ _ _ (enough _ _ (c .before .before .before .before .before .before .before .before .before .before .before .before .before .before .if1 .left)) (via _ _ _ _ _ (c .before .before .say .ensures) (done-as _ _ _ _ _ (c .before .before .before .done .ensures) (c .before .before .before .before .word16 .ensures ∙ ap (λ (l : Listed). l .count) (c .before .before .before .before .before .before .before .before .before .before .before .before .findings .ensures) ∙ listed-count _) refl)), went _ _ _ _ (both-yes _ _ (enough _ _ (c .before .before .before .before .before .before .before .before .before .before .before .before .before .before .if1 .left)) (enough _ _ (c .before .before .before .before .before .before .before .before .before .before .before .before .before .if2 .left))) (c .before .before .before .before .before .before .before .before .put-terms .ensures ∙ ap (λ (l : Listed). l .terms ++ drop terms (now (c .before .before .before .before .before .before .before .before .before .before .before .before .before .before .before .before .before .args .found))) (c .before .before .before .before .before .before .before .before .before .before .before .before .findings .ensures)))
 
@@ -49,12 +25,12 @@ lintel-cyclic-terms-spec =
     (tie.spec
     returns
     returns-2
-    findings-requires
-    slice-aggregate-put-terms
-    put-terms-requires
-    word16-requires
-    done-requires
-    say-requires
-    same-length
-    same-length-2
+    (λ c κs. search needs)
+    (λ c. search needs)
+    (λ c κs. search needs)
+    (λ c κs. search needs)
+    (λ c κs. search needs)
+    (λ c κs. search needs)
+    (λ c. search needs)
+    (λ c. search needs)
     returns-3)

@@ -16,26 +16,8 @@ Inv-loop found₀ all i₀ found i = (i ≤ terms) × (found ≡ paste found₀ 
 abbrev μ-loop : tie.MeasureT-loop
 μ-loop found₀ all i₀ found i = terms - i
 
-loop-holds : tie.Need-loop-holds Inv-loop μ-loop
-loop-holds c = (omega arith, copied-none (now (c .args .found)) (now (c .args .all)))
-
-mul-found : tie.Need-mul-found Inv-loop μ-loop
-mul-found c = search needs
-
-shared-slice-read-found : tie.Need-shared-slice-read-found Inv-loop μ-loop
-shared-slice-read-found c = omega (arith, c .before .before .before .pre .1)
-
-mul-found-2 : tie.Need-mul-found-2 Inv-loop μ-loop
-mul-found-2 c = search needs
-
 slice-write-found : tie.Need-slice-write-found Inv-loop μ-loop
 slice-write-found c = omega (arith, copied-length _ _ _ _ _ (c .before .before .before .pre .0) (c .before .before .before .pre .1) (c .before .before .loop .inv .0) (c .before .before .loop .inv .1), c .before .before .before .pre .0)
-
-add-i : tie.Need-add-i Inv-loop μ-loop
-add-i c = search needs
-
-loop-less : tie.Need-loop-less Inv-loop μ-loop
-loop-less c = search needs
 
 loop-again : tie.Need-loop-again Inv-loop μ-loop
 loop-again c = (omega arith, copied-turn _ _ _ _ _ (c .before .before .before .pre .0) (c .before .before .before .pre .1) (c .before .loop-test .taken) (c .before .before .loop .inv .1))
@@ -52,13 +34,13 @@ put-terms-spec =
     (tie.spec
     Inv-loop
     μ-loop
-    loop-holds
-    mul-found
-    shared-slice-read-found
-    mul-found-2
+    (λ c. (omega arith, copied-none (now (c .args .found)) (now (c .args .all))))
+    (λ c. search needs)
+    (λ c. omega (arith, c .before .before .before .pre .1))
+    (λ c. search needs)
     slice-write-found
-    add-i
-    loop-less
+    (λ c. search needs)
+    (λ c. search needs)
     loop-again
     same-length
     returns)

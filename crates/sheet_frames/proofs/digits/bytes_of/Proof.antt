@@ -6,12 +6,6 @@ use borrow.Author.Needs.{needs}
 use Rattle.sheet_frames.proofs.digits.bytes_of.Statement.{statement}
 use Rattle.sheet_frames.proofs.digits.bytes_of.Tie as tie
 
-take-bytes-requires : tie.Need-take-bytes-requires
-take-bytes-requires c κs = search needs
-
-no-bytes-requires : tie.Need-no-bytes-requires
-no-bytes-requires c κs = search needs
-
 returns : tie.Need-returns
 returns c = bytes-none (now (c .before .before .before .before .before .before .args .line)) _ (c .before .before .before .take-bytes .result) (c .no-bytes .result) (c .before .before .before .take-bytes .ensures) (not-true _ (c .before .if1 .taken)) (c .no-bytes .ensures)
 
@@ -19,4 +13,4 @@ returns-2 : tie.Need-returns-2
 returns-2 c = taken-bytes (now (c .before .before .before .before .before .args .line)) _ (c .before .before .take-bytes .result) (c .before .before .take-bytes .ensures) (not-false _ (c .if1 .left))
 
 pub bytes-of-spec : {M : Type 1} → statement M
-bytes-of-spec = tie.close (tie.spec take-bytes-requires no-bytes-requires returns returns-2)
+bytes-of-spec = tie.close (tie.spec (λ c κs. search needs) (λ c κs. search needs) returns returns-2)

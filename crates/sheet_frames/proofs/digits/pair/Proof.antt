@@ -4,29 +4,11 @@ use borrow.Author.Needs.{needs}
 use Rattle.sheet_frames.proofs.digits.pair.Statement.{statement}
 use Rattle.sheet_frames.proofs.digits.pair.Tie as tie
 
-value-in-requires : tie.Need-value-in-requires
-value-in-requires c κs = search needs
-
-value-in-requires-2 : tie.Need-value-in-requires-2
-value-in-requires-2 c κs = search needs
-
 returns : tie.Need-returns
 returns c = pair-first (c .before .before .before .args .h) (c .before .before .before .args .l) (c .before .before .value-in .result) (c .before .before .value-in .ensures .0) (c .if1 .taken)
 
 returns-2 : tie.Need-returns-2
 returns-2 c = pair-second (c .before .before .before .before .args .h) (c .before .before .before .before .args .l) (c .before .before .before .value-in .result) (c .before .before .value-in2 .result) (c .before .before .before .value-in .ensures .0) (c .before .before .value-in2 .ensures .0) (omega arith) (c .if2 .taken)
-
-cast-result : tie.Need-cast-result
-cast-result c = search needs
-
-mul-result : tie.Need-mul-result
-mul-result c = search needs
-
-cast-result-2 : tie.Need-cast-result-2
-cast-result-2 c = search needs
-
-add-result : tie.Need-add-result
-add-result c = search needs
 
 returns-3 : tie.Need-returns-3
 returns-3 c = pair-both (c .before .before .before .before .args .h) (c .before .before .before .before .args .l) (c .before .before .before .value-in .result) (c .before .before .value-in2 .result) (c .before .before .before .value-in .ensures .0) (c .before .before .value-in2 .ensures .0) (omega arith) (omega arith)
@@ -35,12 +17,12 @@ pub pair-spec : {M : Type 1} → statement M
 pair-spec =
     tie.close
     (tie.spec
-    value-in-requires
-    value-in-requires-2
+    (λ c κs. search needs)
+    (λ c κs. search needs)
     returns
     returns-2
-    cast-result
-    mul-result
-    cast-result-2
-    add-result
+    (λ c. search needs)
+    (λ c. search needs)
+    (λ c. search needs)
+    (λ c. search needs)
     returns-3)

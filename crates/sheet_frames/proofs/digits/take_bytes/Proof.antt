@@ -15,14 +15,8 @@ Inv-loop line out₀ n values k j₀ out j = (n ≡ length line) × (k ≡ lengt
 abbrev μ-loop : tie.MeasureT-loop
 μ-loop line out₀ n values k j₀ out j = k - j
 
-none-taken-requires : tie.Need-none-taken-requires Inv-loop μ-loop
-none-taken-requires c κs = search needs
-
 returns : tie.Need-returns Inv-loop μ-loop
 returns c = taken-none (now (c .before .before .before .args .line)) _ (c .none-taken .result) (c .none-taken .ensures) (line-long (now (c .before .before .before .args .line)) (c .before .if1 .taken))
-
-none-taken-requires-2 : tie.Need-none-taken-requires-2 Inv-loop μ-loop
-none-taken-requires-2 c κs = search needs
 
 returns-2 : tie.Need-returns-2 Inv-loop μ-loop
 returns-2 c = taken-none (now (c .before .before .before .before .args .line)) _ (c .none-taken2 .result) (c .none-taken2 .ensures) (line-odd (now (c .before .before .before .before .args .line)) (omega arith) (c .before .if2 .taken))
@@ -30,41 +24,8 @@ returns-2 c = taken-none (now (c .before .before .before .before .args .line)) _
 loop-holds : tie.Need-loop-holds Inv-loop μ-loop
 loop-holds c = (omega arith, omega arith, omega arith, refl, decoding-start (now (c .before .before .before .args .line)) _ (c .before .before .before .pre))
 
-mul-pair : tie.Need-mul-pair Inv-loop μ-loop
-mul-pair c = omega arith
-
-shared-slice-read-pair : tie.Need-shared-slice-read-pair Inv-loop μ-loop
-shared-slice-read-pair c = omega arith
-
-mul-pair-2 : tie.Need-mul-pair-2 Inv-loop μ-loop
-mul-pair-2 c = omega arith
-
-add-pair : tie.Need-add-pair Inv-loop μ-loop
-add-pair c = omega arith
-
-shared-slice-read-pair-2 : tie.Need-shared-slice-read-pair-2 Inv-loop μ-loop
-shared-slice-read-pair-2 c = omega arith
-
-pair-requires : tie.Need-pair-requires Inv-loop μ-loop
-pair-requires c κs = c .before .before .before .before .loop .inv .3
-
-none-taken-requires-3 : tie.Need-none-taken-requires-3 Inv-loop μ-loop
-none-taken-requires-3 c κs = search needs
-
 returns-3 : tie.Need-returns-3 Inv-loop μ-loop
 returns-3 c = taken-none (now (c .before .before .before .before .before .before .before .before .before .before .before .args .line)) _ (c .none-taken3 .result) (c .none-taken3 .ensures) (line-wrong (now (c .before .before .before .before .before .before .before .before .before .before .before .args .line)) (omega arith) (decoding-wrong (now (c .before .before .before .before .before .before .before .before .before .before .before .args .line)) (c .before .before .before .before .before .before .before .loop .out) (c .before .before .before .before .before .before .before .loop .j) (c .before .before .pair .result) (c .before .before .before .before .before .before .before .loop .inv .4) (omega arith) (c .before .before .pair .ensures) (c .before .if3 .taken)))
-
-cast-out : tie.Need-cast-out Inv-loop μ-loop
-cast-out c = omega arith
-
-element-write-out : tie.Need-element-write-out Inv-loop μ-loop
-element-write-out c = omega (arith, c .before .before .before .before .before .before .loop .inv .4 .long)
-
-add-j : tie.Need-add-j Inv-loop μ-loop
-add-j c = omega arith
-
-loop-less : tie.Need-loop-less Inv-loop μ-loop
-loop-less c = omega arith
 
 loop-again : tie.Need-loop-again Inv-loop μ-loop
 loop-again c = (omega arith, omega arith, omega arith, c .before .before .before .before .before .before .loop .inv .3, decoding-more (now (c .before .before .before .before .before .before .before .before .before .before .args .line)) (c .before .before .before .before .before .before .loop .out) (c .before .before .before .before .before .before .loop .j) (c .before .pair .result) (c .before .before .before .before .before .before .loop .inv .4) (omega arith) (omega arith) (c .before .pair .ensures) (omega arith))
@@ -78,22 +39,22 @@ take-bytes-spec =
     (tie.spec
     Inv-loop
     μ-loop
-    none-taken-requires
+    (λ c κs. search needs)
     returns
-    none-taken-requires-2
+    (λ c κs. search needs)
     returns-2
     loop-holds
-    mul-pair
-    shared-slice-read-pair
-    mul-pair-2
-    add-pair
-    shared-slice-read-pair-2
-    pair-requires
-    none-taken-requires-3
+    (λ c. omega arith)
+    (λ c. omega arith)
+    (λ c. omega arith)
+    (λ c. omega arith)
+    (λ c. omega arith)
+    (λ c κs. c .before .before .before .before .loop .inv .3)
+    (λ c κs. search needs)
     returns-3
-    cast-out
-    element-write-out
-    add-j
-    loop-less
+    (λ c. omega arith)
+    (λ c. omega (arith, c .before .before .before .before .before .before .loop .inv .4 .long))
+    (λ c. omega arith)
+    (λ c. omega arith)
     loop-again
     returns-4)

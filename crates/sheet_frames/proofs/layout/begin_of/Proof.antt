@@ -9,14 +9,8 @@ use Rattle.sheet_frames.proofs.layout.begin_of.Tie as tie
 returns : tie.Need-returns
 returns c = sym (frame-wrong t-begin (now (c .before .before .args .s)) (c .before .before .pre .0) (c .before .before .pre .1) (c .if1 .taken))
 
-shared-slice-read-f : tie.Need-shared-slice-read-f
-shared-slice-read-f c = search needs
-
 returns-2 : tie.Need-returns-2
 returns-2 c = sym (frame-flags (now (c .before .before .before .before .args .s)) (omega (arith, c .before .before .if1 .left)) (c .before .before .before .before .pre .1) (c .if2 .taken))
-
-two-at-requires : tie.Need-two-at-requires
-two-at-requires c κs = search needs
 
 returns-3 : tie.Need-returns-3
 returns-3 c =
@@ -26,4 +20,4 @@ returns-3 c =
 
 pub begin-of-spec : {M : Type 1} → statement M
 begin-of-spec =
-    tie.close (tie.spec returns shared-slice-read-f returns-2 two-at-requires returns-3)
+    tie.close (tie.spec returns (λ c. search needs) returns-2 (λ c κs. search needs) returns-3)

@@ -4,27 +4,6 @@ use borrow.Author.Needs.{needs}
 use Rattle.sheet_frames.proofs.layout.eight_at.Statement.{statement}
 use Rattle.sheet_frames.proofs.layout.eight_at.Tie as tie
 
-four-at-requires : tie.Need-four-at-requires
-four-at-requires c κs = search needs
-
-add-four-at : tie.Need-add-four-at
-add-four-at c = search needs
-
-four-at-requires-2 : tie.Need-four-at-requires-2
-four-at-requires-2 c κs = search needs
-
-cast-result : tie.Need-cast-result
-cast-result c = search needs
-
-mul-result : tie.Need-mul-result
-mul-result c = search needs
-
-cast-result-2 : tie.Need-cast-result-2
-cast-result-2 c = search needs
-
-add-result : tie.Need-add-result
-add-result c = search needs
-
 returns : tie.Need-returns
 returns c = eight-law (now (c .before .before .before .args .s)) (c .before .before .before .args .at) _ _ (c .before .four-at .ensures) (c .four-at2 .ensures)
 
@@ -32,11 +11,11 @@ pub eight-at-spec : {M : Type 1} → statement M
 eight-at-spec =
     tie.close
     (tie.spec
-    four-at-requires
-    add-four-at
-    four-at-requires-2
-    cast-result
-    mul-result
-    cast-result-2
-    add-result
+    (λ c κs. search needs)
+    (λ c. search needs)
+    (λ c κs. search needs)
+    (λ c. search needs)
+    (λ c. search needs)
+    (λ c. search needs)
+    (λ c. search needs)
     returns)

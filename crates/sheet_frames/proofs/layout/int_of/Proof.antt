@@ -1,20 +1,8 @@
-use native.Mathlib.Omega.{arith}
-use mathlib.Core.Path.{_≡_, sym}
-use lib.ListN.{length, getD}
 use denote.Ref.{now}
 use Rattle.sheet_frames.proofs.Frames.{shape-int}
 use borrow.Author.Needs.{needs}
 use Rattle.sheet_frames.proofs.layout.int_of.Statement.{statement}
 use Rattle.sheet_frames.proofs.layout.int_of.Tie as tie
-
-two-at-requires : tie.Need-two-at-requires
-two-at-requires c κs = search needs
-
-eight-at-requires : tie.Need-eight-at-requires
-eight-at-requires c κs = search needs
-
-eight-at-requires-2 : tie.Need-eight-at-requires-2
-eight-at-requires-2 c κs = search needs
 
 returns : tie.Need-returns
 returns c =
@@ -25,4 +13,4 @@ returns c =
     cc
 
 pub int-of-spec : {M : Type 1} → statement M
-int-of-spec = tie.close (tie.spec two-at-requires eight-at-requires eight-at-requires-2 returns)
+int-of-spec = tie.close (tie.spec (λ c κs. search needs) (λ c κs. search needs) (λ c κs. search needs) returns)

@@ -9,15 +9,6 @@ use Rattle.sheet_frames.proofs.layout.rule_of.Tie as tie
 returns : tie.Need-returns
 returns c = sym (frame-wrong t-rule (now (c .before .before .args .s)) (c .before .before .pre .0) (c .before .before .pre .1) (c .if1 .taken))
 
-four-at-requires : tie.Need-four-at-requires
-four-at-requires c κs = search needs
-
-eight-at-requires : tie.Need-eight-at-requires
-eight-at-requires c κs = search needs
-
-shared-slice-read-t7 : tie.Need-shared-slice-read-t7
-shared-slice-read-t7 c = search needs
-
 returns-2 : tie.Need-returns-2
 returns-2 c =
     let e = frame-rule (now (c .before .before .before .before .before .args .s)) (omega (arith, c .before .before .before .if1 .left)) (c .before .before .before .before .before .pre .1) in
@@ -27,4 +18,4 @@ returns-2 c =
 
 pub rule-of-spec : {M : Type 1} → statement M
 rule-of-spec =
-    tie.close (tie.spec returns four-at-requires eight-at-requires shared-slice-read-t7 returns-2)
+    tie.close (tie.spec returns (λ c κs. search needs) (λ c κs. search needs) (λ c. search needs) returns-2)

@@ -8,25 +8,10 @@ use borrow.Author.Needs.{needs}
 use Rattle.sheet_frames.proofs.layout.shape_of.Statement.{statement}
 use Rattle.sheet_frames.proofs.layout.shape_of.Tie as tie
 
-returns : tie.Need-returns
-returns c = sym (shape-none (now (c .before .before .args .s)) (c .if1 .taken))
-
-shared-slice-read-size8 : tie.Need-shared-slice-read-size8
-shared-slice-read-size8 c = search needs
-
-size8-requires : tie.Need-size8-requires
-size8-requires c κs = search needs
-
 returns-2 : tie.Need-returns-2
 returns-2 c =
     let m : 6 ≤ getD (now (c .before .before .before .before .before .args .s)) 0 0 = omega (arith, c .if2 .taken, c .before .size8 .ensures) in
     sym (shape-past (now (c .before .before .before .before .before .args .s)) m)
-
-array-read-size8 : tie.Need-array-read-size8
-array-read-size8 c = search needs
-
-size8-requires-2 : tie.Need-size8-requires-2
-size8-requires-2 c κs = search needs
 
 returns-3 : tie.Need-returns-3
 returns-3 c = shape-size (now (c .before .before .before .before .before .before .before .args .s)) (c .before .before .before .size8 .result) (c .before .size82 .result) (c .before .before .before .before .before .if1 .left) (c .before .before .before .size8 .ensures) (omega (arith, c .before .before .if2 .left)) (c .before .size82 .ensures) (c .if3 .taken)
@@ -79,14 +64,8 @@ returns-5 c =
 bool-of-requires : tie.Need-bool-of-requires
 bool-of-requires c κs = kind-at (now (c .before .before .before .before .before .before .before .before .before .before .args .s)) (c .before .before .before .before .before .before .size8 .result) (c .before .before .before .before .size82 .result) 2 (c .before .before .before .before .before .before .size8 .ensures) (c .before .before .before .before .size82 .ensures) (omega (arith, c .before .before .before .if3 .left)) (c .if6 .taken)
 
-returns-6 : tie.Need-returns-6
-returns-6 c = search needs
-
 int-of-requires : tie.Need-int-of-requires
 int-of-requires c κs = kind-at (now (c .before .before .before .before .before .before .before .before .before .before .before .args .s)) (c .before .before .before .before .before .before .before .size8 .result) (c .before .before .before .before .before .size82 .result) 3 (c .before .before .before .before .before .before .before .size8 .ensures) (c .before .before .before .before .before .size82 .ensures) (omega (arith, c .before .before .before .before .if3 .left)) (c .if7 .taken)
-
-returns-7 : tie.Need-returns-7
-returns-7 c = search needs
 
 two-at-requires-4 : tie.Need-two-at-requires-4
 two-at-requires-4 c κs =
@@ -110,12 +89,12 @@ pub shape-of-spec : {M : Type 1} → statement M
 shape-of-spec =
     tie.close
     (tie.spec
-    returns
-    shared-slice-read-size8
-    size8-requires
+    (λ c. sym (shape-none (now (c .before .before .args .s)) (c .if1 .taken)))
+    (λ c. search needs)
+    (λ c κs. search needs)
     returns-2
-    array-read-size8
-    size8-requires-2
+    (λ c. search needs)
+    (λ c κs. search needs)
     returns-3
     two-at-requires
     two-at-requires-2
@@ -125,9 +104,9 @@ shape-of-spec =
     shared-slice-read-t18
     returns-5
     bool-of-requires
-    returns-6
+    (λ c. search needs)
     int-of-requires
-    returns-7
+    (λ c. search needs)
     two-at-requires-4
     returns-8
     returns-9)

@@ -6,18 +6,6 @@ use borrow.Author.Needs.{needs}
 use Rattle.sheet_frames.proofs.layout.site_of.Statement.{statement}
 use Rattle.sheet_frames.proofs.layout.site_of.Tie as tie
 
-sub-is-body : tie.Need-sub-is-body
-sub-is-body c = search needs
-
-part-is-body-start : tie.Need-part-is-body-start
-part-is-body-start c = search needs
-
-part-is-body-end : tie.Need-part-is-body-end
-part-is-body-end c = search needs
-
-is-body-requires : tie.Need-is-body-requires
-is-body-requires c κs = search needs
-
 returns : tie.Need-returns
 returns c = sym (site-body-is (now (c .before .before .before .before .args .s)) (c .before .is-body .result) true (c .before .before .before .before .pre .0) (c .before .before .before .before .pre .1) (c .before .is-body .ensures) (c .if1 .taken))
 
@@ -28,9 +16,9 @@ pub site-of-spec : {M : Type 1} → statement M
 site-of-spec =
     tie.close
     (tie.spec
-    sub-is-body
-    part-is-body-start
-    part-is-body-end
-    is-body-requires
+    (λ c. search needs)
+    (λ c. search needs)
+    (λ c. search needs)
+    (λ c κs. search needs)
     returns
     returns-2)

@@ -4,11 +4,8 @@ use borrow.Author.Needs.{needs}
 use Rattle.sheet_frames.proofs.layout.two_at.Statement.{statement}
 use Rattle.sheet_frames.proofs.layout.two_at.Tie as tie
 
-word-at-requires : tie.Need-word-at-requires
-word-at-requires c κs = search needs
-
 returns : tie.Need-returns
 returns c = two-law (now (c .before .before .args .s)) (c .before .before .args .at) _ (c .word-at .ensures)
 
 pub two-at-spec : {M : Type 1} → statement M
-two-at-spec = tie.close (tie.spec word-at-requires returns)
+two-at-spec = tie.close (tie.spec (λ c κs. search needs) returns)
