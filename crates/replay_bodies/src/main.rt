@@ -54,7 +54,7 @@ fn refused(r: Refusal) {
 }
 
 fn show_byte(b: u8) {
-    let pair = [sheet_digits::digit(b / 16), sheet_digits::digit(b % 16)];
+    let pair = [sheet_digits::high_digit(b), sheet_digits::low_digit(b)];
     io::write_all(STDOUT_FILENO, &pair);
 }
 

@@ -5,7 +5,7 @@ use Prim.Native.Nat.{ℕ, zero, suc, _+_, _*_, _/_, _%_, _<_, _≤_}
 use native.Mathlib.Omega.{arith}
 use native.Mathlib.Numerals.{add-one}
 use lib.ListN.{length, set}
-use lib.Seq.{sets}
+use lib.Seq.{sets, set-out}
 use borrow.Author.Tests.{lt-ltb, le-ltb}
 use Rattle.paper.specs.Words.{two, four}
 use Rattle.paper.specs.Layout.{digit-of, hex}
@@ -45,6 +45,13 @@ digit-high v h = rw (le-ltb v 10 h)
 pub byte-put : (l v w : List ℕ) (i b x y : ℕ) → x ≡ digit-of (b / 16) → y ≡ digit-of (b % 16) → v ≡ set l i x → w ≡ set v (i + 1) y → w ≡ sets l i (digits-of (b ∷ []))
 unfolding digits-of
 byte-put l v w i b x y e f g h = h ∙ rw (g, e, f, add-one)
+
+-- past the end of the room nothing is stored
+pub byte-out : (l v : List ℕ) (i b x : ℕ) → x ≡ digit-of (b / 16) → v ≡ set l i x → length v ≤ i → v ≡ sets l i (digits-of (b ∷ []))
+unfolding digits-of
+byte-out l v i b x e g h =
+    let o : set v (i + 1) (digit-of (b % 16)) ≡ v = set-out v (i + 1) (digit-of (b % 16)) (omega arith) in
+    sym o ∙ byte-put l v (set v (i + 1) (digit-of (b % 16))) i b x (digit-of (b % 16)) e refl g refl
 
 pub two-put : (l v w : List ℕ) (i n : ℕ) → v ≡ sets l i (digits-of (n / 256 ∷ [])) → w ≡ sets v (i + 2) (digits-of (n % 256 ∷ [])) → w ≡ sets l i (digits-of (two n))
 unfolding two digits-of

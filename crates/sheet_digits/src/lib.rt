@@ -2,7 +2,7 @@
 // nothing is stored.
 ghost use mathlib.Core.Path.{_≡_};
 ghost use mathlib.Core.List.{List, [], _∷_};
-ghost use Prim.Native.Nat.{ℕ, _+_, _<_};
+ghost use Prim.Native.Nat.{ℕ, _+_, _<_, _/_, _%_};
 ghost use lib.ListN.{set};
 ghost use lib.Seq.{sets};
 ghost use Rattle.paper.specs.Words.{two, four};
@@ -10,7 +10,7 @@ ghost use Rattle.paper.specs.Layout.{digit-of};
 ghost use Rattle.sheet_digits.specs.Digits.{digits-of};
 
 // A digit.
-pub fn digit(v: u8) -> u8
+fn digit(v: u8) -> u8
     requires { ⌜ v < 16 ⌝ }
     ensures { λ r. ⌜ r ≡ digit-of v ⌝ }
 {
@@ -18,6 +18,20 @@ pub fn digit(v: u8) -> u8
         return v + 48;
     }
     v + 55
+}
+
+// The digit of a byte's higher half.
+pub fn high_digit(b: u8) -> u8
+    ensures { λ r. ⌜ r ≡ digit-of (b / 16) ⌝ }
+{
+    digit(b / 16)
+}
+
+// The digit of its lower half.
+pub fn low_digit(b: u8) -> u8
+    ensures { λ r. ⌜ r ≡ digit-of (b % 16) ⌝ }
+{
+    digit(b % 16)
 }
 
 fn put(room: &mut [u8], at: usize, v: u8)
@@ -30,11 +44,13 @@ fn put(room: &mut [u8], at: usize, v: u8)
 
 // A byte, two digits.
 pub fn write_byte(room: &mut [u8], at: usize, b: u8)
-    requires { ⌜ at + 1 < 18446744073709551616 ⌝ }
     ensures { λ _. ⌜ now (room .exit) ≡ sets (now (room .entry)) at (digits-of (b ∷ [])) ⌝ }
 {
-    put(room, at, digit(b / 16));
-    put(room, at + 1, digit(b % 16));
+    put(room, at, high_digit(b));
+    if room.len() <= at {
+        return;
+    }
+    put(room, at + 1, low_digit(b));
 }
 
 pub fn put_byte(room: &mut [u8], at: u32, b: u8)

@@ -5,7 +5,7 @@ use mathlib.Core.List.{List, [], _∷_, _++_}
 use Prim.Native.Nat.{ℕ, zero, suc, _+_, _-_, _*_, _/_, _≤_, _<_}
 use native.Mathlib.Omega.{arith}
 use native.Mathlib.Numerals.{add-one}
-use lib.ListN.{length, getD, drop}
+use lib.ListN.{length, getD, drop, List·getD-eq-default}
 use lib.Seq.{drop-cons}
 use lib.Dec.{eqb}
 use borrow.Author.Tests.{eq-eqb, ne-eqb}
@@ -24,6 +24,11 @@ past-end (x ∷ f) (suc i) h = past-end f i (omega arith)
 pub two-is : (f : List ℕ) (i a b : ℕ) → a ≡ getD f i 0 → b ≡ getD f (i + 1) 0 → a * 256 + b ≡ two-at f i
 unfolding two-at
 two-is f i a b e g = rw (e, g)
+
+-- past the end there are zeros
+pub two-out : (f : List ℕ) (i : ℕ) → length f ≤ i → 0 ≡ two-at f i
+unfolding two-at
+two-out f i h = rw (List·getD-eq-default f 0 {n = i} h, List·getD-eq-default f 0 {n = i + 1} (omega arith))
 
 pub four-is : (f : List ℕ) (i a b : ℕ) → a ≡ two-at f i → b ≡ two-at f (i + 2) → a * 65536 + b ≡ four-at f i
 unfolding four-at

@@ -23,9 +23,11 @@ pub fn byte_at(f: &[u8], i: usize) -> u64
 
 // The number of two bytes at i, high byte first.
 pub fn two_at(f: &[u8], i: usize) -> u64
-    requires { ⌜ i + 1 < 18446744073709551616 ⌝ }
     ensures { λ r. ⌜ (r ≡ two-at (now (f .entry)) i) × (r < 65536) ⌝ }
 {
+    if f.len() <= i {
+        return 0;
+    }
     byte_at(f, i) * 256 + byte_at(f, i + 1)
 }
 

@@ -5,7 +5,8 @@ ghost use Rattle.paper.specs.Words.{two, four, eight};
 ghost use Rattle.sheet_digits.specs.Digits.{digits-of};
 ghost use Rattle.tell_text.specs.Written.{wrote};
 ghost use Rattle.tell_text.specs.Decimal.{decimal};
-use sheet_digits::digit;
+use sheet_digits::high_digit;
+use sheet_digits::low_digit;
 
 pub fn put(out: &mut [u8], at: usize, b: u8) -> usize
     ensures { λ r. ⌜ (now (out .exit), r) ≡ wrote (now (out .entry), at) (b ∷ []) ⌝ }
@@ -46,8 +47,8 @@ pub fn put_decimal(out: &mut [u8], at: usize, n: u64) -> usize
 fn put_byte(out: &mut [u8], at: usize, b: u8) -> usize
     ensures { λ r. ⌜ (now (out .exit), r) ≡ wrote (now (out .entry), at) (digits-of (b ∷ [])) ⌝ }
 {
-    let k = put(out, at, digit(b / 16));
-    put(out, k, digit(b % 16))
+    let k = put(out, at, high_digit(b));
+    put(out, k, low_digit(b))
 }
 
 // Bytes as upper-case hexadecimal.
