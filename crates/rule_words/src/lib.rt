@@ -142,12 +142,29 @@ pub fn word(words: &[u64], k: usize) -> u64
     0
 }
 
+// The word that lies off words past the first of a part of the rule at b, however far that is; past the end there are zeros.
+fn word_past(words: &[u64], b: usize, first: usize, off: usize) -> u64
+    ensures { λ r. ⌜ r ≡ getD (now (words .entry)) (b + first + off) 0 ⌝ }
+{
+    let n = words.len();
+    if n <= b {
+        return 0;
+    }
+    if n - b <= first {
+        return 0;
+    }
+    if n - b - first <= off {
+        return 0;
+    }
+    words[b + first + off]
+}
+
 // A count above its limit is the limit.
-fn count(words: &[u64], at: usize, most: usize) -> usize
-    ensures { λ r. ⌜ r ≡ count-at (now (words .entry)) at most ⌝ }
+fn count(words: &[u64], b: usize, off: usize, most: usize) -> usize
+    ensures { λ r. ⌜ r ≡ count-at (now (words .entry)) (b + off) most ⌝ }
     ensures { λ r. ⌜ r ≤ most ⌝ }
 {
-    let n = size64(word(words, at));
+    let n = size64(word_past(words, b, off, 0));
     if n < most {
         return n;
     }
@@ -156,77 +173,70 @@ fn count(words: &[u64], at: usize, most: usize) -> usize
 
 // How many constrained sites the rule at b has.
 pub fn constrained(words: &[u64], b: usize) -> usize
-    requires { ⌜ b + 1000000 < 18446744073709551616 ⌝ }
     ensures { λ r. ⌜ r ≡ constrained-count (now (words .entry)) b ⌝ }
     ensures { λ r. ⌜ r ≤ max-constrained ⌝ }
 {
-    count(words, b + CONSTRAINED_COUNT, CONSTRAINED)
+    count(words, b, CONSTRAINED_COUNT, CONSTRAINED)
 }
 
 // How many equal sites the rule at b has.
 pub fn equals(words: &[u64], b: usize) -> usize
-    requires { ⌜ b + 1000000 < 18446744073709551616 ⌝ }
     ensures { λ r. ⌜ r ≡ equal-count (now (words .entry)) b ⌝ }
     ensures { λ r. ⌜ r ≤ max-equal ⌝ }
 {
-    count(words, b + EQUAL_COUNT, EQUALS)
+    count(words, b, EQUAL_COUNT, EQUALS)
 }
 
 // The priority of the rule at b, as an unsigned number that keeps the order.
 pub fn rank(words: &[u64], b: usize) -> u64
-    requires { ⌜ b + 1000000 < 18446744073709551616 ⌝ }
     ensures { λ r. ⌜ r ≡ rank-at (now (words .entry)) b ⌝ }
 {
-    word(words, b + RANK)
+    word_past(words, b, RANK, 0)
 }
 
-// Where the words of the constrained site k of the rule at b start.
-pub fn constrained_start(b: usize, k: usize) -> usize
-    requires { ⌜ (b + 1000000 < 18446744073709551616) × (k ≤ max-constrained) ⌝ }
-    ensures { λ r. ⌜ (r ≡ constrained-word b k) × (r + 1000 < 18446744073709551616) ⌝ }
-{
-    b + FIRST_CONSTRAINED + SITE_WORDS * k
-}
-
-// Where the words of the equal site k of the rule at b start.
-fn equal_start(b: usize, k: usize) -> usize
-    requires { ⌜ (b + 1000000 < 18446744073709551616) × (k ≤ max-equal) ⌝ }
-    ensures { λ r. ⌜ (r ≡ equal-word b k) × (r + 1000 < 18446744073709551616) ⌝ }
-{
-    b + FIRST_EQUAL + EQUAL_WORDS * k
-}
-
-// The constrained site k of the rule at b.
+// The constrained site k of the rule at b. Here and below, where the words are too few for k such parts they end before it.
 pub fn site_at(words: &[u64], b: usize, k: usize) -> u64
-    requires { ⌜ (b + 1000000 < 18446744073709551616) × (k ≤ max-constrained) ⌝ }
     ensures { λ r. ⌜ r ≡ constrained-at (now (words .entry)) b k .0 ⌝ }
 {
-    word(words, constrained_start(b, k))
+    if words.len() / SITE_WORDS <= k {
+        return 0;
+    }
+    word_past(words, b, FIRST_CONSTRAINED, SITE_WORDS * k)
 }
 
 // Its constraint.
 pub fn constraint_at(words: &[u64], b: usize, k: usize) -> Constraint
-    requires { ⌜ (b + 1000000 < 18446744073709551616) × (k ≤ max-constrained) ⌝ }
     ensures { λ r. ⌜ r ≡ narrow (constrained-at (now (words .entry)) b k .1) ⌝ }
 {
-    let p = constrained_start(b, k);
-    unpack(word(words, p + 1), word(words, p + 2), word(words, p + 3))
+    if words.len() / SITE_WORDS <= k {
+        return unpack(0, 0, 0);
+    }
+    let p = SITE_WORDS * k;
+    unpack(
+        word_past(words, b, FIRST_CONSTRAINED, p + 1),
+        word_past(words, b, FIRST_CONSTRAINED, p + 2),
+        word_past(words, b, FIRST_CONSTRAINED, p + 3),
+    )
 }
 
 // The equal site k of the rule at b.
 pub fn equal_at(words: &[u64], b: usize, k: usize) -> u64
-    requires { ⌜ (b + 1000000 < 18446744073709551616) × (k ≤ max-equal) ⌝ }
     ensures { λ r. ⌜ r ≡ equal-at (now (words .entry)) b k .0 ⌝ }
 {
-    word(words, equal_start(b, k))
+    if words.len() / EQUAL_WORDS <= k {
+        return 0;
+    }
+    word_past(words, b, FIRST_EQUAL, EQUAL_WORDS * k)
 }
 
 // The lowest member of its class.
 pub fn lowest_at(words: &[u64], b: usize, k: usize) -> u64
-    requires { ⌜ (b + 1000000 < 18446744073709551616) × (k ≤ max-equal) ⌝ }
     ensures { λ r. ⌜ r ≡ equal-at (now (words .entry)) b k .1 ⌝ }
 {
-    word(words, equal_start(b, k) + 1)
+    if words.len() / EQUAL_WORDS <= k {
+        return 0;
+    }
+    word_past(words, b, FIRST_EQUAL, EQUAL_WORDS * k + 1)
 }
 
 // Where the words of rule i start.
@@ -289,6 +299,22 @@ fn site(sites: &[u16], k: usize) -> u64
         return word16(sites[k]);
     }
     0
+}
+
+// Where the words of the constrained site k of the rule at b start.
+fn constrained_start(b: usize, k: usize) -> usize
+    requires { ⌜ (b + 1000000 < 18446744073709551616) × (k ≤ max-constrained) ⌝ }
+    ensures { λ r. ⌜ (r ≡ constrained-word b k) × (r + 1000 < 18446744073709551616) ⌝ }
+{
+    b + FIRST_CONSTRAINED + SITE_WORDS * k
+}
+
+// Where the words of the equal site k of the rule at b start.
+fn equal_start(b: usize, k: usize) -> usize
+    requires { ⌜ (b + 1000000 < 18446744073709551616) × (k ≤ max-equal) ⌝ }
+    ensures { λ r. ⌜ (r ≡ equal-word b k) × (r + 1000 < 18446744073709551616) ⌝ }
+{
+    b + FIRST_EQUAL + EQUAL_WORDS * k
 }
 
 // The constrained sites of the rule at b, each with the three words of its constraint.

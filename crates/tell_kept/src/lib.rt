@@ -1,10 +1,9 @@
 // The lines that show what the loader made of a sheet: sets, kept rules with their sites unfolded, refused rules, pairs, cyclic terms.
 ghost use mathlib.Core.Path.{_≡_};
-ghost use Prim.Native.Nat.{ℕ, _+_, _*_, _≤_, _<_};
 ghost use mathlib.Core.List.{[], _∷_};
 ghost use lib.ListN.{take};
 ghost use Rattle.paper.specs.Words.{flag};
-ghost use Rattle.paper.specs.Numbers.{told, max-constrained, max-equal};
+ghost use Rattle.paper.specs.Numbers.{told};
 ghost use Rattle.paper.specs.Sites.{constraint-body};
 ghost use Rattle.sites.specs.Slots.{sites-in};
 ghost use Rattle.sheet_digits.specs.Digits.{digits-of};
@@ -124,7 +123,6 @@ fn put_constrained(
     b: usize,
     k: usize,
 ) -> usize
-    requires { ⌜ (b + 1000000 < 18446744073709551616) × (k ≤ max-constrained) ⌝ }
     ensures { λ r. let t = sites-in (now (m .entry)) n in let e = constrained-at (now (words .entry)) b k in
         ⌜ (now (out .exit), r) ≡ wrote (now (out .entry), at) (c-line t (e .0) (e .1)) ⌝ }
 {
@@ -144,7 +142,6 @@ fn put_all_constrained(
     b: usize,
     k: usize,
 ) -> usize
-    requires { ⌜ (b + 1000000 < 18446744073709551616) × (k ≤ max-constrained) ⌝ }
     ensures { λ r. let t = sites-in (now (m .entry)) n in
         ⌜ (now (out .exit), r) ≡ wrote (now (out .entry), at) (c-lines t (run (constrained-at (now (words .entry)) b) 0 k)) ⌝ }
 {
@@ -169,7 +166,6 @@ fn put_member(
     k: usize,
     low: u64,
 ) -> usize
-    requires { ⌜ (b + 1000000 < 18446744073709551616) × (k ≤ max-equal) ⌝ }
     ensures { λ r. let t = sites-in (now (m .entry)) n in let e = equal-at (now (words .entry)) b k in
         ⌜ (now (out .exit), r) ≡ wrote (now (out .entry), at) (member-text t low (e .0) (e .1)) ⌝ }
 {
@@ -190,7 +186,6 @@ fn put_members(
     k: usize,
     low: u64,
 ) -> usize
-    requires { ⌜ (b + 1000000 < 18446744073709551616) × (k ≤ max-equal) ⌝ }
     ensures { λ r. let t = sites-in (now (m .entry)) n in
         ⌜ (now (out .exit), r) ≡ wrote (now (out .entry), at) (members t low (run (equal-at (now (words .entry)) b) 0 k)) ⌝ }
 {
@@ -215,7 +210,6 @@ fn put_class(
     k: usize,
     i: usize,
 ) -> usize
-    requires { ⌜ (b + 1000000 < 18446744073709551616) × (k ≤ max-equal) × (i ≤ max-equal) ⌝ }
     ensures { λ r. let t = sites-in (now (m .entry)) n in let f = equal-at (now (words .entry)) b in
         ⌜ (now (out .exit), r) ≡ wrote (now (out .entry), at) (class-line t (run f 0 k) (f i .0) (f i .1)) ⌝ }
 {
@@ -237,7 +231,6 @@ fn put_classes(
     b: usize,
     k: usize,
 ) -> usize
-    requires { ⌜ (b + 1000000 < 18446744073709551616) × (k ≤ max-equal) ⌝ }
     ensures { λ r. let t = sites-in (now (m .entry)) n in let all = run (equal-at (now (words .entry)) b) 0 k in
         ⌜ (now (out .exit), r) ≡ wrote (now (out .entry), at) (classes t all all) ⌝ }
 {
