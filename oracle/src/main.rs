@@ -20,6 +20,7 @@ oracle joins [FILE]                     the Rust's answers to the scripts of a s
 oracle graphs [FILE] [SEEDS]            what the Rust finds in graphs of terms: the union over hash seeds
 oracle each [FILE] [SEEDS]              the same, every distinct answer
 oracle spec check|kept|joins|graphs [FILE]   document 01's answers to the same
+oracle folder DIR                       document 01's findings of each file of a folder, by name, a line ---- after each
 oracle gen sheets|limits|scripts|graphs SEED COUNT   cases
 oracle shares [FILE]                    for each sheet what was compared with the Rust, and what was left out and why
 oracle cases [DIR]                      the stored cases against spec01
@@ -170,6 +171,15 @@ fn main() -> ExitCode {
                     .iter()
                     .for_each(|g| write(&terms::line(&terms::cyclic(&compare::edges(g))))),
                 _ => write(USAGE),
+            }
+            true
+        }
+        ["folder", dir] => {
+            let mut files: Vec<_> = std::fs::read_dir(dir).expect("DIR").map(|f| f.expect("a file").path()).collect();
+            files.sort();
+            for file in files {
+                let sheet = read(file.to_str());
+                write(&format!("{}{SPLIT}", sheets::findings(&sheets::read(sheet.as_bytes()))));
             }
             true
         }
