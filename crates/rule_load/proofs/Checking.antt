@@ -32,7 +32,7 @@ use Rattle.rule_items.specs.declared.Progress.{Progress}
 use Rattle.rule_hanging.specs.Seen.{shown}
 use Rattle.rule_items.specs.Shown.{Row, Shown, roomy, items-in, Told}
 use Rattle.rule_rounds.specs.declared.Solved.{Solved}
-use Rattle.rule_rounds.specs.Rounding.{GoodRow, Proper, Listed, Rounds, solved}
+use Rattle.rule_rounds.specs.Rounding.{Proper, Listed, Rounds, solved}
 use Rattle.rule_load.specs.Parts.{worked, Lent, Left, SameTo}
 use Rattle.rule_load.proofs.Widening.{Passed}
 use Rattle.rule_load.proofs.Parting.{after-items, items-done}

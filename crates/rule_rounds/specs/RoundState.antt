@@ -21,7 +21,8 @@ use Rattle.rule_hanging.specs.Seen.{shown}
 use Rattle.class_labels.specs.Tied.{Tied}
 use Rattle.class_labels.specs.Rows.{row}
 use Rattle.class_labels.specs.Taking.{LabelsBelow}
-use Rattle.rule_rounds.specs.Rounding.{GoodRow, Listed}
+use Rattle.rule_laid.specs.Laid.{GoodRow}
+use Rattle.rule_rounds.specs.Rounding.{Listed}
 use Rattle.rule_rounds.specs.declared.Solved.{Solved}
 use Rattle.rule_rounds.specs.declared.Ended.the-variants as ended
 use Rattle.rule_rounds.specs.declared.Grown.{Grown}

@@ -1,19 +1,17 @@
 -- What the rounds need of the lent lists, and what they leave.
 use mathlib.Core.Path.{_≡_}
-use mathlib.Core.Bool.{Bool, true, false}
 use mathlib.Core.Logic.{_⊎_}
 use mathlib.Core.List.{List, []}
-use Prim.Native.Nat.{ℕ, suc, _+_, _*_, _<_, _≤_}
+use Prim.Native.Nat.{ℕ, _+_, _<_, _≤_}
 use lib.ListN.{length, getD}
 use Rattle.paper.specs.declared.Constraint.{Constraint}
 use Rattle.paper.specs.declared.Refusal.{Refusal}
-use Rattle.paper.specs.Numbers.{max-sites, max-fields, max-items, max-equal, most-rounds, Outcome, done, refused}
-use Rattle.paper.specs.Sites.{child-count}
+use Rattle.paper.specs.Numbers.{max-sites, max-equal, most-rounds, Outcome, done, refused}
 use Rattle.paper.proofs.Tables.{Rising}
 use Rattle.paper.specs.Loading.{Solving, Labels, join-all, rounds}
-use Rattle.rule_words.specs.Packing.{InRange}
 use Rattle.rule_children.specs.Tail.{table}
-use Rattle.rule_rows.specs.Holding.{shape-in, eqs-in}
+use Rattle.rule_rows.specs.Holding.{eqs-in}
+use Rattle.rule_laid.specs.Laid.{GoodRow}
 use Rattle.rule_hanging.specs.Seen.{shown}
 use Rattle.rule_rounds.specs.declared.Solved.{Solved}
 use Rattle.rule_rounds.specs.declared.Start.{Start}
@@ -21,12 +19,6 @@ use Rattle.rule_rounds.specs.declared.Rounded.{Rounded}
 use Rattle.rule_rounds.specs.declared.Rounded.the-variants as rounded
 use Rattle.rule_rounds.specs.declared.Ended.{Ended}
 use Rattle.rule_rounds.specs.declared.Ended.the-variants as ended
-
--- the constraint of row i: one that the code's types hold, with few enough fields
-pub record GoodRow (words : List ℕ) (i : ℕ) : Type 0 where
-  pub item : i < max-items
-  pub range : InRange (shape-in words i)
-  pub few : child-count (shape-in words i) ≤ max-fields
 
 -- what the rounds start with
 pub record Proper (m : List ℕ) (n : ℕ) (tail : List ℕ) (t : ℕ) (sites rows words : List ℕ) (held : ℕ) (eqs : List ℕ) : Type 0 where
@@ -41,24 +33,6 @@ pub record Proper (m : List ℕ) (n : ℕ) (tail : List ℕ) (t : ℕ) (sites ro
   pub known : (i : ℕ) → i < length eqs → getD eqs i 0 < n + t
 
 -- ---- what the public function asks of its lists, and tells of them
-
--- entry i of the constrained sites: above the one before, known, with a good row
-pub record Entry (sites rows words : List ℕ) (total i : ℕ) : Type 0 where
-  pub up : (j : ℕ) → suc j ≡ i → getD sites j 0 < getD sites i 0
-  pub inside : getD sites i 0 < total
-  pub good : GoodRow words (getD rows i 0)
-
-abbrev pub Entries : List ℕ → List ℕ → List ℕ → ℕ → ℕ → Type 0
-Entries sites rows words total held = (i : ℕ) → i < held → Entry sites rows words total i
-
--- the first `many` numbers are known
-abbrev pub Known : List ℕ → ℕ → ℕ → Type 0
-Known xs total many = (i : ℕ) → i < many → getD xs i 0 < total
-
--- b tells whether P fails
-pub record Faults (b : Bool) (P : Type 0) : Type 0 where
-  pub found : b ≡ true → P → ⊥
-  pub none : b ≡ false → P
 
 -- "over the written equalities joined in item order"
 abbrev pub solving : List ℕ → ℕ → List ℕ → ℕ → List ℕ → List ℕ → List ℕ → ℕ → Labels → Solving

@@ -1,0 +1,2 @@
+-- Laws of how constrained sites are laid out.
+pub mod LaidLaws
