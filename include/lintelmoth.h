@@ -122,7 +122,7 @@ uint32_t lintel_add_site(uint8_t *sites, size_t sites_length, uint16_t count, co
 
 /* Writes the unfolding of a site to the start of `room`. answer: how many bytes. 2; 7 where it has over LINTEL_UNFOLDING bytes or `room` less.
  * The call with the deepest stack: up to 400,000 bytes on a set that the calls made, up to 2,800,000 on any bytes. (lintel_sheet_feed,
- * lintel_sheet_check and lintel_load: 29,000. lintel_sheet_end and lintel_cyclic_terms: 19,000. All others stay under 5,000.) */
+ * lintel_sheet_check and lintel_load: 35,000. lintel_sheet_end and lintel_cyclic_terms: 11,000. All others stay under 5,000.) */
 uint32_t lintel_unfold(const uint8_t *sites, size_t sites_length, uint16_t count, uint16_t site, uint8_t *room, size_t room_length,
                        uint64_t *answer, size_t answer_length);
 

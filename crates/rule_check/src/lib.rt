@@ -463,8 +463,9 @@ fn judge(eqs: &[u16], sites: &[u16], rows: &[u16], words: &[u64], kids: &[u16]) 
         let L = held (now (sites .entry)) (now (rows .entry)) (now (words .entry)) (now (kids .entry)) in
         verdict-of v ≡ checked (now (eqs .entry)) L) ⌝ }
 {
-    let mut p = [NEVER; SITES];
-    let mut boss = [NEVER; SITES];
+    // `group` clears both; zeros are the cheapest to make
+    let mut p = [0u16; SITES];
+    let mut boss = [0u16; SITES];
     let g = rule_classes::group(&mut p, &mut boss, eqs, sites, rows, words, kids);
     match g {
         Verdict::Refused(why) => Verdict::Refused(why),
