@@ -66,7 +66,8 @@ unfolding sets-from
 sets-next d at l rest s e = rw (e, sets-from)
 
 -- ---- they are those that lines end
-sets-stay : {sheet : List ℕ} {d : Reader} {at : ℕ} {ls : Lines} → Reads sheet d at ls → (g : Set) → List·Memᴰ g (sets-from d at ls) → List·Memᴰ g (sets-in sheet)
+sets-stay : {sheet : List ℕ} {d : Reader} {at : ℕ} {ls : Lines} → Reads sheet d at ls → (g : Set) → List·Memᴰ g (sets-from d at ls) →
+    List·Memᴰ g (sets-in sheet)
 sets-stay first g m = m
 sets-stay (next {d = d} {at = at} {l = l} {rest = rest} s R e) g m =
     sets-stay R g (rw (sets-next d at l rest s e) (to-right (ended-by (d .stands) (s .after .stands)) (sets-from (s .after) (suc at) rest) g m))
@@ -185,7 +186,8 @@ pub count-there : (sheet : List ℕ) → Read-whole sheet → List·Memᴰ (coun
 count-there sheet (z, at, R, o) = let q = end-is R in rw (← q) (stays-found R (end-found (z .ended)) last)
   where
     last : List·Memᴰ (end-found (z .ended)) (read-on z at nothing)
-    last = unfold read-on in rw o (to-right (map term-found (cyclic-findings (z .ended .heads) (z .ended .edges))) (end-found (z .ended) ∷ []) (end-found (z .ended)) (List·Memᴰ·head refl))
+    last = unfold read-on in rw o (to-right (map term-found (cyclic-findings (z .ended .heads) (z .ended .edges))) (end-found (z .ended) ∷ [])
+        (end-found (z .ended)) (List·Memᴰ·head refl))
 
 -- ---- stopped
 abbrev pub Stopped : List ℕ → ℕ → Refusal → Type 0

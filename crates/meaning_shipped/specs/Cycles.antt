@@ -27,7 +27,8 @@ final d at nothing = some d
 final d at (unended l) = none
 final d at (line l rest) = elim (step d at l) [ done s ↦ final (s .after) (suc at) rest | refused x ↦ none ]
 
-pub final-next : (d : Reader) (at : ℕ) (l : List ℕ) (rest : Lines) (s : Stepped) → step d at l ≡ done s → final d at (line l rest) ≡ final (s .after) (suc at) rest
+pub final-next : (d : Reader) (at : ℕ) (l : List ℕ) (rest : Lines) (s : Stepped) → step d at l ≡ done s →
+    final d at (line l rest) ≡ final (s .after) (suc at) rest
 unfolding final
 final-next d at l rest s e = rw (e, final)
 

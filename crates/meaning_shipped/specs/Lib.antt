@@ -13,3 +13,4 @@ pub mod Says
 pub mod Cycles
 pub mod Counts
 pub mod Memory
+pub mod Text

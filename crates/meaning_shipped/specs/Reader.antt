@@ -242,7 +242,8 @@ end-finding sheet d at R outside e f m = go (List·Memᴰ·append-cases (map ter
     go (inr q) = let z = List·Memᴰ·eq-of-singleton q in rw z (counts d at R e)
 end-finding sheet d at R (at-sites g) e f m = let z = List·Memᴰ·eq-of-singleton m in rw z (stop d at nothing (Layout at) R (inside d (at-sites g) e tt, refl))
 end-finding sheet d at R (at-rules g) e f m = let z = List·Memᴰ·eq-of-singleton m in rw z (stop d at nothing (Layout at) R (inside d (at-rules g) e tt, refl))
-end-finding sheet d at R (at-items g r n) e f m = let z = List·Memᴰ·eq-of-singleton m in rw z (stop d at nothing (Layout at) R (inside d (at-items g r n) e tt, refl))
+end-finding sheet d at R (at-items g r n) e f m = let z = List·Memᴰ·eq-of-singleton m in
+    rw z (stop d at nothing (Layout at) R (inside d (at-items g r n) e tt, refl))
 
 pub each-finding : (sheet : List ℕ) (d : Reader) (at : ℕ) (ls : Lines) → Reads sheet d at ls → (f : List ℕ) → List·Memᴰ f (read-on d at ls) → Finding sheet f
 unfolding read-on

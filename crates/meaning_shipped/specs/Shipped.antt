@@ -1,25 +1,26 @@
 -- What the shipped functions' answers mean. `lintel_load` answers `load-in`, `lintel_may_overlap` `may-overlap` of two `kept-in`, `lintel_sheet_check`
 -- `findings`: their contracts say so. Lent memory is `MadeIn m n ws k` if it began with no site and no rule, whatever its bytes, and only `lintel_add_site`
 -- and `lintel_load` wrote to it since: m holds n sites, ws holds k kept rules (Made.antt: `started`, `after-adding`, `after-handing`).
-use mathlib.Core.Path.{_≡_}
+use mathlib.Core.Path.{_≡_, sym, _∙_}
 use mathlib.Core.Bool.{true, false}
 use mathlib.Core.Option.{none, some}
 use mathlib.Core.Logic.{_↔_, _⊎_}
-use mathlib.Core.List.{List, [], _∷_, _++_, List·Memᴰ}
+use mathlib.Core.List.{List, [], _∷_, _++_, map, List·Memᴰ}
 use Prim.Native.Nat.{ℕ, _≤_, _<_}
 use lib.ListN.{length}
 use Rattle.paper.specs.declared.Constraint.{Constraint}
 use Rattle.paper.specs.declared.Overlap.the-variants.{No, Subset}
 use Rattle.paper.specs.declared.Refusal.{Refusal}
 use Rattle.paper.specs.declared.Rule.{Rule}
-use Rattle.paper.specs.Words.{look, two, four}
+use Rattle.paper.specs.Words.{look, joined, two, four}
 use Rattle.paper.specs.Numbers.{number, done, refused}
 use Rattle.paper.specs.Sites.{Extends}
 use Rattle.paper.specs.Inputs.{Given, Input, Meets, Agree, Matches, MatchesKept}
 use Rattle.paper.specs.Loading.{Kept, Set, Written, written, load}
 use Rattle.paper.specs.Rules.{overlap, mask, no-equals, may-overlap, rank, masks, is-multi}
 use Rattle.paper.specs.Terms.{head-of, is-rec}
-use Rattle.paper.specs.Sheets.{refusal-found, listed-found, term-found, stop-found}
+use Rattle.paper.specs.Layout.{hex}
+use Rattle.paper.specs.Sheets.{refusal-found, listed-found, term-found, stop-found, findings}
 use Rattle.rule_words.specs.Stored.{kept-in}
 use Rattle.sites.specs.Slots.{sites-in}
 use Rattle.rule_load.specs.Whole.{set-in, load-in}
@@ -32,8 +33,9 @@ use Rattle.meaning_shipped.specs.Lent as L
 use Rattle.meaning_shipped.specs.Origin.{From, made-from, from-same}
 use Rattle.meaning_shipped.specs.Reader.{Asked, Closed, Read-whole}
 use Rattle.meaning_shipped.specs.Reports.{Overlaps, Pair}
-use Rattle.meaning_shipped.specs.Says.{found-in, Rule-of, Common, Chain, each-refusal, unmatched-11, is-overlap, is-mask, named-12, named-13, each-term}
+use Rattle.meaning_shipped.specs.Says.{found-in, Rule-of, Common, Chain, each-refusal, unmatched-11, is-overlap, is-mask, named-12, named-13, each-term, findings-are}
 use Rattle.meaning_shipped.specs.Cycles.{cyclic-there}
+use Rattle.meaning_shipped.specs.Text.{same-text}
 use Rattle.meaning_shipped.specs.Counts as C
 use Rattle.meaning_shipped.specs.Counts.{sets-in, rules-of, Stopped}
 
@@ -95,9 +97,16 @@ module _ (m : List ℕ) (n : ℕ) (ws : List ℕ) (k : ℕ) (M : MadeIn m n ws k
       ((at : Given) → Input (set-in m n ws k .sites) at → MatchesKept at (kept-in ws j) → MatchesKept at (kept-in ws i))
   subset-means = O.subset-exactly (set-in m n ws k) (made-in M) (kept-in ws i) (kept-in ws j) (L.kept-there m n ws k i hi) (L.kept-there m n ws k j hj)
 
--- ---- a sheet, any bytes. `found-in sheet` are its findings, and `findings` their text (Says.antt, `findings-are`). `Asked sheet g r`: a line of it
+-- ---- a sheet, any bytes. `found-in sheet` are its findings, each as its bytes. `Asked sheet g r`: a line of it
 -- completes the rule r of the open set g. `Closed sheet g`: a line of it ends g. Every set that the reader holds is made (Reader.antt, `reads-made`; of
 -- the shipped reader's memory, Memory.antt, `reader-made`). Findings are known by their first byte: 17 is 11 in hexadecimal.
+
+-- The text is the findings, a line for each; and no other list of findings has that text.
+pub text-is : (sheet : List ℕ) → findings sheet ≡ joined (map hex (found-in sheet))
+text-is = findings-are
+
+pub text-says : (sheet : List ℕ) (fs : List (List ℕ)) → findings sheet ≡ joined (map hex fs) → fs ≡ found-in sheet
+text-says sheet fs e = same-text fs (found-in sheet) (sym e ∙ findings-are sheet)
 
 -- Each 11 is of a rule of the sheet, and says what `load` refused it with. If it says 4 or 6, no finite input matches that rule.
 pub each-11 : (sheet f t : List ℕ) → List·Memᴰ f (found-in sheet) → f ≡ 17 ∷ t →
