@@ -1,6 +1,6 @@
 -- The 15 and the 1F of a sheet. (The sets that lines end, in order: `sets-in`; how the reading ends: `whole-or-stops`, `not-both`.)
 use mathlib.Core.Path.{_≡_, refl, sym, ap, _∙_}
-use mathlib.Core.Option.{Option, none, some}
+use mathlib.Core.Option.{none, some}
 use mathlib.Core.Logic.{_↔_, _⊎_, inl, inr}
 use mathlib.Core.List.{List, [], _∷_, _++_, map, List·Memᴰ, List·Memᴰ·head, List·Memᴰ·append-cases, List·Memᴰ·eq-of-singleton, List·Memᴰ·not-nil}
 use Prim.Native.Nat.{ℕ, suc, _+_}
@@ -15,39 +15,12 @@ use Rattle.paper.specs.Loading.{Set}
 use Rattle.paper.specs.Terms.{cyclic-findings}
 use Rattle.paper.specs.Layout.{Lines, nothing, unended, line, lines}
 use Rattle.paper.specs.Sheets.{Open, outside, at-sites, at-rules, at-items, Ended, Reader, start, Stepped, term-found, end-found, stop-found, set-ended, step, sheet-ended, read-on}
+use Rattle.meaning_shipped.specs.Words.{Reads, Stands-at, Closed, Read-whole, Stops, Stopped, found-in, open-set, ended-by, sets-from, sets-in, rules-of, first, next}
 use Rattle.meaning_shipped.specs.Reports.{to-left, to-right}
-use Rattle.meaning_shipped.specs.Line.{Stands-at, MadeOpen, Does, stops, begins, adds, waits, keeps, refuses, ends, step-does}
-use Rattle.meaning_shipped.specs.Reader.{Reads, first, next, Read-whole, reads-made, Closed, Stops, Inside, inside}
-use Rattle.meaning_shipped.specs.Says.{found-in, is-count, is-stop, stays-found}
-use Rattle.meaning_shipped.specs.Cycles.{final, final-next, reads-final, at-end}
-
--- the open set, where there is one
-abbrev pub open-set : Open → List Set
-open-set outside = []
-open-set (at-sites g) = g ∷ []
-open-set (at-rules g) = g ∷ []
-open-set (at-items g r left) = g ∷ []
-
--- the set that a line ends: it was open before the line, and none is open after it
-abbrev pub ended-by : Open → Open → List Set
-ended-by o outside = open-set o
-ended-by o (at-sites g) = []
-ended-by o (at-rules g) = []
-ended-by o (at-items g r left) = []
-
--- the sets that these lines end, in order, up to where the reader stops
-unfoldable pub sets-from : Reader → ℕ → Lines → List Set
-sets-from d at nothing = []
-sets-from d at (unended l) = []
-sets-from d at (line l rest) = elim (step d at l) [ done s ↦ ended-by (d .stands) (s .after .stands) ++ sets-from (s .after) (suc at) rest | refused x ↦ [] ]
-
-abbrev pub sets-in : List ℕ → List Set
-sets-in sheet = sets-from start 1 (lines sheet)
-
--- how many rules they keep
-unfoldable pub rules-of : List Set → ℕ
-rules-of [] = 0
-rules-of (g ∷ gs) = length (g .kept) + rules-of gs
+use Rattle.meaning_shipped.specs.Line.{MadeOpen, Does, stops, begins, adds, waits, keeps, refuses, ends, step-does}
+use Rattle.meaning_shipped.specs.Reader.{reads-made, Inside, inside}
+use Rattle.meaning_shipped.specs.Says.{is-count, is-stop, stays-found}
+use Rattle.meaning_shipped.specs.Cycles.{final, reads-final, at-end}
 
 rules-append : (gs hs : List Set) → rules-of (gs ++ hs) ≡ rules-of gs + rules-of hs
 unfolding rules-of
@@ -190,9 +163,6 @@ count-there sheet (z, at, R, o) = let q = end-is R in rw (← q) (stays-found R 
         (end-found (z .ended)) (List·Memᴰ·head refl))
 
 -- ---- stopped
-abbrev pub Stopped : List ℕ → ℕ → Refusal → Type 0
-Stopped sheet at x = (d : Reader) × (ls : Lines) × Reads sheet d at ls × Stops d at ls x
-
 pub each-stop : (sheet f t : List ℕ) → List·Memᴰ f (found-in sheet) → f ≡ 31 ∷ t → (at : ℕ) × (x : Refusal) × Stopped sheet at x × (f ≡ stop-found at x)
 each-stop sheet f t m e = let k = is-stop sheet f m t e in (k .1, k .3, (k .0, k .2, k .4, k .5), k .6)
 

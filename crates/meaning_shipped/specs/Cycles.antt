@@ -1,8 +1,8 @@
 -- A sheet that is read to its end has its 14s: the proofs. (Reading is a function, so the sets that lines end are those that the end knows.)
-use mathlib.Core.Path.{_≡_, refl, sym, ap, _∙_}
-use mathlib.Core.Bool.{Bool, true, false, _&&_, not}
+use mathlib.Core.Path.{_≡_, refl, sym, _∙_}
+use mathlib.Core.Bool.{false, _&&_, not}
 use mathlib.Core.Option.{Option, none, some}
-use mathlib.Core.List.{List, [], _∷_, _++_, map, List·Memᴰ, List·Memᴰ·head}
+use mathlib.Core.List.{List, [], _∷_, map, List·Memᴰ, List·Memᴰ·head}
 use Prim.Native.Nat.{ℕ, suc}
 use Rattle.paper.specs.Words.{keep, Walk, one, more, returns}
 use Rattle.paper.proofs.Walks.{returns-is}
@@ -16,10 +16,11 @@ use Rattle.paper.specs.Layout.{Lines, nothing, unended, line, lines}
 use Rattle.paper.specs.Sheets.{outside, Ended, Reader, start, Stepped, term-found, end-found, set-ended, step, read-on}
 use Rattle.term_table.proofs.Ascending.{mem-ascending}
 use Rattle.meaning.specs.Checks.{in-joined}
+use Rattle.meaning_shipped.specs.Words.{Reads, Closed, Read-whole, found-in, Calls, Chain, first, next, one-call, then-call}
 use Rattle.meaning_shipped.specs.Reports.{map-to, to-left, to-right}
 use Rattle.meaning_shipped.specs.Line.{MadeOpen, Does, stops, begins, adds, waits, keeps, refuses, ends, step-does, Stays, step-stays}
-use Rattle.meaning_shipped.specs.Reader.{Reads, first, next, Read-whole, reads-made, Closed}
-use Rattle.meaning_shipped.specs.Says.{found-in, Calls, Chain, one-call, then-call, stays-found}
+use Rattle.meaning_shipped.specs.Reader.{reads-made}
+use Rattle.meaning_shipped.specs.Says.{stays-found}
 
 -- the reader behind the last line, where no line stops the sheet
 unfoldable pub final : Reader → ℕ → Lines → Option Reader

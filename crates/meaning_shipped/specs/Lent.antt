@@ -24,15 +24,16 @@ use Rattle.paper.specs.Sites.{Extends}
 use Rattle.rule_words.specs.Stored.{base, stride, run, kept-in, kept-first}
 use Rattle.site_slots.specs.Seeking.{slot}
 use Rattle.sites.specs.Slots.{sites-in}
-use Rattle.rule_load.specs.Whole.{set-in, load-in, sites-after, words-after}
+use Rattle.rule_load.specs.Whole.{set-in, load-in, words-after}
 use Rattle.rule_load.proofs.Ranging.{RuleFits}
 use Rattle.rule_load.proofs.Afterwards.{after-sites, after-kept}
 use Rattle.meaning.specs.RuleSites.{rule-sites, Four-or-six, Only-four-or-six, Refused-four-or-six, Same-on}
 use Rattle.meaning.specs.Clear.{clear-refused}
 use Rattle.meaning.specs.Demand3.{Unmatched, Keeps, Holds-equal, demand-2, demand-2-old, demand-3, demand-4}
 use Rattle.meaning.specs.Answers as A
+use Rattle.meaning_shipped.specs.Words.{sites-now, rule-now, MadeIn}
 use Rattle.meaning_shipped.specs.Keeping.{loaded-so, kept-last}
-use Rattle.meaning_shipped.specs.Made.{MadeIn, made-in, sites-now, rule-now}
+use Rattle.meaning_shipped.specs.Made.{made-in}
 
 -- ---- the kept rules in the words
 run-at : {A : Type 0} (f : ℕ → A) (d : A) (j k i : ℕ) → i < k → getD (run f j k) i d ≡ f (j + i)

@@ -1,5 +1,6 @@
--- What the shipped functions' answers mean. Shipped is the page of statements; the others are its words and its proofs.
+-- What the shipped functions' answers mean. Shipped is the page of statements, and Words has its words; the others are proofs.
 pub mod Shipped
+pub mod Words
 -- lent memory that calls made
 pub mod Keeping
 pub mod Made

@@ -16,13 +16,7 @@ use Rattle.paper.specs.Sites.{Site, Added, same-site, add}
 use Rattle.paper.specs.Loading.{Written, Set, Made, begun, site-added, rule-loaded, empty-set, with-sites, load}
 use Rattle.paper.specs.Layout.{Frame, begin-set, a-site, a-rule, an-item, end-set, frame-of}
 use Rattle.paper.specs.Sheets.{Open, outside, at-sites, at-rules, at-items, Reader, Stepped, stepped, refusal-found, rule-read, items-left, with-item, set-begun, site-read-in, rule-begun, set-ended, item-read, act, act-on, step}
-
--- the open set is g
-abbrev pub Stands-at : Open → Set → Type 0
-Stands-at outside g = ⊥
-Stands-at (at-sites h) g = h ≡ g
-Stands-at (at-rules h) g = h ≡ g
-Stands-at (at-items h r left) g = h ≡ g
+use Rattle.meaning_shipped.specs.Words.{Stands-at, Completes, bare-first, bare, last}
 
 -- the open set, where there is one, is made; of an open rule an item is still to come
 abbrev pub MadeOpen : Open → Type 0
@@ -36,13 +30,6 @@ made-at outside g M h = absurd h
 made-at (at-sites x) g M h = rw h at M
 made-at (at-rules x) g M h = rw h at M
 made-at (at-items x r n) g M h = rw h at (M .0)
-
--- The line completes the rule r of the open set g: a rule line without items, or the last item of an open rule.
-pub data Completes (d : Reader) (l : List ℕ) (g : Set) : Written → Type 0 where
-  bare-first : (p q : ℕ) → d .stands ≡ at-sites g → frame-of l ≡ some (a-rule p q 0) →
-      Completes d l g (record { place = p; priority = q; count = 0; items = [] })
-  bare : (p q : ℕ) → d .stands ≡ at-rules g → frame-of l ≡ some (a-rule p q 0) → Completes d l g (record { place = p; priority = q; count = 0; items = [] })
-  last : (r : Written) (i : Item) → d .stands ≡ at-items g r 1 → frame-of l ≡ some (an-item i) → Completes d l g (with-item r i)
 
 pub completes-at : (d : Reader) (l : List ℕ) (g : Set) (r : Written) → Completes d l g r → Stands-at (d .stands) g
 completes-at d l g r (bare-first p q h f) = rw h refl

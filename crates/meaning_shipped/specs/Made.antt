@@ -11,12 +11,12 @@ use Rattle.paper.specs.declared.Rule.{Rule}
 use Rattle.paper.specs.declared.Refusal.the-variants.{TooManySites}
 use Rattle.paper.specs.Words.{below}
 use Rattle.paper.specs.Numbers.{max-items, Outcome, done, refused}
-use Rattle.paper.specs.Sites.{Site, Sites, Sound, Added, add}
-use Rattle.paper.specs.Loading.{Set, Kept, written, Made, begun, site-added, rule-loaded, empty-set, with-sites, with-rule}
+use Rattle.paper.specs.Sites.{Site, Sound, Added, add}
+use Rattle.paper.specs.Loading.{Set, written, Made, begun, site-added, rule-loaded, empty-set, with-sites, with-rule}
 use Rattle.paper.specs.Layout.{whole, site-read}
 use Rattle.paper.proofs.Outcomes.{not-refused, done-once, bind-done, demand-done}
 use Rattle.paper.proofs.Making.{made-sound}
-use Rattle.rule_words.specs.Stored.{run, kept-in, kept-first}
+use Rattle.rule_words.specs.Stored.{run, kept-first}
 use Rattle.site_slots.specs.Seeking.{slot}
 use Rattle.sites.specs.Slots.{sites-in, held-by, add-body, added-in, after-add}
 use Rattle.sites.proofs.After.{count-add, after-add-is}
@@ -25,34 +25,8 @@ use Rattle.item_words.proofs.Laws.{rule-written, items-ranged}
 use Rattle.rule_load.specs.Whole.{set-in, load-in, sites-after, words-after}
 use Rattle.rule_load.proofs.Ranging.{RuleFits, ItemFits}
 use Rattle.rule_load.proofs.Afterwards.{kept-comes, after-sites, after-kept}
+use Rattle.meaning_shipped.specs.Words.{sites-then, rules-then, MadeIn, started, site-in, loaded-in}
 use Rattle.meaning_shipped.specs.Keeping.{loaded-so}
-
--- how many sites and how many rules there are after a rule was loaded or refused
-abbrev pub sites-then : ℕ → Outcome Set → ℕ
-sites-then n (done g) = length (g .sites)
-sites-then n (refused x) = n
-
-abbrev pub rules-then : ℕ → Outcome Set → ℕ
-rules-then k (done g) = suc k
-rules-then k (refused x) = k
-
--- the sites after a call that kept its rule, in the bytes that it left
-abbrev pub sites-now : List ℕ → ℕ → Set → Sites
-sites-now m n g = sites-in (sites-after m n (done g)) (length (g .sites))
-
--- and the rule that it kept, in its words
-abbrev pub rule-now : List ℕ → ℕ → Set → Kept
-rule-now ws k g = kept-in (words-after ws k (done g)) k
-
--- Memory begins with no site and no rule, whatever its bytes. A call of `sites::add` with any bytes, or of `rule_load::load` with any rule, goes on from
--- memory that calls made. `RuleFits` says what the types of `load`'s rule say: the place is a u32, the priority a u64, and of each item's constraint the
--- type, variant and name are u16 and the field count a u8.
-pub data MadeIn : List ℕ → ℕ → List ℕ → ℕ → Type 0 where
-  started : (m ws : List ℕ) → MadeIn m 0 ws 0
-  site-in : {m : List ℕ} {n : ℕ} {ws : List ℕ} {k : ℕ} (at : ℕ) (b : List ℕ) (a : Added) → MadeIn m n ws k → added-in m n at b ≡ done a →
-      MadeIn (after-add m n (done a)) (length (a .sites)) ws k
-  loaded-in : {m : List ℕ} {n : ℕ} {ws : List ℕ} {k : ℕ} (r : Rule) (g : Set) → MadeIn m n ws k → RuleFits r → load-in m n ws k r ≡ done g →
-      MadeIn (sites-after m n (done g)) (length (g .sites)) (words-after ws k (done g)) (suc k)
 
 -- ---- any answer: a refused call changes nothing
 pub after-adding : (m : List ℕ) (n : ℕ) (ws : List ℕ) (k at : ℕ) (b : List ℕ) → MadeIn m n ws k →

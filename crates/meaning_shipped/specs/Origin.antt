@@ -1,6 +1,6 @@
 -- Each kept rule of a made set came from a rule that was handed over, and matches its inputs, however the set grew since: the proofs.
-use mathlib.Core.Path.{_≡_, refl, sym, ap, _∙_}
-use mathlib.Core.Bool.{Bool, true, false, not}
+use mathlib.Core.Path.{_≡_, sym, ap, _∙_}
+use mathlib.Core.Bool.{false, not}
 use mathlib.Core.Logic.{_↔_, _⊎_, inl, inr}
 use mathlib.Core.List.{[], _∷_, _++_, List·Memᴰ, List·Memᴰ·append-cases, List·Memᴰ·eq-of-singleton}
 use Prim.Native.Nat.{ℕ, suc}
@@ -18,19 +18,10 @@ use Rattle.paper.proofs.Making.{made-sound}
 use Rattle.paper.specs.Sites.{Extends}
 use Rattle.paper.proofs.Adding.{add-extends}
 use Rattle.meaning.specs.Grow.{input-part}
-use Rattle.meaning.specs.Demand3.{Keeps, demand-2, demand-2-old}
+use Rattle.meaning.specs.Demand3.{demand-2, demand-2-old}
 use Rattle.meaning.specs.Answers.{last-kept}
 use Rattle.meaning.specs.Lists.{in-any}
-
--- k is what was kept of r, when a call loaded r into a made set; g grew from the set that this call left
-pub record From (g : Set) (k : Kept) (r : Written) : Type 0 where
-  pub before : Set
-  pub after : Set
-  pub made : Made before
-  pub keeps : Keeps before r after k
-  pub place : k .place ≡ r .place
-  pub priority : k .priority ≡ r .priority
-  pub grew : Extends (after .sites) (g .sites)
+use Rattle.meaning_shipped.specs.Words.{From}
 
 further : (g h : Set) (k : Kept) (r : Written) → Extends (g .sites) (h .sites) → From g k r → From h k r
 further g h k r x f = record {

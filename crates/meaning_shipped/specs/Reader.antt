@@ -1,7 +1,6 @@
 -- Every set that the reader holds is made, of rules of the sheet, and every finding comes from one: the proofs.
 use mathlib.Core.Path.{_≡_, refl, sym, _∙_}
 use mathlib.Core.Bool.{Bool, true, false}
-use mathlib.Core.Option.{some}
 use mathlib.Core.Logic.{_↔_, _⊎_, inl, inr}
 use mathlib.Core.List.{List, [], _∷_, _++_, map, List·Memᴰ, List·Memᴰ·append-cases, List·Memᴰ·eq-of-singleton}
 use Prim.Native.Nat.{ℕ, suc}
@@ -16,56 +15,20 @@ use Rattle.paper.specs.Sites.{Extends}
 use Rattle.paper.proofs.Adding.{add-extends}
 use Rattle.paper.specs.Rules.{Listed, report}
 use Rattle.paper.specs.Terms.{Head, head-of, edges-of, cyclic-findings}
-use Rattle.paper.specs.Layout.{Lines, nothing, unended, line, lines, end-set, frame-of}
-use Rattle.paper.specs.Sheets.{Open, outside, at-sites, at-rules, at-items, Ended, Reader, start, Stepped, refusal-found, listed-found, term-found, end-found, stop-found, rule-read, set-ended, step, sheet-ended, read-on}
+use Rattle.paper.specs.Layout.{Lines, nothing, unended, line}
+use Rattle.paper.specs.Sheets.{Open, outside, at-sites, at-rules, at-items, Ended, Reader, Stepped, refusal-found, listed-found, term-found, end-found, stop-found, rule-read, set-ended, step, sheet-ended, read-on}
 use Rattle.meaning.specs.Grow.{input-part}
-use Rattle.meaning.specs.Demand3.{Keeps, demand-2, demand-2-old}
+use Rattle.meaning.specs.Demand3.{demand-2, demand-2-old}
 use Rattle.meaning.specs.Answers.{last-kept}
 use Rattle.sheet_lines.specs.Fed as pieces
 use Rattle.sheet_lines.specs.Fed.{Reading, going, stopped, after-line, fed, fed-all}
+use Rattle.meaning_shipped.specs.Words.{Reads, Stands-at, Completes, Asked, Closed, Came, Stops, first, next}
 use Rattle.meaning_shipped.specs.Reports.{map-from}
-use Rattle.meaning_shipped.specs.Line.{Stands-at, MadeOpen, made-at, Completes, completes-at, Does, stops, begins, adds, waits, keeps, refuses, ends, step-does, Stays, step-stays}
-
--- ---- reading a sheet, line by line: before line `at` the reader is d, and these lines are to come
-pub data Reads (sheet : List ℕ) : Reader → ℕ → Lines → Type 0 where
-  first : Reads sheet start 1 (lines sheet)
-  next : {d : Reader} {at : ℕ} {l : List ℕ} {rest : Lines} (s : Stepped) → Reads sheet d at (line l rest) → step d at l ≡ done s →
-      Reads sheet (s .after) (suc at) rest
+use Rattle.meaning_shipped.specs.Line.{MadeOpen, made-at, completes-at, Does, stops, begins, adds, waits, keeps, refuses, ends, step-does, Stays, step-stays}
 
 pub reads-made : {sheet : List ℕ} {d : Reader} {at : ℕ} {ls : Lines} → Reads sheet d at ls → MadeOpen (d .stands)
 reads-made first = tt
 reads-made (next {d = d} {at = at} {l = l} s R e) = let G : Stays (done s) = rw e at (step-stays d at l (reads-made R)) in G
-
--- The reader comes to the end of the sheet, outside of a set: so a 15 ends the findings.
-abbrev pub Read-whole : List ℕ → Type 0
-Read-whole sheet = (z : Reader) × (at : ℕ) × Reads sheet z at nothing × (z .stands ≡ outside)
-
--- The reader stops before these lines with x: it refuses the first of them, or that has no end (1), or no line is left and a set is open (1).
-abbrev pub Stops : Reader → ℕ → Lines → Refusal → Type 0
-Stops d at (line l rest) x = step d at l ≡ refused x
-Stops d at (unended l) x = x ≡ Layout at
-Stops d at nothing x = (d .stands ≡ outside → ⊥) × (x ≡ Layout at)
-
--- A line of the sheet completes the rule r of the open set g.
-pub record Asked (sheet : List ℕ) (g : Set) (r : Written) : Type 0 where
-  pub reader : Reader
-  pub at : ℕ
-  pub text : List ℕ
-  pub rest : Lines
-  pub reads : Reads sheet reader at (line text rest)
-  pub completes : Completes reader text g r
-  pub asks : step reader at text ≡ rule-read (reader .ended) g r
-
--- A line of the sheet ends the open set g.
-pub record Closed (sheet : List ℕ) (g : Set) : Type 0 where
-  pub reader : Reader
-  pub at : ℕ
-  pub text : List ℕ
-  pub rest : Lines
-  pub reads : Reads sheet reader at (line text rest)
-  pub stands : Stands-at (reader .stands) g
-  pub frame : frame-of text ≡ some end-set
-  pub ends : step reader at text ≡ set-ended (reader .ended) g
 
 pub asked-made : {sheet : List ℕ} {g : Set} {r : Written} → Asked sheet g r → Made g
 asked-made {g = g} {r = r} a = made-at (a .reader .stands) g (reads-made (a .reads)) (completes-at (a .reader) (a .text) g r (a .completes))
@@ -74,16 +37,6 @@ pub closed-made : {sheet : List ℕ} {g : Set} → Closed sheet g → Made g
 closed-made {g = g} c = made-at (c .reader .stands) g (reads-made (c .reads)) (c .stands)
 
 -- ---- each kept rule came from a rule of the sheet
--- k, of the set g, is what was kept of r, which the sheet handed to the set as it was then; g grew from what that left
-pub record Came (sheet : List ℕ) (g : Set) (k : Kept) (r : Written) : Type 0 where
-  pub before : Set
-  pub after : Set
-  pub asked : Asked sheet before r
-  pub keeps : Keeps before r after k
-  pub place : k .place ≡ r .place
-  pub priority : k .priority ≡ r .priority
-  pub grew : Extends (after .sites) (g .sites)
-
 abbrev AllCame : List ℕ → Set → Type 0
 AllCame sheet g = (k : Kept) → List·Memᴰ k (g .kept) → (r : Written) × Came sheet g k r
 

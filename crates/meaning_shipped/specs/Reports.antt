@@ -4,7 +4,7 @@ use mathlib.Core.Bool.{Bool, true, false, _&&_, not}
 use mathlib.Core.Option.{Option, none, some}
 use mathlib.Core.Logic.{_⊎_, inl, inr}
 use mathlib.Core.List.{List, [], _∷_, _++_, map, List·Memᴰ, List·Memᴰ·head, List·Memᴰ·tail, List·Memᴰ·append-cases, Memᴰ·append-left, Memᴰ·append-right, List·Memᴰ·eq-of-singleton, List·Memᴰ·not-nil}
-use Prim.Native.Nat.{ℕ, zero, suc, _+_, _<_}
+use Prim.Native.Nat.{ℕ, zero, suc, _<_}
 use native.Mathlib.Omega.{arith}
 use lib.ListN.{length, getD, List·getD-map}
 use lib.Dec.{eqb, ltb, leb}
@@ -30,6 +30,7 @@ use Rattle.meaning.specs.Checks.{of-joined, in-joined}
 use Rattle.meaning.specs.Lists.{of-any, in-any}
 use Rattle.meaning.specs.Items.{same-constraint-refl}
 use Rattle.meaning.specs.Pairs.{made-stands}
+use Rattle.meaning_shipped.specs.Words.{Overlaps, Pair}
 
 -- ---- lists
 pub map-from : {A B : Type 0} (f : A → B) (xs : List A) (y : B) → List·Memᴰ y (map f xs) → (x : A) × List·Memᴰ x xs × (y ≡ f x)
@@ -270,10 +271,6 @@ edge-from a b p d = let q = eq-eqb (a .priority) (b .priority) p in rw q (go (ma
     go Yes f = refl
     go Subset f = refl
 
--- an edge: equal priorities, and the answer is not No
-abbrev pub Overlaps : Kept → Kept → Type 0
-Overlaps a b = (a .priority ≡ b .priority) × (may-overlap a b ≡ No → ⊥)
-
 module _ (g : Set) (M : Made g) (a b : Kept) (in-a : List·Memᴰ a (g .kept)) (in-b : List·Memᴰ b (g .kept)) where
   rising-a : Rising 0 (a .constraints)
   rising-a = made-stands M a in-a .rising
@@ -306,10 +303,6 @@ counted j xs h = go (keep (eqb j) xs) refl h
     go : (l : List ℕ) → keep (eqb j) xs ≡ l → 0 < length l → List·Memᴰ j xs
     go [] e q = absurd (omega arith)
     go (x ∷ l) e q = let w = of-keep (eqb j) xs x (rw e (List·Memᴰ·head refl)) in let z = eqb-true j x (w .1) in rw z (w .0)
-
--- a list names a pair: one stands first, the other behind it
-abbrev pub Pair : ℕ → ℕ → ℕ → List ℕ → Type 0
-Pair x y p ns = ((p ≡ x) × List·Memᴰ y ns) ⊎ ((p ≡ y) × List·Memᴰ x ns)
 
 named-pair : (i j : ℕ) (l : ℕ × List ℕ) → 0 < named-in i j l → Pair i j (l .0) (l .1)
 unfolding named-in

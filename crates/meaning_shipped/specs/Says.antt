@@ -1,14 +1,14 @@
 -- The sheet part of Shipped.antt: the proofs.
 use mathlib.Core.Path.{_≡_, refl, sym, ap, _∙_}
-use mathlib.Core.Bool.{Bool, true, false, _&&_, not}
+use mathlib.Core.Bool.{true, false, _&&_, not}
 use mathlib.Core.Option.{Option, none, some}
-use mathlib.Core.Logic.{_↔_, _⊎_, inl, inr}
+use mathlib.Core.Logic.{_⊎_, inl, inr}
 use mathlib.Core.List.{List, [], _∷_, _++_, map, List·Memᴰ, List·Memᴰ·head, List·Memᴰ·eq-of-singleton, List·Memᴰ·not-nil}
 use Prim.Native.Nat.{ℕ, suc, _<_}
 use native.Mathlib.Omega.{arith}
 use Rattle.paper.specs.declared.Refusal.{Refusal}
 use Rattle.paper.specs.Numbers.{done, refused}
-use Rattle.paper.specs.Inputs.{Given, Input, Matches, MatchesKept}
+use Rattle.paper.specs.Inputs.{Given, Input, Matches}
 use Rattle.paper.specs.Loading.{Written, Set, Kept, load}
 use Rattle.paper.proofs.Lists.{and-both, not-true}
 use Rattle.paper.proofs.Making.{made-sound}
@@ -28,22 +28,10 @@ use Rattle.meaning.specs.Pairs.{masks-covers}
 use Rattle.meaning.specs.Overlaps.{else-common}
 use Rattle.meaning.specs.Checks.{of-joined}
 use Rattle.meaning.specs.Answers as A
-use Rattle.meaning_shipped.specs.Reports.{Edge, Overlaps, Pair, Reported, overlapping, masking, reported, masked-so, edge-so, overlap-there, mask-there, map-from, map-to, to-left, to-right}
+use Rattle.meaning_shipped.specs.Words.{Reads, Asked, Closed, Read-whole, Stops, found-in, Rule-of, Common, Overlaps, Pair, Calls, Chain, first, next, one-call, then-call}
+use Rattle.meaning_shipped.specs.Reports.{Edge, Reported, overlapping, masking, reported, masked-so, edge-so, overlap-there, mask-there, map-from, map-to, to-left, to-right}
 use Rattle.meaning_shipped.specs.Origin.{made-places}
-use Rattle.meaning_shipped.specs.Reader.{reads-ended, Reads, first, next, Read-whole, Stops, Asked, asked-made, Closed, closed-made, Came, closed-came, came-same, Finding, refusal, listed, term, counts, stop, each-finding}
-
--- the findings of a sheet, each as its bytes
-abbrev pub found-in : List ℕ → List (List ℕ)
-found-in sheet = read-on start 1 (lines sheet)
-
--- The rule with place p of a set that the sheet ends: as the set keeps it, and as the sheet wrote it. Both match the same inputs of the set.
-pub record Rule-of (sheet : List ℕ) (g : Set) (p : ℕ) : Type 0 where
-  pub kept : Kept
-  pub there : List·Memᴰ kept (g .kept)
-  pub place : kept .place ≡ p
-  pub rule : Written
-  pub came : Came sheet g kept rule
-  pub same : (at : Given) → Input (g .sites) at → Matches at (rule .items) ↔ MatchesKept at kept
+use Rattle.meaning_shipped.specs.Reader.{reads-ended, asked-made, closed-made, closed-came, came-same, Finding, refusal, listed, term, counts, stop, each-finding}
 
 rule-of : (sheet : List ℕ) (g : Set) → Closed sheet g → (k : Kept) → List·Memᴰ k (g .kept) → (p : ℕ) → k .place ≡ p → Rule-of sheet g p
 rule-of sheet g c k m p e = let x = closed-came c k m in record { kept = k; there = m; place = e; rule = x .0; came = x .1; same = came-same (x .1) }
@@ -184,14 +172,6 @@ module _ (sheet f : List ℕ) (m : List·Memᴰ f (found-in sheet)) where
       go (inr (inr (inr (inr q)))) = q .0
 
 -- ---- 14
--- a set of the sheet, of the term a, has a site that calls the term b; and such calls one after the other
-abbrev pub Calls : List ℕ → ℕ → ℕ → Type 0
-Calls sheet a b = (g : Set) × Closed sheet g × (g .term ≡ a) × (s : Site) × List·Memᴰ s (g .sites) × (term-of s ≡ some b)
-
-pub data Chain (sheet : List ℕ) : ℕ → ℕ → Type 0 where
-  one-call : {a b : ℕ} → Calls sheet a b → Chain sheet a b
-  then-call : {a b c : ℕ} → Calls sheet a b → Chain sheet b c → Chain sheet a c
-
 edge-calls : (sheet : List ℕ) (g : Set) → Closed sheet g → (a b : ℕ) → List·Memᴰ (a, b) (edges-of g) → Calls sheet a b
 unfolding edges-of
 edge-calls sheet g c a b m =
@@ -232,10 +212,6 @@ each-term sheet f t m e =
     )
 
 -- ---- 12 and 13
--- both rules match some input
-abbrev pub Common : {sheet : List ℕ} {g : Set} {p q : ℕ} → Rule-of sheet g p → Rule-of sheet g q → Type 0
-Common {g = g} a b = (at : Given) × Input (g .sites) at × Matches at (a .rule .items) × Matches at (b .rule .items)
-
 pub record Overlapped (sheet f : List ℕ) : Type 0 where
   pub set : Set
   pub closed : Closed sheet set

@@ -1,6 +1,7 @@
 -- What the shipped functions' answers mean. `lintel_load` answers `load-in`, `lintel_may_overlap` `may-overlap` of two `kept-in`, `lintel_sheet_check`
 -- `findings`: their contracts say so. Lent memory is `MadeIn m n ws k` if it began with no site and no rule, whatever its bytes, and only `lintel_add_site`
--- and `lintel_load` wrote to it since: m holds n sites, ws holds k kept rules (Made.antt: `started`, `after-adding`, `after-handing`).
+-- and `lintel_load` wrote to it since: m holds n sites, ws holds k kept rules (Words.antt has its definition and the others of this page; Made.antt, that
+-- each call keeps it, whatever its answer: `after-adding`, `after-loading`, `after-handing`).
 use mathlib.Core.Path.{_≡_, sym, _∙_}
 use mathlib.Core.Bool.{true, false}
 use mathlib.Core.Option.{none, some}
@@ -28,16 +29,14 @@ use Rattle.rule_load.proofs.Ranging.{RuleFits}
 use Rattle.meaning.specs.RuleSites.{rule-sites, Four-or-six, Only-four-or-six, Refused-four-or-six, Same-on}
 use Rattle.meaning.specs.Demand3.{Unmatched, Holds-equal}
 use Rattle.meaning.specs.Overlaps as O
-use Rattle.meaning_shipped.specs.Made.{MadeIn, made-in, sites-now, rule-now}
+use Rattle.meaning_shipped.specs.Words.{sites-now, rule-now, MadeIn, From, Asked, Closed, Read-whole, Stopped, found-in, Rule-of, Common, Overlaps, Pair, Chain, sets-in, rules-of}
+use Rattle.meaning_shipped.specs.Made.{made-in}
 use Rattle.meaning_shipped.specs.Lent as L
-use Rattle.meaning_shipped.specs.Origin.{From, made-from, from-same}
-use Rattle.meaning_shipped.specs.Reader.{Asked, Closed, Read-whole}
-use Rattle.meaning_shipped.specs.Reports.{Overlaps, Pair}
-use Rattle.meaning_shipped.specs.Says.{found-in, Rule-of, Common, Chain, each-refusal, unmatched-11, is-overlap, is-mask, named-12, named-13, each-term, findings-are}
+use Rattle.meaning_shipped.specs.Origin.{made-from, from-same}
+use Rattle.meaning_shipped.specs.Says.{each-refusal, unmatched-11, is-overlap, is-mask, named-12, named-13, each-term, findings-are}
 use Rattle.meaning_shipped.specs.Cycles.{cyclic-there}
 use Rattle.meaning_shipped.specs.Text.{same-text}
 use Rattle.meaning_shipped.specs.Counts as C
-use Rattle.meaning_shipped.specs.Counts.{sets-in, rules-of, Stopped}
 
 -- ---- loading a rule into lent memory that the calls made
 module _ (m : List ℕ) (n : ℕ) (ws : List ℕ) (k : ℕ) (M : MadeIn m n ws k) (r : Rule) where
@@ -97,9 +96,9 @@ module _ (m : List ℕ) (n : ℕ) (ws : List ℕ) (k : ℕ) (M : MadeIn m n ws k
       ((at : Given) → Input (set-in m n ws k .sites) at → MatchesKept at (kept-in ws j) → MatchesKept at (kept-in ws i))
   subset-means = O.subset-exactly (set-in m n ws k) (made-in M) (kept-in ws i) (kept-in ws j) (L.kept-there m n ws k i hi) (L.kept-there m n ws k j hj)
 
--- ---- a sheet, any bytes. `found-in sheet` are its findings, each as its bytes. `Asked sheet g r`: a line of it
--- completes the rule r of the open set g. `Closed sheet g`: a line of it ends g. Every set that the reader holds is made (Reader.antt, `reads-made`; of
--- the shipped reader's memory, Memory.antt, `reader-made`). Findings are known by their first byte: 17 is 11 in hexadecimal.
+-- ---- a sheet, any bytes. `found-in sheet` are its findings, each as its bytes, and known by the first of them: 17 is 11 in hexadecimal. `Asked sheet g r`: a
+-- line of it completes the rule r of the open set g. `Closed sheet g`: a line of it ends g. Every set that the reader holds is made (Reader.antt,
+-- `reads-made`; of the shipped reader's memory, Memory.antt, `reader-made`).
 
 -- The text is the findings, a line for each; and no other list of findings has that text.
 pub text-is : (sheet : List ℕ) → findings sheet ≡ joined (map hex (found-in sheet))
@@ -164,7 +163,7 @@ pub has-14 : (sheet : List ℕ) → Read-whole sheet → (g : Set) → Closed sh
     List·Memᴰ (term-found (g .term)) (found-in sheet)
 has-14 = cyclic-there
 
--- `sets-in sheet` are the sets that lines of the sheet end, in order (Counts.antt), one for each such line.
+-- `sets-in sheet` are the sets that lines of the sheet end, in order, one for each such line.
 pub sets-are : (sheet : List ℕ) (g : Set) → List·Memᴰ g (sets-in sheet) ↔ Closed sheet g
 sets-are = C.those-closed
 
