@@ -24,14 +24,15 @@ use Rattle.paper.specs.Sites.{Extends}
 use Rattle.rule_words.specs.Stored.{base, stride, run, kept-in, kept-first}
 use Rattle.site_slots.specs.Seeking.{slot}
 use Rattle.sites.specs.Slots.{sites-in}
-use Rattle.rule_load.specs.Whole.{set-in, load-in, words-after}
+use Rattle.rule_load.specs.Whole.{set-in, load-in, sites-after, words-after}
 use Rattle.rule_load.proofs.Ranging.{RuleFits}
 use Rattle.rule_load.proofs.Afterwards.{after-sites, after-kept}
 use Rattle.meaning.specs.RuleSites.{rule-sites, Four-or-six, Only-four-or-six, Refused-four-or-six, Same-on}
 use Rattle.meaning.specs.Clear.{clear-refused}
 use Rattle.meaning.specs.Demand3.{Unmatched, Keeps, Holds-equal, demand-2, demand-2-old, demand-3, demand-4}
 use Rattle.meaning.specs.Answers as A
-use Rattle.meaning_shipped.specs.Words.{sites-now, rule-now, MadeIn}
+use Rattle.meaning.specs.Overlaps as O
+use Rattle.meaning_shipped.specs.Words.{sites-now, rule-now, MadeIn, loaded-in}
 use Rattle.meaning_shipped.specs.Keeping.{loaded-so, kept-last}
 use Rattle.meaning_shipped.specs.Made.{made-in}
 
@@ -104,6 +105,15 @@ module _ (m : List ℕ) (n : ℕ) (ws : List ℕ) (k : ℕ) (r : Rule) (M : Made
       go u (refused x) e = (x, e, others x e)
       go u (done g) e = absurd (kept-some g e u)
 
+  pub matched-done : Only-four-or-six (load-in m n ws k r) → (at : Given) → Input (rule-sites (set-in m n ws k) (written r)) at →
+      Matches at (written r .items) →
+      (g : Set) × (load-in m n ws k r ≡ done g)
+  matched-done others at I w = go (load-in m n ws k r) refl
+    where
+      go : (o : Outcome Set) → load-in m n ws k r ≡ o → (g : Set) × (load-in m n ws k r ≡ done g)
+      go (done g) e = (g, e)
+      go (refused x) e = absurd (refused-none x e (others x e) at I w)
+
   module _ (F : RuleFits r) (g : Set) (e : load-in m n ws k r ≡ done g) where
     lent-keeps : Keeps (set-in m n ws k) (written r) g (getD (g .kept) k no-rule)
     lent-keeps = kept-last m n ws k r g e
@@ -127,3 +137,11 @@ module _ (m : List ℕ) (n : ℕ) (ws : List ℕ) (k : ℕ) (r : Rule) (M : Made
         Holds-equal (rule-now ws k g) a b ↔ ((at : Given) → Input (sites-now m n g) at → Matches at (written r .items) → Agree at a b)
     lent-4 a b = let s = after-sites m n ws k r g e in rw s (rw (kept-rule m n ws k r g F e) at
         (demand-4 (set-in m n ws k) (written r) g (getD (g .kept) k no-rule) set-sound lent-keeps a b))
+
+    pub some-input : (at : Given) × Input (sites-now m n g) at × Matches at (written r .items)
+    unfolding set-in
+    some-input =
+        let N = loaded-in r g M F e in
+        let x = O.has-input _ (made-in N) (rule-now ws k g) (kept-there (sites-after m n (done g)) (length (g .sites)) (words-after ws k (done g)) (suc k) k
+        (omega arith)) in
+        (x .0, x .1, lent-2 (x .0) (x .1) .1 (x .2))

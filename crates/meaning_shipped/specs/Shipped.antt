@@ -1,7 +1,8 @@
 -- What the shipped functions' answers mean. `lintel_load` answers `load-in`, `lintel_may_overlap` `may-overlap` of two `kept-in`, `lintel_sheet_check`
--- `findings`: their contracts say so. Lent memory is `MadeIn m n ws k` if it began with no site and no rule, whatever its bytes, and only `lintel_add_site`
--- and `lintel_load` wrote to it since: m holds n sites, ws holds k kept rules (Words.antt has its definition and the others of this page; Made.antt, that
--- each call keeps it, whatever its answer: `after-adding`, `after-loading`, `after-handing`).
+-- `findings`, where all that is lent is long enough (else they say so and change nothing): their contracts say this. Lent memory is `MadeIn m n ws k` if it
+-- began with no site and no rule, whatever its bytes, and only `lintel_add_site` and `lintel_load` wrote to it since: m holds n sites, ws holds k kept rules.
+-- Words.antt has its definition and the others of this page; Made.antt, that each call keeps it, whatever its answer: `after-adding`, `after-loading`,
+-- `after-handing`.
 use mathlib.Core.Path.{_≡_, sym, _∙_}
 use mathlib.Core.Bool.{true, false}
 use mathlib.Core.Option.{none, some}
@@ -33,7 +34,7 @@ use Rattle.meaning_shipped.specs.Words.{sites-now, rule-now, MadeIn, Fro
 use Rattle.meaning_shipped.specs.Made.{made-in}
 use Rattle.meaning_shipped.specs.Lent as L
 use Rattle.meaning_shipped.specs.Origin.{made-from, from-same}
-use Rattle.meaning_shipped.specs.Says.{each-refusal, unmatched-11, is-overlap, is-mask, named-12, named-13, each-term, findings-are}
+use Rattle.meaning_shipped.specs.Says.{each-refusal, refusal-there, unmatched-11, is-overlap, is-mask, named-12, named-13, each-term, findings-are}
 use Rattle.meaning_shipped.specs.Cycles.{cyclic-there}
 use Rattle.meaning_shipped.specs.Text.{same-text}
 use Rattle.meaning_shipped.specs.Counts as C
@@ -48,9 +49,18 @@ module _ (m : List ℕ) (n : ℕ) (ws : List ℕ) (k : ℕ) (M : MadeIn m n ws k
   pub refused-exactly : Only-four-or-six (load-in m n ws k r) → Refused-four-or-six (load-in m n ws k r) ↔ Unmatched (set-in m n ws k) (written r)
   refused-exactly = L.lent-1 m n ws k r M
 
+  -- Of those, one that some input matches is kept.
+  pub matched-kept : Only-four-or-six (load-in m n ws k r) →
+      (at : Given) → Input (rule-sites (set-in m n ws k) (written r)) at → Matches at (written r .items) → (g : Set) × (load-in m n ws k r ≡ done g)
+  matched-kept = L.matched-done m n ws k r M
+
   -- A kept rule. `RuleFits` is what the rule's types give: place below 2^32, priority below 2^64, of a constraint type, variant and name below 2^16 and
   -- the field count below 2^8. Of a rule that C hands over, the place as uint32_t and the priority as uint64_t are enough (Made.antt, `handed-fits`).
   module _ (F : RuleFits r) (g : Set) (e : load-in m n ws k r ≡ done g) where
+    -- Some input matches it.
+    pub kept-matched : (at : Given) × Input (sites-now m n g) at × Matches at (written r .items)
+    kept-matched = L.some-input m n ws k r M F g e
+
     -- 2. The kept rule, as the words then hold it, matches exactly the inputs that the written rule matches, of the sites then held.
     pub kept-same : (at : Given) → Input (sites-now m n g) at → Matches at (written r .items) ↔ MatchesKept at (rule-now ws k g)
     kept-same = L.lent-2 m n ws k r M F g e
@@ -66,7 +76,7 @@ module _ (m : List ℕ) (n : ℕ) (ws : List ℕ) (k : ℕ) (M : MadeIn m n ws k
         (look (rule-now ws k g .constraints) i ≡ some c) ↔ ((at : Given) → Input (sites-now m n g) at → Matches at (written r .items) → Meets at i c)
     kept-shapes = L.lent-3 m n ws k r M F g e
 
-    -- 4. It holds two different unconstrained sites equal exactly if every matching input gives both the same value.
+    -- 4. It holds two different unconstrained sites equal exactly if every matching input gives both a value, and the same one.
     pub kept-equals : (a b : ℕ) → (a ≡ b → ⊥) → look (rule-now ws k g .constraints) a ≡ none → look (rule-now ws k g .constraints) b ≡ none →
         Holds-equal (rule-now ws k g) a b ↔ ((at : Given) → Input (sites-now m n g) at → Matches at (written r .items) → Agree at a b)
     kept-equals = L.lent-4 m n ws k r M F g e
@@ -80,9 +90,28 @@ module _ (m : List ℕ) (n : ℕ) (ws : List ℕ) (k : ℕ) (M : MadeIn m n ws k
       let x = made-from (made-in M) (kept-in ws i) (L.kept-there m n ws k i hi) in
       (x .0, x .1, from-same (set-in m n ws k) (kept-in ws i) (x .0) (x .1))
 
+  -- Some input matches it; it constrains a site, and holds two different unconstrained sites equal, exactly where all its inputs do, of the sites as they
+  -- are now.
+  pub rule-matched : (at : Given) × Input (set-in m n ws k .sites) at × MatchesKept at (kept-in ws i)
+  rule-matched = O.has-input (set-in m n ws k) (made-in M) (kept-in ws i) (L.kept-there m n ws k i hi)
+
+  pub rule-shapes : (s : ℕ) (c : Constraint) → (look (kept-in ws i .constraints) s ≡ some c) ↔
+      ((at : Given) → Input (set-in m n ws k .sites) at → MatchesKept at (kept-in ws i) → Meets at s c)
+  rule-shapes = O.forces-shape (set-in m n ws k) (made-in M) (kept-in ws i) (L.kept-there m n ws k i hi)
+
+  pub rule-equals : (a b : ℕ) → (a ≡ b → ⊥) → look (kept-in ws i .constraints) a ≡ none → look (kept-in ws i .constraints) b ≡ none →
+      Holds-equal (kept-in ws i) a b ↔ ((at : Given) → Input (set-in m n ws k .sites) at → MatchesKept at (kept-in ws i) → Agree at a b)
+  rule-equals = O.forces-equal (set-in m n ws k) (made-in M) (kept-in ws i) (L.kept-there m n ws k i hi)
+
   -- No: no input matches both.
   pub no-means : may-overlap (kept-in ws i) (kept-in ws j) ≡ No → (at : Given) → MatchesKept at (kept-in ws i) → MatchesKept at (kept-in ws j) → ⊥
   no-means = O.no-means (set-in m n ws k) (made-in M) (kept-in ws i) (kept-in ws j) (L.kept-there m n ws k i hi) (L.kept-there m n ws k j hj)
+
+  -- No, of two rules without equalities: exactly if no input matches both.
+  pub no-exactly : no-equals (kept-in ws i .equals) ≡ true → no-equals (kept-in ws j .equals) ≡ true →
+      (may-overlap (kept-in ws i) (kept-in ws j) ≡ No) ↔
+      ((at : Given) → Input (set-in m n ws k .sites) at → MatchesKept at (kept-in ws i) → MatchesKept at (kept-in ws j) → ⊥)
+  no-exactly = O.no-exactly (set-in m n ws k) (made-in M) (kept-in ws i) (kept-in ws j) (L.kept-there m n ws k i hi) (L.kept-there m n ws k j hj)
 
   -- Not No, of two rules without equalities: some input matches both.
   pub yes-means : no-equals (kept-in ws i .equals) ≡ true → no-equals (kept-in ws j .equals) ≡ true → (may-overlap (kept-in ws i) (kept-in ws j) ≡ No → ⊥) →
@@ -95,6 +124,17 @@ module _ (m : List ℕ) (n : ℕ) (ws : List ℕ) (k : ℕ) (M : MadeIn m n ws k
       (may-overlap (kept-in ws i) (kept-in ws j) ≡ Subset) ↔
       ((at : Given) → Input (set-in m n ws k .sites) at → MatchesKept at (kept-in ws j) → MatchesKept at (kept-in ws i))
   subset-means = O.subset-exactly (set-in m n ws k) (made-in M) (kept-in ws i) (kept-in ws j) (L.kept-there m n ws k i hi) (L.kept-there m n ws k j hj)
+
+  -- The same with j, which has more, in the first place.
+  pub subset-second : no-equals (kept-in ws i .equals) ≡ true → no-equals (kept-in ws j .equals) ≡ true →
+      length (kept-in ws i .constraints) < length (kept-in ws j .constraints) →
+      (may-overlap (kept-in ws j) (kept-in ws i) ≡ Subset) ↔
+      ((at : Given) → Input (set-in m n ws k .sites) at → MatchesKept at (kept-in ws j) → MatchesKept at (kept-in ws i))
+  subset-second = O.subset-exactly-second (set-in m n ws k) (made-in M) (kept-in ws i) (kept-in ws j) (L.kept-there m n ws k i hi) (L.kept-there m n ws k j hj)
+
+  -- If i masks j, j is never the rule that answers, for any input.
+  pub masked-silent : masks (kept-in ws i) (kept-in ws j) ≡ true → (at : Given) → O.Answers (set-in m n ws k .kept) at (kept-in ws j) → ⊥
+  masked-silent = O.masked-silent (set-in m n ws k .kept) (kept-in ws i) (kept-in ws j) (L.kept-there m n ws k i hi)
 
 -- ---- a sheet, any bytes. `found-in sheet` are its findings, each as its bytes, and known by the first of them: 17 is 11 in hexadecimal. `Asked sheet g r`: a
 -- line of it completes the rule r of the open set g. `Closed sheet g`: a line of it ends g. Every set that the reader holds is made (Reader.antt,
@@ -111,6 +151,11 @@ text-says sheet fs e = same-text fs (found-in sheet) (sym e ∙ findings-are she
 pub each-11 : (sheet f t : List ℕ) → List·Memᴰ f (found-in sheet) → f ≡ 17 ∷ t →
     (g : Set) × (r : Written) × (x : Refusal) × Asked sheet g r × (load g r ≡ refused x) × (f ≡ refusal-found (r .place) x) × (Four-or-six x → Unmatched g r)
 each-11 = each-refusal
+
+-- Each rule of the sheet that `load` refuses has its 11.
+pub refused-11 : (sheet : List ℕ) (g : Set) (r : Written) (x : Refusal) → Asked sheet g r → load g r ≡ refused x →
+    List·Memᴰ (refusal-found (r .place) x) (found-in sheet)
+refused-11 = refusal-there
 
 -- A rule of the sheet that no finite input matches, and that earns no other refusal, has an 11 with 4 or 6.
 pub has-11 : (sheet : List ℕ) (g : Set) (r : Written) → Asked sheet g r → Only-four-or-six (load g r) → Unmatched g r →
