@@ -33,7 +33,8 @@ extern "C" {
 #define LINTEL_PART(n) static n
 #endif
 
-/* The version of this header and of its archive. It grows where a caller may have to change something. All names here are macros that #if can use. */
+/* The version of this header and of its archive. It grows where a caller may have to change something. What has a number here is a macro, so that #if can
+ * use it. */
 #define LINTEL_VERSION 4
 
 /* 01's limits. */

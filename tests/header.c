@@ -51,7 +51,7 @@ static void slots(void) {
     so(lintel_add_site(sites, sizeof sites, 0, argument, sizeof argument, 1, answer, LINTEL_ANSWER) == LINTEL_DONE && answer[1] == 1, "a site is added");
     so(sites[0] == 2 && marked(sites, 3, sizeof sites) == sizeof sites, "in a slot the bytes past the body are left alone");
     so(lintel_add_site(sites, sizeof sites, 1, structure, sizeof structure, 1, answer, LINTEL_ANSWER) == LINTEL_DONE && answer[1] == 1, "and another");
-    so(lintel_add_site(sites, LINTEL_SLOT, 2, argument, sizeof argument, 1, answer, LINTEL_ANSWER) == LINTEL_LIMIT, "a known site, but too short for those there are");
+    so(lintel_add_site(sites, LINTEL_SLOT, 2, argument, sizeof argument, 1, answer, LINTEL_ANSWER) == LINTEL_LIMIT, "a known site, no room for all");
     memset(room, 0xA5, sizeof room);
     so(lintel_unfold(sites, sizeof sites, 2, 1, room, sizeof room, answer, LINTEL_ANSWER) == LINTEL_DONE && answer[0] == 6, "an unfolding");
     so(marked(room, 6, sizeof room) == sizeof room, "the room past an unfolding is left alone");
