@@ -8,9 +8,17 @@
  *   the answer where the number is 0, else what 01 tells with that number. What a call does not name here is 0; words after the first
  *   LINTEL_ANSWER are left alone.
  * - A refused call leaves all lent memory but `answer` as it was; of lintel_sheet_check the room and the working memory too are excepted. LINTEL_SHORT
- *   leaves `answer` too.
+ *   leaves `answer` too, and is looked for before all else.
  * - A slice is a pointer and a count of elements (not bytes). A pointer must not be null, with a count of 0 either. A part whose size is written
  *   in brackets is that many elements, and has no count.
+ * - A pointer is aligned as its type asks: to 8 bytes for words (uint64_t), to 2 for uint16_t.
+ * - Lent memory must have been written before, with any values: static memory has been.
+ * - Calls on different memory may run at once, in different threads. Two calls that lend the same memory may too where both lend it as const.
+ * - Numbers in words, in parents and in members have the machine's byte order, low byte first. Bodies of sites, unfoldings, sheets and findings have
+ *   the sheet's, high byte first.
+ * - The archive asks the linker for memcpy and memset, and for nothing else.
+ * - It is built for the System V calling convention, with SSE2, and uses the 128 bytes under the stack pointer (the red zone). So an interrupt handler
+ *   must not run on the same stack without leaving these bytes alone, and must save the SSE2 registers that it uses.
  */
 #ifndef LINTELMOTH_H
 #define LINTELMOTH_H
@@ -25,69 +33,79 @@ extern "C" {
 #define LINTEL_PART(n) static n
 #endif
 
+/* The version of this header and of its archive. It grows where a caller may have to change something. What has a number here is a macro, so that #if can
+ * use it. */
+#define LINTEL_VERSION 4
+
 /* 01's limits. */
-enum {
-    LINTEL_SITES = 1024,      /* sites of a set */
-    LINTEL_SOURCES = 8,       /* sources of a site */
-    LINTEL_FIELDS = 8,        /* fields of a constraint */
-    LINTEL_RULES = 64,        /* rules of a set */
-    LINTEL_ITEMS = 32,        /* items of a rule */
-    LINTEL_CONSTRAINED = 32,  /* constrained sites of a kept rule */
-    LINTEL_EQUAL = 32,        /* equal sites of a kept rule */
-    LINTEL_SETS = 64,         /* sets of a sheet */
-    LINTEL_TERMS = 256,       /* term numbers: 0 to 255 */
-    LINTEL_UNFOLDING = 4096   /* bytes of an unfolding */
-};
+#define LINTEL_SITES 1024          /* sites of a set */
+#define LINTEL_SOURCES 8           /* sources of a site */
+#define LINTEL_FIELDS 8            /* fields of a constraint */
+#define LINTEL_RULES 64            /* rules of a set */
+#define LINTEL_ITEMS 32            /* items of a rule */
+#define LINTEL_CONSTRAINED 32      /* constrained sites of a kept rule */
+#define LINTEL_EQUAL 32            /* equal sites of a kept rule */
+#define LINTEL_SETS 64             /* sets of a sheet */
+#define LINTEL_TERMS 256           /* term numbers: 0 to 255 */
+#define LINTEL_UNFOLDING 4096      /* bytes of an unfolding */
 
 /* Sizes of lent memory. */
-enum {
-    LINTEL_ANSWER = 2,              /* words of an answer */
-    LINTEL_SLOT = 32,               /* bytes of a site; a full set takes LINTEL_SITES of these: 32,768 bytes */
-    LINTEL_STRIDE = 196,            /* words of a kept rule; a full set takes LINTEL_RULES of these: 12,544 words, 100,352 bytes */
-    LINTEL_ITEM = 4,                /* words of an item of a rule */
-    LINTEL_REPORT_ROOM = 67456,     /* bytes that hold any report */
-    LINTEL_ROW = 4,                 /* words of a row of marks */
-    LINTEL_TABLE = 1024,            /* words of the term table, LINTEL_TERMS rows: 8,192 bytes */
-    LINTEL_STATE = 22,              /* words in which the reading of a sheet is kept: 176 bytes */
-    LINTEL_HELD = 65,               /* bytes of a line that is not ended yet */
-    LINTEL_SITES_ROOM = 32768,      /* bytes for the sites of a sheet's open set: LINTEL_SITES slots */
-    LINTEL_KEPT_ROOM = 12544,       /* words for its kept rules: LINTEL_RULES strides */
-    LINTEL_ITEMS_ROOM = 128,        /* words for the items of its open rule: LINTEL_ITEMS of LINTEL_ITEM */
-    LINTEL_STEP_ROOM = 67456,       /* bytes that hold what any line of a sheet finds: a report */
-    LINTEL_END_ROOM = 1803          /* bytes that hold what the end of any sheet finds */
-};
+#define LINTEL_ANSWER 2            /* words of an answer */
+#define LINTEL_SLOT 32             /* bytes of a site; a full set takes LINTEL_SITES of these: 32,768 bytes */
+#define LINTEL_STRIDE 196          /* words of a kept rule; a full set takes LINTEL_RULES of these: 12,544 words, 100,352 bytes */
+#define LINTEL_ITEM 4              /* words of an item of a rule */
+#define LINTEL_REPORT_ROOM 67456   /* bytes that hold any report */
+#define LINTEL_ROW 4               /* words of a row of marks */
+#define LINTEL_TABLE 1024          /* words of the term table, LINTEL_TERMS rows: 8,192 bytes */
+#define LINTEL_STATE 22            /* words in which the reading of a sheet is kept: 176 bytes */
+#define LINTEL_HELD 65             /* bytes of a line that is not ended yet */
+#define LINTEL_SITES_ROOM 32768    /* bytes for the sites of a sheet's open set: LINTEL_SITES slots */
+#define LINTEL_KEPT_ROOM 12544     /* words for its kept rules: LINTEL_RULES strides */
+#define LINTEL_ITEMS_ROOM 128      /* words for the items of its open rule: LINTEL_ITEMS of LINTEL_ITEM */
+#define LINTEL_STEP_ROOM 67456     /* bytes that hold what any line of a sheet finds: a report */
+#define LINTEL_END_ROOM 1803       /* bytes that hold what the end of any sheet finds */
 
-/* The word of a sheet's state that is 0 until the sheet stopped, and then 1. */
-enum { LINTEL_STOPPED = 21 };
+/* Bytes of stack that a call needs at most, from its call on, with some head room. tests/box measures each call on the deepest inputs that we know. */
+#define LINTEL_STACK_UNFOLD 650000       /* lintel_unfold, on sites that these calls made */
+#define LINTEL_STACK_UNFOLD_ANY 2800000  /* lintel_unfold, on any bytes */
+#define LINTEL_STACK_SHEET 36000         /* lintel_sheet_feed, lintel_sheet_check */
+#define LINTEL_STACK_LOAD 33000          /* lintel_load */
+#define LINTEL_STACK_END 11000           /* lintel_sheet_end */
+#define LINTEL_STACK_TERMS 10000         /* lintel_cyclic_terms */
+#define LINTEL_STACK_REPORT 5000         /* lintel_report */
+#define LINTEL_STACK_OTHER 512           /* every other call */
+
+/* The word of a sheet's state that is 0 until a line stopped the sheet, and then 1. */
+#define LINTEL_STOPPED 21
 
 /* The numbers. */
-enum {
-    LINTEL_DONE = 0,
-    LINTEL_LAYOUT = 1,        /* a frame or a body is not as laid out; told: the line */
-    LINTEL_UNKNOWN = 2,       /* unknown site, or a source not lower; told: that number */
-    LINTEL_ITSELF = 3,        /* a site joined with itself; told: the site */
-    LINTEL_UNREACHABLE = 4,   /* told: two sites */
-    LINTEL_HANGING = 5,       /* told: the lowest such site */
-    LINTEL_ENDLESS = 6,       /* self-containing; told: the lowest such site */
-    LINTEL_LIMIT = 7,         /* a limit is passed, or the lent room for what is written; told: nothing */
-    LINTEL_PLACE_USED = 8,    /* told: the place */
-    LINTEL_REPEATED = 9,      /* a site repeated in its set, a term in the sheet; told: the line */
-    LINTEL_SHORT = 255        /* none of 01's: a lent slice is shorter than the call asks. Nothing was read or changed */
-};
+#define LINTEL_DONE 0
+#define LINTEL_LAYOUT 1            /* a frame or a body is not as laid out; told: the line */
+#define LINTEL_UNKNOWN 2           /* unknown site, or a source not lower; told: that number */
+#define LINTEL_ITSELF 3            /* a site joined with itself; told: the site */
+#define LINTEL_UNREACHABLE 4       /* told: two sites */
+#define LINTEL_HANGING 5           /* told: the lowest such site */
+#define LINTEL_ENDLESS 6           /* self-containing; told: the lowest such site */
+#define LINTEL_LIMIT 7             /* a limit is passed, or the lent room for what is written; told: nothing */
+#define LINTEL_PLACE_USED 8        /* told: the place */
+#define LINTEL_REPEATED 9          /* a site repeated in its set, a term in the sheet; told: the line. Only in findings: no call answers it */
+#define LINTEL_SHORT 255           /* none of 01's: a lent slice is shorter than the call asks. Nothing was read or changed */
 
 /* The word for a site that was never joined. */
-enum { LINTEL_NONE = 65535 };
+#define LINTEL_NONE 65535
 
 /* Comparing two kept rules. */
-enum { LINTEL_NO = 0, LINTEL_YES = 1, LINTEL_SUBSET = 2 };
+#define LINTEL_NO 0
+#define LINTEL_YES 1
+#define LINTEL_SUBSET 2
 
 /* ---- classes of sites: three parts, made empty by lintel_classes_clear. A site number of LINTEL_SITES or more is 2, told: that number. */
 
 /* Leaves no site joined: every parent LINTEL_SITES, every rank 0, the count 0. */
 void lintel_classes_clear(uint16_t parents[LINTEL_PART(LINTEL_SITES)], uint8_t ranks[LINTEL_PART(LINTEL_SITES)], uint16_t *count);
 
-/* answer: the representative of the site's class and the parent links followed; LINTEL_NONE, and no use of the second word, where it was never
- * joined. Changes nothing else. */
+/* answer: the representative of the site's class and the parent links followed. Where the site was never joined: LINTEL_NONE, and the second word,
+ * which is 1 today, is of no use. Changes nothing else. */
 uint32_t lintel_find(const uint16_t parents[LINTEL_PART(LINTEL_SITES)], uint16_t site, uint64_t *answer, size_t answer_length);
 
 /* answer: the representative, or LINTEL_NONE. In `parents` each site passed on the way goes under its parent's parent. */
@@ -113,16 +131,15 @@ uint32_t lintel_len(const uint16_t *count);
 uint32_t lintel_is_empty(const uint16_t *count);
 
 /* ---- sites of a set: `sites` is slots of LINTEL_SLOT bytes, a length byte and then the site's body as in a frame 02, kind byte first. The caller
- * keeps `count`, how many slots are used, from 0 on. */
+ * keeps `count`, how many slots are used, from 0 on. In a slot the bytes past the body are left alone, and say nothing. */
 
 /* Adds the site with this body. answer: its number; 1 where it is new, and then `count` is to grow by one, else 0. Where it is new its slot, number
- * `count`, is written. 1 told `line`, 2, 7 as 01 says; 7 too where `sites` has no slot left. */
+ * `count`, is written. 1 told `line`, 2, 7 as 01 says; 7 too where `sites` is too short for the sites that there are then. */
 uint32_t lintel_add_site(uint8_t *sites, size_t sites_length, uint16_t count, const uint8_t *body, size_t body_length, uint32_t line,
                          uint64_t *answer, size_t answer_length);
 
-/* Writes the unfolding of a site to the start of `room`. answer: how many bytes. 2; 7 where it has over LINTEL_UNFOLDING bytes or `room` less.
- * The call with the deepest stack: up to 400,000 bytes on a set that the calls made, up to 2,800,000 on any bytes. (lintel_sheet_feed,
- * lintel_sheet_check and lintel_load: 35,000. lintel_sheet_end and lintel_cyclic_terms: 11,000. All others stay under 5,000.) */
+/* Writes the unfolding of a site to the start of `room`, and leaves the rest of it alone. answer: how many bytes. 2; 7 where it has over
+ * LINTEL_UNFOLDING bytes or `room` less. The call with the deepest stack: LINTEL_STACK_UNFOLD. */
 uint32_t lintel_unfold(const uint8_t *sites, size_t sites_length, uint16_t count, uint16_t site, uint8_t *room, size_t room_length,
                        uint64_t *answer, size_t answer_length);
 
@@ -130,12 +147,15 @@ uint32_t lintel_unfold(const uint8_t *sites, size_t sites_length, uint16_t count
  * A stride: place; priority, its sign bit turned over; how many constrained sites; how many equal sites; from word 4 on four words for each
  * constrained site, ascending: site, kind * 65536 + type (the name of a ConstPrim), and two words (Variant: variant, fields; Struct: fields, 0;
  * ConstBool: value, 0; ConstInt: high word, low word; others 0, 0); from word 132 on two words for each equal site, ascending: site, lowest
- * member of its class. LINTEL_SHORT where the words end before the rules that are asked for. */
+ * member of its class. The words of a stride that its counts do not use are left alone, and say nothing. LINTEL_SHORT where the words end before the
+ * rules that are asked for; lintel_load then answers 7. */
 
 /* Loads a rule into the set of the first `count` sites and the first `kept` rules. answer: how many sites there are then, and `kept` is to grow by one.
  * The sites that are new stand in their slots, the rule in stride `kept`. `items` has LINTEL_ITEM words for each of the `many` items: of a constraint
- * the site and its three words as in a stride, of an equality 65536 + one site, then the other, 0, 0. 7, 8, 2, 4, 5 and 6 as 01 says; 7 too where
- * `sites` or `words` has no room left. LINTEL_SHORT where `items` ends before its last item. */
+ * the site and its three words as in a stride, of an equality 65536 + one site, then the other, 0, 0.
+ * Looked for in this order: LINTEL_SHORT, where `items` ends before its last item; 7, where `kept` is LINTEL_RULES or more, or `words` ends before the
+ * end of stride `kept`; 7, where `count` is over LINTEL_SITES; 7, where `many` is over LINTEL_ITEMS; 8; then the items as written, each 2, 7, 4, 7;
+ * then 5, 4, 6 and 7 as 01 says; last 7, where `sites` is too short for the sites that there are then. */
 uint32_t lintel_load(uint8_t *sites, size_t sites_length, uint16_t count, uint64_t *words, size_t words_length, uint32_t kept, uint32_t place,
                      int64_t priority, const uint64_t *items, size_t items_length, uint8_t many, uint64_t *answer, size_t answer_length);
 
@@ -146,7 +166,8 @@ uint32_t lintel_may_overlap(const uint64_t *words, size_t words_length, uint32_t
 uint32_t lintel_total_constraints(const uint64_t *words, size_t words_length, uint32_t rule, uint64_t *answer, size_t answer_length);
 
 /* The report of the first `count` rules of a set with these flags (1 multi, 2 rec, 3 both), as lines of findings 12 and 13. answer: how many bytes;
- * they stand first in `room`, and the rest of it is left alone. `room` has at least LINTEL_REPORT_ROOM bytes. 7 where there are too many rules. */
+ * they stand first in `room`, and the rest of it is left alone. `room` has at least LINTEL_REPORT_ROOM bytes. 7 where there are too many rules, their
+ * words being there. Flags over 3 are not refused: odd flags are those of a multi term, with an empty report, and no other bit is looked at. */
 uint32_t lintel_report(const uint64_t *words, size_t words_length, uint32_t count, uint8_t flags, uint8_t *room, size_t room_length,
                        uint64_t *answer, size_t answer_length);
 
@@ -187,13 +208,15 @@ uint32_t lintel_sheet_feed(uint64_t *state, size_t state_length, uint8_t *held, 
                            const uint8_t *piece, size_t piece_length, uint8_t *room, size_t room_length, uint64_t *answer, size_t answer_length);
 
 /* The sheet ends here. answer: how many bytes of findings stand in `room`, of at least LINTEL_END_ROOM; none where the sheet stopped. The state and
- * the table are left as they are. */
+ * the table are left as they are: where the end itself is refused (a set is open, or the last line has no LF) the findings are a 1F, and
+ * state[LINTEL_STOPPED] stays 0. */
 uint32_t lintel_sheet_end(const uint64_t *state, size_t state_length, const uint8_t *held, size_t held_length,
                           const uint64_t table[LINTEL_PART(LINTEL_TABLE)], uint8_t *room, size_t room_length, uint64_t *answer, size_t answer_length);
 
-/* A sheet that is there whole. answer: how many bytes of findings stand in `room`. A room of LINTEL_STEP_ROOM more than the findings is always enough.
- * 7 where the room was too short: it then holds the first findings, and they may end anywhere between two lines. What sites, words, items and table
- * hold before does not matter, and what they hold after is of no use. */
+/* A sheet that is there whole. answer: how many bytes of findings stand in `room`. A room of LINTEL_STEP_ROOM more than the findings is always enough;
+ * one under LINTEL_STEP_ROOM is LINTEL_SHORT, whatever the sheet. 7 where the room was too short: it then holds the first findings, in whole lines, and
+ * where they end is not told; in a room that was zeros before they end at its first 0. What sites, words, items and table hold before does not
+ * matter, and what they hold after is of no use. */
 uint32_t lintel_sheet_check(const uint8_t *sheet, size_t sheet_length, uint8_t *sites, size_t sites_length, uint64_t *words, size_t words_length,
                             uint64_t *items, size_t items_length, uint64_t table[LINTEL_PART(LINTEL_TABLE)], uint8_t *room, size_t room_length,
                             uint64_t *answer, size_t answer_length);

@@ -1,5 +1,6 @@
 /* The deepest stack of each call of the library for the box, on inputs made to be deep: a painted stack. What is counted begins
- * with the call of a small function that makes the call, so an empty one is in the table too. */
+ * with the call of a small function that makes the call, so an empty one is in the table too. Ends with 1 where a call went
+ * deeper than the header says. */
 #include "lintelmoth.h"
 
 #include <pthread.h>
@@ -8,7 +9,9 @@
 #include <string.h>
 
 static uint16_t parents[LINTEL_SITES], count, members[LINTEL_SITES], found[LINTEL_TERMS];
-static uint8_t ranks[LINTEL_SITES], sites[LINTEL_SITES * LINTEL_SLOT], any[LINTEL_SITES * LINTEL_SLOT], room[LINTEL_REPORT_ROOM];
+static uint8_t ranks[LINTEL_SITES], sites[LINTEL_SITES * LINTEL_SLOT], broad[LINTEL_SITES * LINTEL_SLOT], any[LINTEL_SITES * LINTEL_SLOT];
+static uint8_t room[LINTEL_REPORT_ROOM];
+static uint16_t broad_count;
 static uint64_t words[LINTEL_RULES * LINTEL_STRIDE], table[LINTEL_TABLE], recs[LINTEL_ROW], answer[LINTEL_ANSWER];
 static uint8_t set[LINTEL_SITES * LINTEL_SLOT], flat[LINTEL_SITES * LINTEL_SLOT], many;
 static uint64_t kept[LINTEL_STRIDE], items[LINTEL_ITEMS * LINTEL_ITEM];
@@ -32,6 +35,7 @@ static void len(void) { lintel_len(&count); }
 static void is_empty(void) { lintel_is_empty(&count); }
 static void add(void) { lintel_add_site(sites, sizeof sites, 1023, body, sizeof body, 0, answer, LINTEL_ANSWER); }
 static void unfold(void) { lintel_unfold(sites, sizeof sites, LINTEL_SITES, LINTEL_SITES - 1, room, sizeof room, answer, LINTEL_ANSWER); }
+static void unfold_broad(void) { lintel_unfold(broad, sizeof broad, broad_count, broad_count - 1, room, sizeof room, answer, LINTEL_ANSWER); }
 static void unfold_any(void) { lintel_unfold(any, sizeof any, LINTEL_SITES, LINTEL_SITES - 1, room, sizeof room, answer, LINTEL_ANSWER); }
 static void load(void) { lintel_load(set, sizeof set, 16, kept, sizeof kept / 8, 0, 1, 0, items, many * LINTEL_ITEM, many, answer, LINTEL_ANSWER); }
 static void load_wide(void) { lintel_load(flat, sizeof flat, 4, kept, sizeof kept / 8, 0, 1, 0, wide, 4 * LINTEL_ITEM, 4, answer, LINTEL_ANSWER); }
@@ -53,38 +57,40 @@ static void check(void) {
     lintel_sheet_check((const uint8_t *)sheet, strlen(sheet), lent_sites, sizeof lent_sites, lent, LINTEL_KEPT_ROOM, lent_items, LINTEL_ITEMS_ROOM, edges,
                        all, sizeof all, answer, LINTEL_ANSWER);
 }
-static void cyclic(void) { lintel_cyclic_terms(table, recs, found, LINTEL_TERMS, answer, LINTEL_ANSWER); }
+static void cyclic(void) { lintel_cyclic_terms(ring, recs, found, LINTEL_TERMS, answer, LINTEL_ANSWER); }
 
 static const struct {
     const char *name;
     void (*call)(void);
+    size_t most;
 } calls[] = {
-    {"an empty call", nothing},
-    {"lintel_classes_clear", clear},
-    {"lintel_merge", merge},
-    {"lintel_find", find},
-    {"lintel_find_mut", find_mut},
-    {"lintel_in_same_set", same},
-    {"lintel_remove_set_of", remove_set},
-    {"lintel_len", len},
-    {"lintel_is_empty", is_empty},
-    {"lintel_add_site", add},
-    {"lintel_unfold", unfold},
-    {"lintel_unfold, of bytes that no call made", unfold_any},
-    {"lintel_load, a chain of 14 fields under two equal sites", load},
-    {"lintel_load, a class of 4 sites with 8 fields", load_wide},
-    {"lintel_load, the same with 8 fields in each", load_large},
-    {"lintel_may_overlap", overlap},
-    {"lintel_total_constraints", total},
-    {"lintel_report", report},
-    {"lintel_terms_clear", terms_clear},
-    {"lintel_add_edge", edge},
-    {"lintel_mark_rec", rec},
-    {"lintel_cyclic_terms", cyclic},
-    {"lintel_sheet_begin", begin},
-    {"lintel_sheet_feed, a rule with a chain of 14 fields, the end of a set, a line that is none", feed},
-    {"lintel_sheet_end, a ring of 256 terms", end},
-    {"lintel_sheet_check, the same sheet", check},
+    {"an empty call", nothing, 16},
+    {"lintel_classes_clear", clear, LINTEL_STACK_OTHER},
+    {"lintel_merge", merge, LINTEL_STACK_OTHER},
+    {"lintel_find", find, LINTEL_STACK_OTHER},
+    {"lintel_find_mut", find_mut, LINTEL_STACK_OTHER},
+    {"lintel_in_same_set", same, LINTEL_STACK_OTHER},
+    {"lintel_remove_set_of", remove_set, LINTEL_STACK_OTHER},
+    {"lintel_len", len, LINTEL_STACK_OTHER},
+    {"lintel_is_empty", is_empty, LINTEL_STACK_OTHER},
+    {"lintel_add_site", add, LINTEL_STACK_OTHER},
+    {"lintel_unfold, a chain of 1,024 sites", unfold, LINTEL_STACK_UNFOLD},
+    {"lintel_unfold, a chain with eight sources in some sites", unfold_broad, LINTEL_STACK_UNFOLD},
+    {"lintel_unfold, of bytes that no call made", unfold_any, LINTEL_STACK_UNFOLD_ANY},
+    {"lintel_load, a chain of 14 fields under two equal sites", load, LINTEL_STACK_LOAD},
+    {"lintel_load, a class of 4 sites with 8 fields", load_wide, LINTEL_STACK_LOAD},
+    {"lintel_load, the same with 8 fields in each", load_large, LINTEL_STACK_LOAD},
+    {"lintel_may_overlap", overlap, LINTEL_STACK_OTHER},
+    {"lintel_total_constraints", total, LINTEL_STACK_OTHER},
+    {"lintel_report", report, LINTEL_STACK_REPORT},
+    {"lintel_terms_clear", terms_clear, LINTEL_STACK_OTHER},
+    {"lintel_add_edge", edge, LINTEL_STACK_OTHER},
+    {"lintel_mark_rec", rec, LINTEL_STACK_OTHER},
+    {"lintel_cyclic_terms, a ring of 256 terms", cyclic, LINTEL_STACK_TERMS},
+    {"lintel_sheet_begin", begin, LINTEL_STACK_OTHER},
+    {"lintel_sheet_feed, a rule with a chain of 14 fields, the end of a set, a line that is none", feed, LINTEL_STACK_SHEET},
+    {"lintel_sheet_end, a ring of 256 terms", end, LINTEL_STACK_END},
+    {"lintel_sheet_check, the same sheet", check, LINTEL_STACK_SHEET},
 };
 
 static uint8_t *low;
@@ -112,6 +118,28 @@ static size_t used(void (*call)(void)) {
     pthread_join(thread, 0);
     free(low);
     return deep;
+}
+
+/* Adds a site to the broad set, by the call itself. */
+static void add_broad(const uint8_t *site, size_t length) {
+    if (lintel_add_site(broad, sizeof broad, broad_count, site, length, 0, answer, LINTEL_ANSWER) || answer[1] != 1) exit(1);
+    broad_count++;
+}
+
+/* A chain again, of 1,024 sites whose unfolding has LINTEL_UNFOLDING bytes. Each source of a site that is written before another holds a frame
+ * of stack until that one is done. So 180 sites, 18 bytes each, are structures of site 0 seven times and then of the site before, one has fewer, and the
+ * others, a byte each, are of kind 11. */
+static void fill_broad(void) {
+    static const uint8_t argument[] = {3, 0};
+    add_broad(argument, sizeof argument);
+    for (unsigned i = 1; i < LINTEL_SITES; i++) {
+        uint8_t some[] = {11, (uint8_t)((i - 1) >> 8), (uint8_t)(i - 1)}, made[20] = {9, 0, 1};
+        unsigned sources = i <= 180 ? 8 : i == 181 ? 5 : 0;
+        made[3] = (uint8_t)sources;
+        memcpy(made + 2 + 2 * sources, some + 1, 2);
+        if (sources) add_broad(made, 4 + 2 * sources);
+        else add_broad(some, sizeof some);
+    }
 }
 
 /* The chain again, each site with twelve sources besides that are not lower, so that they write nothing: no set holds such sites. */
@@ -183,8 +211,21 @@ int main(void) {
     fill();
     fill_set();
     fill_any();
+    fill_broad();
     fill_sheet();
-    for (size_t i = 0; i < sizeof calls / sizeof *calls; i++) printf("| %s | %zu |\n", calls[i].name, used(calls[i].call));
+    int above = 0;
+    for (size_t i = 0; i < sizeof calls / sizeof *calls; i++) {
+        size_t bytes = used(calls[i].call);
+        printf("| %s | %zu |\n", calls[i].name, bytes);
+        if (bytes <= calls[i].most) continue;
+        fprintf(stderr, "%s: %zu bytes of stack, and the header says %zu\n", calls[i].name, bytes, calls[i].most);
+        above = 1;
+    }
+    if (above) return 1;
+    unfold_broad();
+    if (answer[0] != LINTEL_UNFOLDING) return 1;
+    cyclic();
+    if (answer[0] != LINTEL_TERMS - 1) return 1; /* one has rec */
     load();
     if (answer[0] != 30) return 1;
     load_wide();
