@@ -13,3 +13,4 @@ pub mod Ascending
 pub mod Found
 pub mod Sets
 pub mod Sheet
+pub mod One
