@@ -13,4 +13,3 @@ pub mod Ascending
 pub mod Found
 pub mod Sets
 pub mod Sheet
-pub mod One
