@@ -2,7 +2,7 @@
 use mathlib.Core.Path.{_≡_, refl, sym, ap, _∙_}
 use mathlib.Core.Bool.{Bool, true, false, _&&_, not}
 use mathlib.Core.List.{List}
-use Prim.Native.Nat.{ℕ, suc, _+_, _*_, _≤_, _<_, min}
+use Prim.Native.Nat.{ℕ, suc, _+_, _*_, _/_, _≤_, _<_, min}
 use native.Mathlib.Omega.{arith}
 use lib.ListN.{length}
 use lib.Dec.{ltb, leb}
@@ -58,7 +58,7 @@ module _ (total held equal room count : ℕ) where
     equal-many k = rw (le-leb held 32 h, lt-leb equal 32 k)
 
     module _ (k : equal ≤ 32) where
-      pub room-short : room < total * 32 → Refused (TooManySites total count) ≡ answer-as (settled total held equal room count)
+      pub room-short : room < total * 32 → Refused (TooManySites (room / 32 + 1) count) ≡ answer-as (settled total held equal room count)
       unfolding settled
       room-short l = rw (le-leb held 32 h, le-leb equal 32 k, lt-leb (total * 32) room l)
 

@@ -33,7 +33,7 @@ fn next(n: u16) -> u16
     if n < 65535 { n + 1 } else { n }
 }
 
-// 01: "9 for a term used before, then 7".
+// 01: 9 for a term used before, then 27, 28.
 pub fn begin_frame(r: Reader, term: u16, flags: u8, room: &mut [u8], at: usize) -> Stepped
     ensures { λ a. ⌜ (Ready r (now (room .entry)) at → (k : Lent) (p : paper.Ended) →
         Tells r k p → Acts r k k (now (room .entry)) (now (room .exit)) at p (begin-set term flags) a) ⌝ }
@@ -57,7 +57,7 @@ pub fn begin_frame(r: Reader, term: u16, flags: u8, room: &mut [u8], at: usize) 
     on(r, Stands::Sites(set), Event::Begun, at)
 }
 
-// 02: 9 for a site that the set has, then 2 and 7. A site that the set has earns neither of the two.
+// 02: 9 for a site that the set has, then 2, 21, 28, 20. A site that the set has earns none of the four.
 fn site_frame(r: Reader, body: &[u8], m: &mut [u8], room: &mut [u8], at: usize) -> Stepped
     ensures { λ a. ⌜ (Ready r (now (room .entry)) at → (w i : List ℕ) (t : Square) (p : paper.Ended) (x : Site) →
         let k = lent (now (m .entry)) w i t in
