@@ -51,11 +51,13 @@ static void slots(void) {
     so(lintel_add_site(sites, sizeof sites, 0, argument, sizeof argument, 1, answer, LINTEL_ANSWER) == LINTEL_DONE && answer[1] == 1, "a site is added");
     so(sites[0] == 2 && marked(sites, 3, sizeof sites) == sizeof sites, "in a slot the bytes past the body are left alone");
     so(lintel_add_site(sites, sizeof sites, 1, structure, sizeof structure, 1, answer, LINTEL_ANSWER) == LINTEL_DONE && answer[1] == 1, "and another");
-    so(lintel_add_site(sites, LINTEL_SLOT, 2, argument, sizeof argument, 1, answer, LINTEL_ANSWER) == LINTEL_LIMIT, "a known site, no room for all");
+    so(lintel_add_site(sites, LINTEL_SLOT, 2, argument, sizeof argument, 1, answer, LINTEL_ANSWER) == LINTEL_TOO_MANY_SITES && answer[0] == 2 && answer[1] == 1,
+       "a known site, no room for all: the slots and one, the line");
     memset(room, 0xA5, sizeof room);
     so(lintel_unfold(sites, sizeof sites, 2, 1, room, sizeof room, answer, LINTEL_ANSWER) == LINTEL_DONE && answer[0] == 6, "an unfolding");
     so(marked(room, 6, sizeof room) == sizeof room, "the room past an unfolding is left alone");
-    so(lintel_unfold(sites, sizeof sites, 2, 1, room, 5, answer, LINTEL_ANSWER) == LINTEL_LIMIT && answer[0] == 0, "no room for it");
+    so(lintel_unfold(sites, sizeof sites, 2, 1, room, 5, answer, LINTEL_ANSWER) == LINTEL_UNFOLDING_TOO_LONG && answer[0] == 6 && answer[1] == 0, "no room for it: the room and one");
+    so(lintel_unfold(sites, sizeof sites, 2, 0, room, 0, answer, LINTEL_ANSWER) == LINTEL_UNFOLDING_TOO_LONG && answer[0] == 1, "into no room: one");
     memset(room, 0xA5, sizeof room);
     answer[0] = answer[1] = 77;
     so(lintel_unfold(sites, 2 * LINTEL_SLOT - 1, 2, 1, room, sizeof room, answer, LINTEL_ANSWER) == LINTEL_SHORT, "unfold: short where the slots end before it");
@@ -100,7 +102,7 @@ static void layouts(void) {
         memcpy(items + 2 * LINTEL_ITEM, strays[i], sizeof strays[i]);
         memcpy(items_before, items, sizeof items);
         so(load(2, all, 1, 9, three, 3) == LINTEL_LAYOUT && answer[0] == 1 && answer[1] == 0, "load: 1, told the first item that is not as laid out");
-        so(load(LINTEL_SITES + 1, 0, LINTEL_RULES, 7, three, 3) == LINTEL_LAYOUT && answer[0] == 1, "load: 1 before 7 and 8");
+        so(load(LINTEL_SITES + 1, 0, LINTEL_RULES, 7, three, 3) == LINTEL_LAYOUT && answer[0] == 1, "load: 1 before 20, 23 and 8");
         so(load(2, all, 1, 9, three - 1, 3) == LINTEL_SHORT, "load: and short before 1");
         so(load(2, all, 1, 9, LINTEL_ITEM, 1) == LINTEL_UNKNOWN && answer[0] == 900, "load: words past the items are not looked at");
         memcpy(items, strays[i], sizeof strays[i]);
@@ -111,7 +113,7 @@ static void layouts(void) {
     }
     memset(items, 0, sizeof items);
     memcpy(items + LINTEL_ITEMS * LINTEL_ITEM, strays[0], sizeof strays[0]);
-    so(load(2, all, 1, 9, sizeof items / 8, MANY) == LINTEL_LAYOUT && answer[0] == LINTEL_ITEMS, "load: 1 for an item past the most, before 7 for their count");
+    so(load(2, all, 1, 9, sizeof items / 8, MANY) == LINTEL_LAYOUT && answer[0] == LINTEL_ITEMS, "load: 1 for an item past the most, before 24 for their count");
 }
 
 static void rules(void) {
@@ -121,21 +123,22 @@ static void rules(void) {
     items[1] = 3 * 65536 + 3;
     /* each call has all that follows wrong too */
     so(load(1025, LINTEL_STRIDE - 1, 0, 7, item - 1, 1) == LINTEL_SHORT, "load: short items first");
-    so(load(2, LINTEL_STRIDE - 1, 0, 7, item, 1) == LINTEL_LIMIT, "load: 7, not short, where the words end before stride 0");
-    so(load(2, 2 * LINTEL_STRIDE, 2, 7, item, 1) == LINTEL_LIMIT, "load: 7, not short, where the words end before the kept rules");
-    so(load(2, all, LINTEL_RULES, 7, item, 1) == LINTEL_LIMIT, "load: 7 for too many rules");
-    so(load(LINTEL_SITES + 1, all, 0, 7, item, 1) == LINTEL_LIMIT, "load: 7 for too many sites");
+    so(load(2, LINTEL_STRIDE - 1, 0, 7, item, 1) == LINTEL_TOO_MANY_RULES && answer[0] == 1, "load: 23, not short, where the words end before stride 0");
+    so(load(2, 2 * LINTEL_STRIDE, 2, 7, item, 1) == LINTEL_TOO_MANY_RULES && answer[0] == 3, "load: 23, not short, where the words end before the kept rules");
+    so(load(2, all, LINTEL_RULES, 7, item, 1) == LINTEL_TOO_MANY_RULES && answer[0] == LINTEL_RULES + 1, "load: 23 for too many rules");
+    so(load(LINTEL_SITES + 1, all, 0, 7, item, 1) == LINTEL_TOO_MANY_SITES && answer[0] == LINTEL_SITES + 1, "load: 20 for too many sites");
     so(load(2, all, 0, 7, item, 1) == LINTEL_UNKNOWN && answer[0] == 900, "load: 2 where nothing else is wrong");
     so(marked((const uint8_t *)words, 0, sizeof words) == sizeof words, "what is refused is not written");
     items[0] = 0;
     so(load(2, all, 0, 7, item, 1) == LINTEL_DONE && answer[0] == 2, "a rule is kept");
     so(words[2] == 1 && words[3] == 0 && marked((const uint8_t *)words, 64, sizeof words) == sizeof words, "the words that its counts do not use are left alone");
     items[0] = 900;
-    so(load(2, all, 1, 7, sizeof items / 8, MANY) == LINTEL_LIMIT, "load: 7 for too many items before 8");
+    so(load(2, all, 1, 7, sizeof items / 8, MANY) == LINTEL_TOO_MANY_ITEMS && answer[0] == MANY, "load: 24 for too many items before 8");
     so(load(2, all, 1, 7, sizeof items / 8 - 1, MANY) == LINTEL_SHORT, "load: and short before that");
     so(load(2, all, 1, 7, item, 1) == LINTEL_PLACE_USED && answer[0] == 7, "load: 8 before 2");
     items[0] = 0;
-    so(lintel_load(sites, LINTEL_SLOT, 2, words, all, 1, 8, 0, items, item, 1, answer, LINTEL_ANSWER) == LINTEL_LIMIT, "load: last 7 for the slots");
+    so(lintel_load(sites, LINTEL_SLOT, 2, words, all, 1, 8, 0, items, item, 1, answer, LINTEL_ANSWER) == LINTEL_TOO_MANY_SITES && answer[0] == 2 && answer[1] == 1,
+       "load: last 20 for the slots");
     so(load(2, all, 1, 8, item, 1) == LINTEL_DONE, "a second rule is kept");
     so(lintel_total_constraints(words, 2 * LINTEL_STRIDE - 1, 1, answer, LINTEL_ANSWER) == LINTEL_SHORT, "total: short words");
     so(lintel_report(words, all, LINTEL_RULES + 1, 0, room, sizeof room, answer, LINTEL_ANSWER) == LINTEL_SHORT, "report: short before too many rules");
@@ -166,7 +169,7 @@ static void sheets(void) {
     so(check("", LINTEL_STEP_ROOM) == LINTEL_DONE && answer[0] == 11, "check: the empty sheet");
     so(check(refused, sizeof room) == LINTEL_DONE && answer[0] == strlen(both) && !memcmp(room, both, strlen(both)), "check: three findings");
     memset(room, 0, sizeof room);
-    so(check(refused, LINTEL_STEP_ROOM) == LINTEL_LIMIT && answer[0] == 0, "check: 7 where the room was too short");
+    so(check(refused, LINTEL_STEP_ROOM) == LINTEL_SHORT && answer[0] == 0 && answer[1] == 0, "check: short, with two zeros, where the room was too short");
     so(strlen((const char *)room) == 13 && !memcmp(room, both, 13), "check: then whole lines, up to the first 0");
     lintel_sheet_begin(state, LINTEL_STATE, held, LINTEL_HELD, table);
     so(feed("01000700\n") == LINTEL_DONE && answer[0] == 9 && state[LINTEL_STOPPED] == 0, "feed: a set begins");
