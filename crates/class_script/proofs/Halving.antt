@@ -1,25 +1,65 @@
--- A step of path halving, and a halving find, keep a state well made and every find's answer.
+-- The Rust's updating find, which only halves the path: each site passed goes under its parent's parent. It too keeps a state well made and every find's
+-- answer (proofs/Simulating.antt says what follows for scripts).
 use mathlib.Core.Path.{_≡_, refl, sym, _∙_, ap, subst, subst⁻¹}
+use mathlib.Core.Bool.{true, false}
 use mathlib.Core.List.{List}
 use Prim.Native.Nat.{ℕ, zero, suc, _^_, _≤_, _<_}
 use native.Mathlib.Omega.{arith}
 use native.Mathlib.Decide.{ℕ-discrete, decLt}
 use lib.ListN.{set, length-set}
 use lib.Seq.{getD-set-same, getD-set-other}
-use lib.Dec.{ltb}
-use borrow.Author.Tests.{lt-ltb}
+use lib.Dec.{ltb, eqb}
+use borrow.Author.Tests.{lt-ltb, le-ltb, eq-eqb, ne-eqb}
 use Rattle.paper.specs.declared.Found.{Found}
-use Rattle.paper.specs.declared.Found.the-variants.{At}
+use Rattle.paper.specs.declared.Found.the-variants.{At, Nothing}
 use Rattle.paper.specs.Numbers.{max-sites}
-use Rattle.paper.specs.Classes.{up, find-in, halve, halve-in, Trail, is-at}
+use Rattle.paper.specs.Classes.{up, find-in, Trail, is-at}
 use Rattle.classes.specs.Well.{Leads, Well, rank, members, has-up, in-class}
-use Rattle.classes.proofs.Steps.{halve-out, halve-nil, halve-root, halve-none, halve-step}
 use Rattle.classes.proofs.Counting.{cnt-ext}
 use Rattle.classes.proofs.Leading.{find-leads, find-out, find-none, lead-by}
 use Rattle.classes.proofs.Linked.{Case, outside, lone, led, case}
+use Rattle.classes.proofs.Flattening.{Kept, kept, kept-by}
+
+unfoldable pub halve : ℕ → List ℕ → ℕ → List ℕ × Found
+halve zero p x = (p, Nothing)
+halve (suc k) p x =
+    elim (ltb x max-sites) [
+      | false ↦ (p, Nothing)
+      | true ↦ elim (eqb (up p x) x) [
+        | true ↦ (p, At x)
+        | false ↦ elim (ltb (up p x) max-sites) [ false ↦ (p, Nothing) | true ↦ let u = up p (up p x) in halve k (set p x u) u ]
+      ]
+    ]
+
+unfoldable pub halve-in : List ℕ → ℕ → List ℕ × Found
+halve-in p x = halve max-sites p x
+
+-- one turn
+module _ (p : List ℕ) (at : ℕ) where
+  halve-out : (k : ℕ) → max-sites ≤ at → halve k p at ≡ (p, Nothing)
+  unfolding halve
+  halve-out zero h = refl
+  halve-out (suc k) h = rw (le-ltb at max-sites h, halve)
+
+  halve-nil : halve 0 p at ≡ (p, Nothing)
+  unfolding halve
+  halve-nil = refl
+
+  halve-root : (k : ℕ) → at < max-sites → up p at ≡ at → halve (suc k) p at ≡ (p, At at)
+  unfolding halve
+  halve-root k h e = rw (lt-ltb at max-sites h, eq-eqb (up p at) at e, halve)
+
+  halve-none : (k : ℕ) → at < max-sites → (up p at ≡ at → ⊥) → max-sites ≤ up p at → halve (suc k) p at ≡ (p, Nothing)
+  unfolding halve
+  halve-none k h e g = rw (lt-ltb at max-sites h, ne-eqb (up p at) at e, le-ltb (up p at) max-sites g, halve)
+
+  halve-step : (k : ℕ) → at < max-sites → (up p at ≡ at → ⊥) → up p at < max-sites
+      → halve (suc k) p at ≡ halve k (set p at (up p (up p at))) (up p (up p at))
+  unfolding halve
+  halve-step k h e g = rw (lt-ltb at max-sites h, ne-eqb (up p at) at e, lt-ltb (up p at) max-sites g, halve)
 
 -- x's parent becomes its grandparent
-abbrev pub skip : List ℕ → ℕ → List ℕ
+abbrev skip : List ℕ → ℕ → List ℕ
 skip p x = set p x (up p (up p x))
 
 module _ (p R : List ℕ) (c : ℕ) (W : Well p R c) (x : ℕ) (hx : x < max-sites) (jx : up p x < max-sites) (nx : up p x ≡ x → ⊥) where
@@ -45,7 +85,7 @@ module _ (p R : List ℕ) (c : ℕ) (W : Well p R c) (x : ℕ) (hx : x < max-sit
   not-root : (z : ℕ) → up p z ≡ z → z ≡ x → ⊥
   not-root z r e = nx (subst (λ (y : ℕ). up p y ≡ y) e r)
 
-  pub keep : (n z s : ℕ) → Leads n p z s → (m : ℕ) × Leads m (skip p x) z s × (m ≤ n)
+  keep : (n z s : ℕ) → Leads n p z s → (m : ℕ) × Leads m (skip p x) z s × (m ≤ n)
   keep zero z s t = (0, (t .0, off-x z (not-root z (t .1)) ∙ t .1, t .2), omega arith)
   keep (suc zero) z s t = go (keep zero (up p z) s (t .2)) (ℕ-discrete z x)
     where
@@ -75,7 +115,7 @@ module _ (p R : List ℕ) (c : ℕ) (W : Well p R c) (x : ℕ) (hx : x < max-sit
           )
       go i k (no d) = (suc (i .0), lead-by (skip p x) z (up p z) (i .0) s (off-x z d) (t .0) (t .1) (i .1), omega (arith, i .2))
 
-  pub same-found : (z : ℕ) → find-in (skip p x) z .found ≡ find-in p z .found
+  same-found : (z : ℕ) → find-in (skip p x) z .found ≡ find-in p z .found
   same-found z = go (case p R c W z)
     where
       go : Case p R z → find-in (skip p x) z .found ≡ find-in p z .found
@@ -135,7 +175,7 @@ module _ (p R : List ℕ) (c : ℕ) (W : Well p R c) (x : ℕ) (hx : x < max-sit
       go (yes q) = absurd (apart (sym at-x ∙ subst (λ (y : ℕ). up (skip p x) y ≡ y) q e))
       go (no o) = sym (off-x r o) ∙ e
 
-  pub skip-well : Well (skip p x) R c
+  skip-well : Well (skip p x) R c
   skip-well = record {
     len = length-set p x (up p (up p x)) ∙ W .len;
     rlen = W .rlen;
@@ -146,19 +186,8 @@ module _ (p R : List ℕ) (c : ℕ) (W : Well p R c) (x : ℕ) (hx : x < max-sit
     tally = W .tally ∙ sym (cnt-ext (has-up (skip p x)) (has-up p) max-sites (λ z l. same-ups z));
   }
 
--- q is well made, and every find on it answers as on p
-pub record Kept (p q R : List ℕ) (c : ℕ) : Type 0 where
-  pub well : Well q R c
-  pub same : (z : ℕ) → find-in q z .found ≡ find-in p z .found
-
-pub kept : (p R : List ℕ) (c : ℕ) → Well p R c → Kept p p R c
-kept p R c W = record { well = W; same = λ z. refl }
-
-pub kept-by : (p q s R : List ℕ) (c : ℕ) → ((z : ℕ) → find-in q z .found ≡ find-in p z .found) → Kept q s R c → Kept p s R c
-kept-by p q s R c f K = record { well = K .well; same = λ z. K .same z ∙ f z }
-
 -- a halving find keeps the state well made and every answer
-pub halve-kept : (k : ℕ) (p R : List ℕ) (c at : ℕ) → Well p R c → Kept p (halve k p at .0) R c
+halve-kept : (k : ℕ) (p R : List ℕ) (c at : ℕ) → Well p R c → Kept p (halve k p at .0) R c
 halve-kept zero p R c at W = subst⁻¹ (λ (h : List ℕ × Found). Kept p (h .0) R c) (halve-nil p at) (kept p R c W)
 halve-kept (suc k) p R c at W =
     go (λ K. halve-kept k (skip p at) R c (up p (up p at)) K) (decLt at max-sites) (ℕ-discrete (up p at) at) (decLt (up p at) max-sites)
@@ -170,7 +199,9 @@ halve-kept (suc k) p R c at W =
     go ih (yes h) (no n) (no d) = subst⁻¹ (λ (h : List ℕ × Found). Kept p (h .0) R c) (halve-none p at k h n (omega arith)) (kept p R c W)
     go ih (yes h) (no n) (yes j) =
         subst⁻¹ (λ (h : List ℕ × Found). Kept p (h .0) R c) (halve-step p at k h n j)
-        (kept-by p (skip p at) _ R c (same-found p R c W at h j n) (ih (skip-well p R c W at h j n)))
+        (kept-by p (skip p at) _ R c
+        (record { well = skip-well p R c W at h j n; same = same-found p R c W at h j n; shorter = keep p R c W at h j n })
+        (ih (skip-well p R c W at h j n)))
 
 -- what it answers at the end of a chain
 halve-led : (k n : ℕ) (p R : List ℕ) (c at r : ℕ) → Well p R c → n < k → Leads n p at r → halve k p at .1 ≡ At r
@@ -188,13 +219,13 @@ halve-led (suc k) (suc (suc n)) p R c at r W l t =
 
 -- On a well-made state the halving find answers what the plain find answers, and keeps every answer and the state well made.
 module _ (p R : List ℕ) (c : ℕ) (W : Well p R c) (x : ℕ) where
-  pub halved-kept : Kept p (halve-in p x .0) R c
+  pub halve-keeps : Kept p (halve-in p x .0) R c
   unfolding halve-in
-  halved-kept = halve-kept max-sites p R c x W
+  halve-keeps = halve-kept max-sites p R c x W
 
-  pub halved-found : halve-in p x .1 ≡ find-in p x .found
+  pub halve-found : halve-in p x .1 ≡ find-in p x .found
   unfolding halve-in
-  halved-found = go (case p R c W x)
+  halve-found = go (case p R c W x)
     where
       go : Case p R x → halve max-sites p x .1 ≡ find-in p x .found
       go (outside h) = ap (λ (h : List ℕ × Found). h .1) (halve-out p x max-sites h) ∙ sym (ap (λ (t : Trail). t .found) (find-out p x h))
