@@ -15,3 +15,5 @@ pub mod Cases
 -- what the proofs of the functions use
 pub mod CheckLaws
 pub mod PlanLaws
+-- the theorems, of the functions
+pub mod Shipped
