@@ -85,9 +85,10 @@ module _ (g : Set) (R : Ready g) (m : List ℕ) (room : length (g .kept) ≤ len
 -- two rules are told exactly if no proposal mends them
 pub hurdle-exactly : (g : Set) → Ready g → (i j : ℕ) → i < j → j < length (g .kept) →
     (hurdle (obstacle g i j) ≡ Free → ⊥) ↔ ((p : List ℕ) → Proposable p → Mends g p i j → ⊥)
-hurdle-exactly g R i j l k =
-    (λ f. obstructed-exactly g R i j l k .0 (go f (obstacle g i j) refl),
-     λ f e. let w = obstructed-exactly g R i j l k .1 f in let v = of-obstructed g _ (w .1) in told (w .0) (sym (ap hurdle (v .2)) ∙ e))
+hurdle-exactly g R i j l k = (
+  λ f. obstructed-exactly g R i j l k .0 (go f (obstacle g i j) refl),
+  λ f e. let w = obstructed-exactly g R i j l k .1 f in let v = of-obstructed g _ (w .1) in told (w .0) (sym (ap hurdle (v .2)) ∙ e),
+)
   where
     told : (o : Obstacle) → hurdle (some o) ≡ Free → ⊥
     told by-mask e = let z : _≡_ {A = ℕ} 0 1 = cc in absurd (omega arith)
