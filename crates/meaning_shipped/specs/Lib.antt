@@ -13,5 +13,6 @@ pub mod Reader
 pub mod Says
 pub mod Cycles
 pub mod Counts
+pub mod Last
 pub mod Memory
 pub mod Text

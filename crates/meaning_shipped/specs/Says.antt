@@ -37,7 +37,7 @@ rule-of : (sheet : List ℕ) (g : Set) → Closed sheet g → (k : Kept) → Lis
 rule-of sheet g c k m p e = let x = closed-came c k m in record { kept = k; there = m; place = e; rule = x .0; came = x .1; same = came-same (x .1) }
 
 -- ---- by their first byte
-abbrev head-byte : List ℕ → ℕ
+abbrev pub head-byte : List ℕ → ℕ
 head-byte [] = 0
 head-byte (b ∷ s) = b
 
@@ -69,16 +69,16 @@ kind-of sheet f (term d at t R o m) = inr (inr (inl (d, at, t, R, m, refl, o)))
 kind-of sheet f (counts d at R o) = inr (inr (inr (inl ((d, at, R, o, refl), refl))))
 kind-of sheet f (stop d at ls x R q) = inr (inr (inr (inr ((d, at, ls, x, R, q, refl), refl))))
 
-list-head : (l : Listed) → (head-byte (listed-found l) ≡ 18) ⊎ (head-byte (listed-found l) ≡ 19)
+pub list-head : (l : Listed) → (head-byte (listed-found l) ≡ 18) ⊎ (head-byte (listed-found l) ≡ 19)
 unfolding listed-found
 list-head (overlap p ns) = inl refl
 list-head (R.mask p ns) = inr refl
 
-refusal-head : (p : ℕ) (x : Refusal) → head-byte (refusal-found p x) ≡ 17
+pub refusal-head : (p : ℕ) (x : Refusal) → head-byte (refusal-found p x) ≡ 17
 unfolding refusal-found
 refusal-head p x = refl
 
-term-head : (t : ℕ) → head-byte (term-found t) ≡ 20
+pub term-head : (t : ℕ) → head-byte (term-found t) ≡ 20
 unfolding term-found
 term-head t = refl
 

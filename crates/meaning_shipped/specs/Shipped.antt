@@ -30,7 +30,7 @@ use Rattle.rule_load.proofs.Ranging.{RuleFits}
 use Rattle.meaning.specs.RuleSites.{rule-sites, Four-or-six, Only-four-or-six, Refused-four-or-six, Same-on}
 use Rattle.meaning.specs.Demand3.{Unmatched, Holds-equal}
 use Rattle.meaning.specs.Overlaps as O
-use Rattle.meaning_shipped.specs.Words.{sites-now, rule-now, MadeIn, From, Asked, Closed, Read-whole, Stopped, found-in, Rule-of, Common, Overlaps, Pair, Chain, sets-in, rules-of}
+use Rattle.meaning_shipped.specs.Words.{sites-now, rule-now, MadeIn, From, Asked, Closed, Read-whole, Stopped, found-in, Rule-of, Common, Overlaps, Pair, Chain, sets-in, rules-of, Closes-sheet}
 use Rattle.meaning_shipped.specs.Made.{made-in}
 use Rattle.meaning_shipped.specs.Lent as L
 use Rattle.meaning_shipped.specs.Origin.{made-from, from-same}
@@ -38,6 +38,7 @@ use Rattle.meaning_shipped.specs.Says.{each-refusal, refusal-there, unma
 use Rattle.meaning_shipped.specs.Cycles.{cyclic-there}
 use Rattle.meaning_shipped.specs.Text.{same-text}
 use Rattle.meaning_shipped.specs.Counts as C
+use Rattle.meaning_shipped.specs.Last.{closed-last}
 
 -- ---- loading a rule into lent memory that the calls made
 module _ (m : List ℕ) (n : ℕ) (ws : List ℕ) (k : ℕ) (M : MadeIn m n ws k) (r : Rule) where
@@ -231,3 +232,8 @@ each-1F = C.each-stop
 pub has-1F : (sheet : List ℕ) (at : ℕ) (x : Refusal) → Stopped sheet at x → List·Memᴰ (31 ∷ (four at ++ (number x ∷ []))) (found-in sheet)
 unfolding stop-found
 has-1F = C.stop-there
+
+-- The last finding is the sheet's 15 or its 1F, and none before it is one: there is one of them, once.
+pub one-last : (sheet : List ℕ) → (before : List (List ℕ)) × (end : List ℕ) × (found-in sheet ≡ before ++ (end ∷ [])) × Closes-sheet end ×
+    ((f : List ℕ) → List·Memᴰ f before → Closes-sheet f → ⊥)
+one-last = closed-last

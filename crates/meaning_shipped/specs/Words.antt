@@ -135,6 +135,10 @@ Stopped sheet at x = (d : Reader) × (ls : Lines) × Reads sheet d at ls × Stop
 abbrev pub found-in : List ℕ → List (List ℕ)
 found-in sheet = read-on start 1 (lines sheet)
 
+-- A finding that closes a sheet's findings: a 15, or the 1F that replaces it.
+abbrev pub Closes-sheet : List ℕ → Type 0
+Closes-sheet f = ((t : List ℕ) × (f ≡ 21 ∷ t)) ⊎ ((t : List ℕ) × (f ≡ 31 ∷ t))
+
 -- The rule with place p of a set that the sheet ends: as the set keeps it, and as the sheet wrote it. Both match the same inputs of the set.
 pub record Rule-of (sheet : List ℕ) (g : Set) (p : ℕ) : Type 0 where
   pub kept : Kept

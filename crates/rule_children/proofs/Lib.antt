@@ -3,3 +3,4 @@ pub mod NextLaws
 pub mod ScanLaws
 pub mod GrowLaws
 pub mod AnswerLaws
+pub mod One

@@ -1,2 +1,3 @@
 -- Laws of how constrained sites are laid out.
 pub mod LaidLaws
+pub mod One

@@ -2,3 +2,4 @@
 pub mod Reading
 pub mod Holders
 pub mod Agreeing
+pub mod One

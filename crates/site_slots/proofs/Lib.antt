@@ -1,2 +1,3 @@
 pub mod Passing
 pub mod Holding
+pub mod One
