@@ -97,8 +97,8 @@ module _ (m : List ℕ) (n : ℕ) (ws : List ℕ) (k : ℕ) (r : Rule) where
       start : (t : Bool) → ltb k max-rules ≡ t → load-in m n ws k r ≡ load (set-in m n ws k) (written r)
       start true q =
           let l = ltb-true k max-rules q in
-          let y : 196 * k + 196 ≤ length ws = omega arith in
-          rw (q, le-leb (196 * k + 196) (length ws) y, le-leb n max-sites c) (last (load (set-in m n ws k) (written r)) refl)
+          let y : stride * k + stride ≤ length ws = omega arith in
+          rw (q, le-leb (stride * k + stride) (length ws) y, le-leb n max-sites c) (last (load (set-in m n ws k) (written r)) refl)
       start false q = full-same m n ws k r d q
 
 -- ---- a kept rule: what it came from

@@ -239,13 +239,13 @@ module _ (m : List ℕ) (n : ℕ) (tail sites rows words kids eqs : List ℕ) (x
         go (done u) (done w) h = refl
 
 -- ---- the lists that are lent to the items
-pub roomy-so : (tail sites rows shapes kids eqs : List ℕ) → Lent tail sites rows → 3 * max-items ≤ length shapes → length kids ≡ 256 → length eqs ≡ 64 → roomy tail sites rows shapes kids eqs ≡ true
+pub roomy-so : (tail sites rows shapes kids eqs : List ℕ) → Lent tail sites rows → 3 * max-items ≤ length shapes → length kids ≡ max-fields * max-items → length eqs ≡ 2 * max-items → roomy tail sites rows shapes kids eqs ≡ true
 unfolding roomy
 roomy-so tail sites rows shapes kids eqs L d p q =
     let a = L .long-tail in
     let b = L .long-sites in
     let c = L .long-rows in
-    rw (le-leb (8 * max-items) (length tail) a, le-leb max-items (length sites) (omega arith), le-leb max-items (length rows) (omega arith), le-leb (3 * max-items) (length shapes) d, le-leb (8 * max-items) (length kids) (omega arith), le-leb (2 * max-items) (length eqs) (omega arith))
+    rw (le-leb (max-fields * max-items) (length tail) a, le-leb max-items (length sites) (omega arith), le-leb max-items (length rows) (omega arith), le-leb (3 * max-items) (length shapes) d, le-leb (max-fields * max-items) (length kids) (omega arith), le-leb (2 * max-items) (length eqs) (omega arith))
 
 pub zeros-inside : (n : ℕ) → Inside (replicate n 0)
 zeros-inside zero k = omega arith

@@ -14,7 +14,7 @@ use Rattle.paper.specs.declared.Rule.{Rule}
 use Rattle.paper.specs.declared.Refusal.{Refusal}
 use Rattle.paper.specs.declared.Refusal.the-variants.{TooManySites, TooManyRules, TooManyItems, TooManyConstrained, TooManyEqual, PlaceUsed}
 use Rattle.paper.specs.Words.{or-else, below, joined}
-use Rattle.paper.specs.Numbers.{max-sites, max-rules, max-items, max-constrained, max-equal, Outcome, done, refused, _>>=_, demand}
+use Rattle.paper.specs.Numbers.{max-sites, max-fields, max-rules, max-items, max-constrained, max-equal, Outcome, done, refused, _>>=_, demand}
 use Rattle.paper.specs.Sites.{Site, Sites, constBool, constInt, constPrim, argument, extractor, constructor, iterator, makeVariant, matchVariant, makeStruct, extractStruct, makeSome, matchSome, matchTuple, sources, parent}
 use Rattle.paper.specs.Loading.{Kept, Set, Written, written, Solving, with-rule}
 use Rattle.paper.specs.Rules.{no-rule}
@@ -29,8 +29,8 @@ use Rattle.paper.specs.declared.Verdict.{Verdict}
 use Rattle.paper.specs.declared.Verdict.the-variants as verdict
 use Rattle.rule_hanging.specs.Seen.{shown}
 use Rattle.rule_rounds.specs.declared.Solved.{Solved}
-use Rattle.rule_rounds.specs.declared.Ended.{Ended}
-use Rattle.rule_rounds.specs.declared.Ended.the-variants as end
+use Rattle.rule_rounds.specs.declared.Halt.{Halt}
+use Rattle.rule_rounds.specs.declared.Halt.the-variants as halt
 use Rattle.rule_load.specs.declared.Tried.{Tried}
 use Rattle.rule_load.specs.declared.Tried.the-variants as tried
 use Rattle.rule_load.specs.declared.Loaded.{Loaded}
@@ -156,18 +156,18 @@ module _ (m : List ℕ) (n : ℕ) (ws : List ℕ) (k : ℕ) (r : Rule) (w : Writ
 
     -- ---- the rounds
     module _ (tail sites rows words equal low : List ℕ) (x : Solved) (R : Rounds m n tail sites rows words equal low x (worked m n (w .count) (w .items))) where
-      rounds-refused : (o : Outcome Solving) (e : Refusal) → Rounds m n tail sites rows words equal low x o → x .answer ≡ end.Refused e → o ≡ refused e
+      rounds-refused : (o : Outcome Solving) (e : Refusal) → Rounds m n tail sites rows words equal low x o → x .answer ≡ halt.Refused e → o ≡ refused e
       rounds-refused (done s) e Q f = let g = Q .0 in let z : _≡_ {A = ℕ} 0 1 = cc in absurd (omega arith)
       rounds-refused (refused d) e Q f = let z : d ≡ e = cc in ap refused z
 
-      rounds-done : (o : Outcome Solving) → Rounds m n tail sites rows words equal low x o → x .answer ≡ end.Fine → (s : Solving) × (o ≡ done s) × Solves m n tail sites rows words equal low x s
+      rounds-done : (o : Outcome Solving) → Rounds m n tail sites rows words equal low x o → x .answer ≡ halt.Fine → (s : Solving) × (o ≡ done s) × Solves m n tail sites rows words equal low x s
       rounds-done (done s) Q f = (s, refl, Q .1)
       rounds-done (refused e) Q f = let z : _≡_ {A = ℕ} 0 1 = cc in absurd (omega arith)
 
-      pub rounds-refuse : (e : Refusal) → x .answer ≡ end.Refused e → Answers m n ws k r (loaded.Refused e) m ws
+      pub rounds-refuse : (e : Refusal) → x .answer ≡ halt.Refused e → Answers m n ws k r (loaded.Refused e) m ws
       rounds-refuse e f = let z = rounds-refused (worked m n (w .count) (w .items)) e R f in refuses e (goes-on ∙ ap (λ o. o >>= ended m n ws k w) z)
 
-      module _ (f : x .answer ≡ end.Fine) where
+      module _ (f : x .answer ≡ halt.Fine) where
         found : (s : Solving) × (worked m n (w .count) (w .items) ≡ done s) × Solves m n tail sites rows words equal low x s
         found = rounds-done (worked m n (w .count) (w .items)) R f
 
@@ -258,14 +258,14 @@ module _ (m : List ℕ) (n : ℕ) (ws : List ℕ) (k : ℕ) (r : Rule) (tail sit
 pub answers-same : (m : List ℕ) (n : ℕ) (ws : List ℕ) (k : ℕ) (r q : Rule) (out : Loaded) (m′ ws′ : List ℕ) → load-in m n ws k r ≡ load-in m n ws k q → Answers m n ws k q out m′ ws′ → Answers m n ws k r out m′ ws′
 answers-same m n ws k r q out m′ ws′ e h = rw e h
 
-pub lent-few : Lent (replicate 256 0) (replicate 64 0) (replicate 64 0)
-lent-few = let a = length-replicate {A = ℕ} 256 0 in let b = length-replicate {A = ℕ} 64 0 in record { long-tail = omega arith; long-sites = omega arith; long-rows = omega arith }
+pub lent-few : Lent (replicate (max-fields * max-items) 0) (replicate (2 * max-constrained) 0) (replicate (2 * max-constrained) 0)
+lent-few = let a = length-replicate {A = ℕ} (max-fields * max-items) 0 in let b = length-replicate {A = ℕ} (2 * max-constrained) 0 in record { long-tail = omega arith; long-sites = omega arith; long-rows = omega arith }
 
-pub lent-all : Lent (replicate 1024 0) (replicate 1024 0) (replicate 1024 0)
-lent-all = let a = length-replicate {A = ℕ} 1024 0 in record { long-tail = omega arith; long-sites = omega arith; long-rows = omega arith }
+pub lent-all : Lent (replicate max-sites 0) (replicate max-sites 0) (replicate max-sites 0)
+lent-all = let a = length-replicate {A = ℕ} max-sites 0 in record { long-tail = omega arith; long-sites = omega arith; long-rows = omega arith }
 
-pub never-scant : Scant (replicate 1024 0) (replicate 1024 0) → ⊥
-never-scant s = let a = length-replicate {A = ℕ} 1024 0 in ⊎-elim (λ (h : length {A = ℕ} (replicate 1024 0) < max-sites). omega arith) (λ (h : length {A = ℕ} (replicate 1024 0) < max-sites). omega arith) s
+pub never-scant : Scant (replicate max-sites 0) (replicate max-sites 0) → ⊥
+never-scant s = let a = length-replicate {A = ℕ} max-sites 0 in ⊎-elim (λ (h : length {A = ℕ} (replicate max-sites 0) < max-sites). omega arith) (λ (h : length {A = ℕ} (replicate max-sites 0) < max-sites). omega arith) s
 
 pub admits-so : (n : ℕ) (ws : List ℕ) (k place count : ℕ) (a : Verdict) → a ≡ answer-as (admitted n ws k place count) → a ≡ verdict.Fine → admitted n ws k place count ≡ done tt
 admits-so n ws k place count a p q = fine-done (admitted n ws k place count) (sym p ∙ q) .1
@@ -274,7 +274,7 @@ admits-so n ws k place count a p q = fine-done (admitted n ws k place count) (sy
 pub wrote-as : (ws : List ℕ) (k p q : ℕ) (ss sh sh′ es lo w : List ℕ) → w ≡ stored.written ws k p q ss sh es lo → sh ≡ sh′ → w ≡ stored.written ws k p q ss sh′ es lo
 wrote-as ws k p q ss sh sh′ es lo w e f = e ∙ ap (λ x. stored.written ws k p q ss x es lo) f
 
-pub refused-told : {a : Ended} {e : Refusal} {tail sites : List ℕ} {P : Type 0} → a ≡ end.Refused e → Unless a tail sites P → P
+pub refused-told : {a : Halt} {e : Refusal} {tail sites : List ℕ} {P : Type 0} → a ≡ halt.Refused e → Unless a tail sites P → P
 refused-told f u = u .told (λ e. let z : _≡_ {A = ℕ} 0 1 = cc in omega arith)
 
 pub array-long : (xs : List ℕ) (n : ℕ) → length xs ≡ length {A = ℕ} (replicate n 0) → length xs ≡ n

@@ -78,14 +78,14 @@ last-kind w k a b = go (eqb (w % 256) 12) refl
     go false e = absurd (k .real (rw (ne-eqb (w % 256) 8 a, ne-eqb (w % 256) 10 b, e)))
 
 module _ (m x : List ℕ) (i w s : ℕ) (h : i * slot + slot ≤ length m) (e : s ≡ or-else (parent (site-of-word w)) 0) where
-  pub put-variant : w % 256 ≡ 8 → x ≡ put m (i * 32) (6 ∷ 8 ∷ s / 256 ∷ s % 256 ∷ [])
-      → set (set (set x (i * 32 + 4) (w / 256 / 256 % 65536 / 256)) (i * 32 + 5) (w / 256 / 256 % 65536 % 256)) (i * 32 + 6) (w / 256 % 256) ≡ put m (i * slot) (length (body (site-of-word w)) ∷ body (site-of-word w))
-  put-variant a f = rw (f, variant-body w s e a) (seven-bytes m (i * 32) 6 8 (s / 256) (s % 256) _ _ _ (omega arith))
+  pub put-variant : w % 256 ≡ 8 → x ≡ put m (i * slot) (6 ∷ 8 ∷ s / 256 ∷ s % 256 ∷ [])
+      → set (set (set x (i * slot + 4) (w / 256 / 256 % 65536 / 256)) (i * slot + 5) (w / 256 / 256 % 65536 % 256)) (i * slot + 6) (w / 256 % 256) ≡ put m (i * slot) (length (body (site-of-word w)) ∷ body (site-of-word w))
+  put-variant a f = rw (f, variant-body w s e a) (seven-bytes m (i * slot) 6 8 (s / 256) (s % 256) _ _ _ (omega arith))
 
-  pub put-struct : w % 256 ≡ 10 → x ≡ put m (i * 32) (4 ∷ 10 ∷ s / 256 ∷ s % 256 ∷ []) → set x (i * 32 + 4) (w / 256 % 256) ≡ put m (i * slot) (length (body (site-of-word w)) ∷ body (site-of-word w))
-  put-struct a f = rw (f, struct-body w s e a) (five-bytes m (i * 32) 4 10 (s / 256) (s % 256) _ (omega arith))
+  pub put-struct : w % 256 ≡ 10 → x ≡ put m (i * slot) (4 ∷ 10 ∷ s / 256 ∷ s % 256 ∷ []) → set x (i * slot + 4) (w / 256 % 256) ≡ put m (i * slot) (length (body (site-of-word w)) ∷ body (site-of-word w))
+  put-struct a f = rw (f, struct-body w s e a) (five-bytes m (i * slot) 4 10 (s / 256) (s % 256) _ (omega arith))
 
-  pub put-some : ChildWord w → (w % 256 ≡ 8 → ⊥) → (w % 256 ≡ 10 → ⊥) → x ≡ put m (i * 32) (3 ∷ 12 ∷ s / 256 ∷ s % 256 ∷ []) → x ≡ put m (i * slot) (length (body (site-of-word w)) ∷ body (site-of-word w))
+  pub put-some : ChildWord w → (w % 256 ≡ 8 → ⊥) → (w % 256 ≡ 10 → ⊥) → x ≡ put m (i * slot) (3 ∷ 12 ∷ s / 256 ∷ s % 256 ∷ []) → x ≡ put m (i * slot) (length (body (site-of-word w)) ∷ body (site-of-word w))
   put-some k a b f = rw (some-body w s e (last-kind w k a b)) f
 
 -- ---- one slot after the other

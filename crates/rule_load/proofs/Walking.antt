@@ -11,6 +11,7 @@ use lib.Seq.{take-suc-set, getD-set-same, getD-set-other}
 use lib.Dec.{eqb}
 use borrow.Author.Tests.{eq-eqb, ne-eqb}
 use Rattle.paper.specs.Words.{any, below}
+use Rattle.paper.specs.Numbers.{max-items}
 use Rattle.paper.specs.Loading.{Kept}
 use Rattle.rule_words.specs.Stored.{run, base, place-at, kept-at, kept-in, kept-first}
 use Rattle.rule_load.specs.Parts.{has-place, gathered, SameTo}
@@ -60,7 +61,7 @@ module _ (rows shapes : List ℕ) where
 pub third-below : (k held : ℕ) → k < 3 * held → k / 3 < held
 third-below k held h = omega arith
 
-pub row-fits : (row k : ℕ) → row < 32 → 3 * row + k % 3 < 96
+pub row-fits : (row k : ℕ) → row < max-items → 3 * row + k % 3 < 3 * max-items
 row-fits row k h = omega arith
 
 -- ---- copying

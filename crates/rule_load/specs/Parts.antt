@@ -9,7 +9,7 @@ use Rattle.paper.specs.declared.Item.{Item}
 use Rattle.paper.specs.declared.Rule.{Rule}
 use Rattle.paper.specs.declared.Refusal.the-variants.{TooManySites, TooManyRules, TooManyItems, TooManyConstrained, TooManyEqual, PlaceUsed}
 use Rattle.paper.specs.Words.{or-else, any, below}
-use Rattle.paper.specs.Numbers.{max-sites, max-rules, max-items, max-constrained, max-equal, most-rounds, Outcome, done, refused, _>>=_, demand}
+use Rattle.paper.specs.Numbers.{max-sites, max-fields, max-rules, max-items, max-constrained, max-equal, most-rounds, Outcome, done, refused, _>>=_, demand}
 use Rattle.paper.specs.Sites.{Site, parent}
 use Rattle.paper.specs.Loading.{Kept, Solving, closure, holders, conflict, check-4, steps, endless, no-endless, rounds, started}
 use Rattle.rule_words.specs.Stored.{base, stride, kept-first, written}
@@ -61,7 +61,7 @@ settled total held equal room count = do
 
 -- the lists that are lent are long enough for the items
 pub record Lent (tail sites rows : List ℕ) : Type 0 where
-  pub long-tail : 8 * max-items ≤ length tail
+  pub long-tail : max-fields * max-items ≤ length tail
   pub long-sites : max-items ≤ length sites
   pub long-rows : length sites ≤ length rows
 
@@ -86,7 +86,7 @@ pub record Left (m : List ℕ) (n : ℕ) (tail sites rows words kids eqs equal l
   pub few : length items ≤ count
   pub fine : x .answer ≡ verdict.Fine
   pub inside : Inside kids
-  pub long-tail : 8 * max-items ≤ length tail
+  pub long-tail : max-fields * max-items ≤ length tail
   pub long-sites : max-items ≤ length sites
   pub long-rows : length sites ≤ length rows
   pub long-equal : max-equal ≤ length equal

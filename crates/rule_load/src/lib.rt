@@ -26,7 +26,7 @@ use paper::Rule;
 use paper::SITES;
 use paper::Verdict;
 use rule_items::Progress;
-use rule_rounds::Ended;
+use rule_rounds::Halt;
 use rule_rounds::Rounded;
 use rule_rounds::Solved;
 use rule_rounds::Start;
@@ -108,13 +108,13 @@ fn admit(n: u16, words: &[u64], kept: u32, place: u32, count: u8) -> Verdict
 }
 
 fn refuse(why: Refusal) -> Solved
-    ensures { λ r. ⌜ r .answer ≡ Ended.Refused why ⌝ }
+    ensures { λ r. ⌜ r .answer ≡ Halt.Refused why ⌝ }
 {
     Solved {
         tail: 0,
         held: 0,
         equal: 0,
-        answer: Ended::Refused(why),
+        answer: Halt::Refused(why),
     }
 }
 
@@ -169,7 +169,7 @@ fn turn(
             tail: 0,
             held: 0,
             equal: 0,
-            answer: Ended::Short,
+            answer: Halt::Short,
         };
     };
     s
@@ -507,9 +507,9 @@ fn attempt(
     );
     let answer = s.answer;
     match answer {
-        Ended::Short => Tried::Short,
-        Ended::Refused(why) => Tried::Done(Loaded::Refused(why)),
-        Ended::Fine => {
+        Halt::Short => Tried::Short,
+        Halt::Refused(why) => Tried::Done(Loaded::Refused(why)),
+        Halt::Fine => {
             let out = finish(
                 m,
                 n,

@@ -2,6 +2,7 @@
 pub mod RoundLaws
 pub mod RoundGive
 pub mod RoundList
+pub mod Telling
 pub mod RoundStep
 pub mod RoundTurn
 pub mod RoundPick

@@ -2,10 +2,12 @@
 use mathlib.Core.Path.{_≡_}
 use mathlib.Core.Option.{none, some}
 use mathlib.Core.List.{List}
-use Prim.Native.Nat.{ℕ, _+_, _<_, _≤_, min}
+use Prim.Native.Nat.{ℕ, suc, _+_, _<_, _≤_, min}
 use lib.ListN.{length, getD, set, replicate}
 use lib.Dec.{eqb}
 use Rattle.paper.specs.declared.Constraint.{Constraint}
+use Rattle.paper.specs.declared.Refusal.{Refusal}
+use Rattle.paper.specs.declared.Refusal.the-variants.{TooManySites}
 use Rattle.paper.specs.Words.{if_then_else_, below, put, look}
 use Rattle.paper.specs.Numbers.{max-sites, max-fields, max-equal, Outcome, done, refused, _>>=_}
 use Rattle.paper.specs.Sites.{Sites, child-count, child, children, number-of, add-all}
@@ -22,11 +24,35 @@ use Rattle.class_labels.specs.Tied.{Tied}
 use Rattle.class_labels.specs.Rows.{row}
 use Rattle.class_labels.specs.Taking.{LabelsBelow}
 use Rattle.rule_laid.specs.Laid.{GoodRow}
-use Rattle.rule_rounds.specs.Rounding.{Listed}
+use Rattle.rule_rounds.specs.Rounding.{Listed, Scant}
 use Rattle.rule_rounds.specs.declared.Solved.{Solved}
-use Rattle.rule_rounds.specs.declared.Ended.the-variants as ended
+use Rattle.rule_rounds.specs.declared.Halt.{Halt}
+use Rattle.rule_rounds.specs.declared.Halt.the-variants as halt
+use Rattle.rule_rounds.specs.declared.Space.{Space}
+use Rattle.rule_rounds.specs.declared.Space.the-variants as space
+use Rattle.rule_rounds.specs.declared.Stage.{Stage}
 use Rattle.rule_rounds.specs.declared.Grown.{Grown}
 use Rattle.rule_rounds.specs.declared.Picked.{Picked}
+
+-- ---- room
+
+-- "7": one site more than a set has
+abbrev pub full : ℕ → Refusal
+full at = TooManySites (suc max-sites) at
+
+-- what is told of it
+abbrev pub halt-of : ℕ → Space → Halt
+halt-of at space.Enough = halt.Fine
+halt-of at space.Short = halt.Short
+halt-of at space.Full = halt.Refused (full at)
+
+abbrev pub solved-of : ℕ → Stage → Solved
+solved-of at s = record { tail = s .tail; held = s .held; equal = s .equal; answer = halt-of at (s .room) }
+
+-- what is known, unless the lent lists were too short
+pub record IfRoom (a : Space) (tail sites : List ℕ) (P : Type 0) : Type 0 where
+  pub short : a ≡ space.Short → Scant tail sites
+  pub told : (a ≡ space.Short → ⊥) → P
 
 -- ---- the lists
 
@@ -70,9 +96,9 @@ pub record Stood (m : List ℕ) (n : ℕ) (tail : List ℕ) (t : ℕ) (sites row
   pub wide : length sites ≤ length js
 
 -- how a step ends: as paper's does
-abbrev pub Ends : List ℕ → ℕ → List ℕ → List ℕ → List ℕ → List ℕ → List ℕ → List ℕ → ℕ → List ℕ → Solved → Outcome Solving → Type 0
-Ends m n tail sites rows words p r c js x (done s) = (x .answer ≡ ended.Fine) × Stood m n tail (x .tail) sites rows words (x .held) p r c js (x .equal) s
-Ends m n tail sites rows words p r c js x (refused e) = x .answer ≡ ended.Refused e
+abbrev pub Ends : ℕ → List ℕ → ℕ → List ℕ → List ℕ → List ℕ → List ℕ → List ℕ → List ℕ → ℕ → List ℕ → Stage → Outcome Solving → Type 0
+Ends at m n tail sites rows words p r c js x (done s) = (x .room ≡ space.Enough) × Stood m n tail (x .tail) sites rows words (x .held) p r c js (x .equal) s
+Ends at m n tail sites rows words p r c js x (refused e) = (x .room ≡ space.Full) × (e ≡ full at)
 
 -- all that a round reads and writes
 pub record State : Type 0 where
@@ -91,12 +117,12 @@ abbrev pub state : List ℕ → ℕ → List ℕ → List ℕ → List ℕ → L
 state m n tail sites rows words p r c js = record { m = m; n = n; tail = tail; sites = sites; rows = rows; words = words; p = p; r = r; c = c; joined = js }
 
 -- it tells v, with the numbers of s
-abbrev pub Stands : State → Solved → Solving → Type 0
+abbrev pub Stands : State → Stage → Solving → Type 0
 Stands w s v = Stood (w .m) (w .n) (w .tail) (s .tail) (w .sites) (w .rows) (w .words) (s .held) (w .p) (w .r) (w .c) (w .joined) (s .equal) v
 
 -- and is where paper's step ends
-abbrev pub Comes : State → Solved → Outcome Solving → Type 0
-Comes w s o = Ends (w .m) (w .n) (w .tail) (w .sites) (w .rows) (w .words) (w .p) (w .r) (w .c) (w .joined) s o
+abbrev pub Comes : ℕ → State → Stage → Outcome Solving → Type 0
+Comes at w s o = Ends at (w .m) (w .n) (w .tail) (w .sites) (w .rows) (w .words) (w .p) (w .r) (w .c) (w .joined) s o
 
 -- ---- one constraint for one member
 
@@ -126,10 +152,10 @@ pub record Grew (m : List ℕ) (n t : ℕ) (sites rows words : List ℕ) (held r
   pub kids : Kids u x (shape-in words row) (g .kids)
   pub eight : length (g .kids) ≡ max-fields
 
-abbrev pub Grows : List ℕ → ℕ → ℕ → List ℕ → List ℕ → List ℕ → ℕ → ℕ → ℕ → List ℕ → List ℕ → List ℕ → Grown → Outcome Sites → Type 0
-Grows m n t sites rows words held row x tail′ sites′ rows′ g (done u) = (g .state .answer ≡ ended.Fine)
+abbrev pub Grows : ℕ → List ℕ → ℕ → ℕ → List ℕ → List ℕ → List ℕ → ℕ → ℕ → ℕ → List ℕ → List ℕ → List ℕ → Grown → Outcome Sites → Type 0
+Grows at m n t sites rows words held row x tail′ sites′ rows′ g (done u) = (g .state .room ≡ space.Enough)
     × Grew m n t sites rows words held row x tail′ sites′ rows′ g u
-Grows m n t sites rows words held row x tail′ sites′ rows′ g (refused e) = g .state .answer ≡ ended.Refused e
+Grows at m n t sites rows words held row x tail′ sites′ rows′ g (refused e) = (g .state .room ≡ space.Full) × (e ≡ full at)
 
 -- ---- like-numbered children
 
@@ -163,7 +189,7 @@ pub record Led (m : List ℕ) (n : ℕ) (tail : List ℕ) (t : ℕ) (sites rows 
   pub good : GoodRow words row
   pub kids : Kids (s .sites) low (shape-in words row) of
 
-abbrev pub Leads : State → Solved → List ℕ → ℕ → ℕ → Solving → Type 0
+abbrev pub Leads : State → Stage → List ℕ → ℕ → ℕ → Solving → Type 0
 Leads w s of row low v =
     Led (w .m) (w .n) (w .tail) (s .tail) (w .sites) (w .rows) (w .words) (s .held) (w .p) (w .r) (w .c) (w .joined) (s .equal) of row low v
 

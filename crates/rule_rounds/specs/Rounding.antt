@@ -17,8 +17,8 @@ use Rattle.rule_rounds.specs.declared.Solved.{Solved}
 use Rattle.rule_rounds.specs.declared.Start.{Start}
 use Rattle.rule_rounds.specs.declared.Rounded.{Rounded}
 use Rattle.rule_rounds.specs.declared.Rounded.the-variants as rounded
-use Rattle.rule_rounds.specs.declared.Ended.{Ended}
-use Rattle.rule_rounds.specs.declared.Ended.the-variants as ended
+use Rattle.rule_rounds.specs.declared.Halt.{Halt}
+use Rattle.rule_rounds.specs.declared.Halt.the-variants as halt
 
 -- what the rounds start with
 pub record Proper (m : List ℕ) (n : ℕ) (tail : List ℕ) (t : ℕ) (sites rows words : List ℕ) (held : ℕ) (eqs : List ℕ) : Type 0 where
@@ -58,17 +58,17 @@ pub record Solves (m : List ℕ) (n : ℕ) (tail sites rows words equal low : Li
   pub long-rows : x .held ≤ length rows
 
 abbrev pub Rounds : List ℕ → ℕ → List ℕ → List ℕ → List ℕ → List ℕ → List ℕ → List ℕ → Solved → Outcome Solving → Type 0
-Rounds m n tail sites rows words equal low x (done s) = (x .answer ≡ ended.Fine) × Solves m n tail sites rows words equal low x s
-Rounds m n tail sites rows words equal low x (refused e) = x .answer ≡ ended.Refused e
+Rounds m n tail sites rows words equal low x (done s) = (x .answer ≡ halt.Fine) × Solves m n tail sites rows words equal low x s
+Rounds m n tail sites rows words equal low x (refused e) = x .answer ≡ halt.Refused e
 
 -- a lent list is shorter than a table may be
 abbrev pub Scant : List ℕ → List ℕ → Type 0
 Scant tail sites = (length tail < max-sites) ⊎ (length sites < max-sites)
 
 -- what is told, unless the lent lists were too short for the rule: then nothing is known of it
-pub record Unless (a : Ended) (tail sites : List ℕ) (P : Type 0) : Type 0 where
-  pub short : a ≡ ended.Short → Scant tail sites
-  pub told : (a ≡ ended.Short → ⊥) → P
+pub record Unless (a : Halt) (tail sites : List ℕ) (P : Type 0) : Type 0 where
+  pub short : a ≡ halt.Short → Scant tail sites
+  pub told : (a ≡ halt.Short → ⊥) → P
 
 -- ---- the whole
 
@@ -101,4 +101,4 @@ Leaves m a words eqs l l′ x =
 pub record Turned (m : List ℕ) (a : Start) (words eqs : List ℕ) (l l′ : Memory) (z : Rounded) : Type 0 where
   pub laid : LaidOut m a words eqs l → (x : Solved) × (z ≡ rounded.Done x) × Leaves m a words eqs l l′ x
   pub unlaid : (LaidOut m a words eqs l → ⊥) → 0 < length eqs → (z ≡ rounded.Unlaid) × (l′ ≡ l)
-  pub none : length eqs ≡ 0 → (z ≡ rounded.Done (record { tail = a .tail; held = a .held; equal = 0; answer = ended.Fine })) × (l′ ≡ l)
+  pub none : length eqs ≡ 0 → (z ≡ rounded.Done (record { tail = a .tail; held = a .held; equal = 0; answer = halt.Fine })) × (l′ ≡ l)

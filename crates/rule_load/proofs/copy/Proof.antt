@@ -3,16 +3,17 @@ use mathlib.Core.Path.{_≡_, refl, _∙_}
 use Prim.Native.Nat.{_-_, _≤_}
 use native.Mathlib.Omega.{arith}
 use lib.ListN.{length, length-set}
+use Rattle.paper.specs.Numbers.{max-equal}
 use Rattle.rule_load.specs.Parts.{SameTo}
 use Rattle.rule_load.proofs.Walking.{same-none, same-turn}
 use Rattle.rule_load.proofs.copy.Statement.{statement}
 use Rattle.rule_load.proofs.copy.Tie as tie
 
 abbrev Inv-loop : tie.InvT-loop
-Inv-loop from to₀ i₀ to i = (i ≤ 32) × SameTo i from to × (length to ≡ length to₀)
+Inv-loop from to₀ i₀ to i = (i ≤ max-equal) × SameTo i from to × (length to ≡ length to₀)
 
 abbrev μ-loop : tie.MeasureT-loop
-μ-loop from to₀ i₀ to i = 32 - i
+μ-loop from to₀ i₀ to i = max-equal - i
 
 loop-again : tie.Need-loop-again Inv-loop μ-loop
 loop-again c = (omega arith, same-turn (c .before .before .before .args .from .now) (c .before .before .loop .to) (c .before .before .loop .i) (omega (arith, c .before .before .loop .inv .2)) (c .before .before .loop .inv .1), length-set (c .before .before .loop .to) (c .before .before .loop .i) _ ∙ c .before .before .loop .inv .2)

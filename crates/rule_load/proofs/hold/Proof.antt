@@ -3,16 +3,17 @@ use mathlib.Core.Path.{_≡_, refl, _∙_}
 use Prim.Native.Nat.{_≤_, _-_}
 use native.Mathlib.Omega.{arith}
 use lib.ListN.{length}
+use Rattle.paper.specs.Numbers.{max-items}
 use Rattle.item_words.specs.Items.{items-in}
 use Rattle.rule_load.proofs.Holding.{rule-long, first-items, hold-none, hold-more, hold-few, hold-all}
 use Rattle.rule_load.proofs.hold.Statement.{statement}
 use Rattle.rule_load.proofs.hold.Tie as tie
 
 abbrev Inv-loop : tie.InvT-loop
-Inv-loop out₀ rule count k₀ out k = (k ≤ 32) × (k ≤ rule .count) × (count ≡ rule .count) × (length out ≡ length out₀) × (items-in out k ≡ first-items rule k)
+Inv-loop out₀ rule count k₀ out k = (k ≤ max-items) × (k ≤ rule .count) × (count ≡ rule .count) × (length out ≡ length out₀) × (items-in out k ≡ first-items rule k)
 
 abbrev μ-loop : tie.MeasureT-loop
-μ-loop out₀ rule count k₀ out k = 32 - k
+μ-loop out₀ rule count k₀ out k = max-items - k
 
 returns : tie.Need-returns Inv-loop μ-loop
 returns c = hold-few (c .before .before .before .before .args .t1) _ _ (c .before .before .loop .inv .4) (c .before .before .loop .inv .0) (c .before .before .loop .inv .1) (let a = c .before .before .loop .inv .2 in let b = c .if1 .taken in omega arith)

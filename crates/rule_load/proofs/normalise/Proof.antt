@@ -4,7 +4,7 @@ use native.Mathlib.Omega.{arith}
 use borrow.Author.Needs.{needs}
 use lib.Seq.{length-take-le}
 use Rattle.rule_load.proofs.Checking.{rounds-by, rounds-copied, left-held, left-equal, left-proper, left-refuse, left-solved}
-use Rattle.rule_rounds.proofs.RoundStep.{told-refused, told-up}
+use Rattle.rule_rounds.proofs.Telling.{told-refused, told-up}
 use Rattle.rule_load.proofs.normalise.Statement.{statement}
 use Rattle.rule_load.proofs.normalise.Tie as tie
 
