@@ -104,8 +104,8 @@ extern "C" {
 /* Leaves no site joined: every parent LINTEL_SITES, every rank 0, the count 0. */
 void lintel_classes_clear(uint16_t parents[LINTEL_PART(LINTEL_SITES)], uint8_t ranks[LINTEL_PART(LINTEL_SITES)], uint16_t *count);
 
-/* answer: the representative of the site's class and the parent links followed. Where the site was never joined: LINTEL_NONE, and the second word,
- * which is 1 today, is of no use. Changes nothing else. */
+/* answer: the representative of the site's class and the parent links followed. Where the site was never joined: LINTEL_NONE, and 0 links.
+ * Changes nothing else. */
 uint32_t lintel_find(const uint16_t parents[LINTEL_PART(LINTEL_SITES)], uint16_t site, uint64_t *answer, size_t answer_length);
 
 /* answer: the representative, or LINTEL_NONE. In `parents` each site passed on the way goes under its parent's parent. */
@@ -120,7 +120,7 @@ uint32_t lintel_in_same_set(const uint16_t parents[LINTEL_PART(LINTEL_SITES)], u
                             uint64_t *answer, size_t answer_length);
 
 /* Takes the site's class apart. answer: how many members it had; they stand first in `members`, ascending, and the rest of it is left alone.
- * `members` has at least LINTEL_SITES elements. A site that was never joined has none: 0. */
+ * `members` has at least LINTEL_SITES elements, however large the class is: else LINTEL_SHORT. A site that was never joined has none: 0. */
 uint32_t lintel_remove_set_of(uint16_t parents[LINTEL_PART(LINTEL_SITES)], uint16_t *count, uint16_t site,
                               uint16_t *members, size_t members_length, uint64_t *answer, size_t answer_length);
 

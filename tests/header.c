@@ -37,7 +37,7 @@ static uint32_t load(uint16_t of, size_t lent, uint32_t kept, uint32_t place, si
 
 static void classes(void) {
     lintel_classes_clear(parents, ranks, &count);
-    so(lintel_find(parents, 5, answer, LINTEL_ANSWER) == LINTEL_DONE && answer[0] == LINTEL_NONE && answer[1] == 1, "find of a site that was never joined");
+    so(lintel_find(parents, 5, answer, LINTEL_ANSWER) == LINTEL_DONE && answer[0] == LINTEL_NONE && answer[1] == 0, "find of a site that was never joined");
     so(lintel_find_mut(parents, 5, answer, LINTEL_ANSWER) == LINTEL_DONE && answer[0] == LINTEL_NONE && answer[1] == 0, "find_mut of such a site");
     so(lintel_find(parents, LINTEL_SITES, answer, LINTEL_ANSWER) == LINTEL_UNKNOWN && answer[0] == LINTEL_SITES, "find of no site");
     answer[0] = answer[1] = answer[2] = 77;

@@ -3,7 +3,6 @@ use mathlib.Core.Path.{_≡_, refl, ap, sym, _∙_}
 use mathlib.Core.Bool.{Bool, true, false, _&&_, not}
 use mathlib.Core.List.{List, [], _∷_, _++_}
 use Prim.Native.Nat.{ℕ, suc, _+_, _<_, _≤_, min}
-use native.Mathlib.Nat.{min-eq-right}
 use native.Mathlib.Omega.{arith}
 use lib.ListN.{length, getD, set, take, drop}
 use lib.Dec.{ltb, leb}
@@ -11,9 +10,9 @@ use borrow.Author.Tests.{le-leb, lt-leb, eq-eqb, ne-eqb}
 use Rattle.paper.specs.declared.Refusal.{Refusal}
 use Rattle.paper.specs.Numbers.{max-sites, number, told, Outcome, done, refused}
 use Rattle.rule_words.specs.Stored.{base, stride}
-use Rattle.paper.specs.Classes.{Classes, classes, is-empty, Trail, Halved, Removed, merge, remove-below, remove-set-of}
+use Rattle.paper.specs.Classes.{Classes, classes, is-empty, Trail, Halved, Removed, merge, remove-set-of}
 use Rattle.paper.specs.Sites.{Added}
-use Rattle.classes.specs.Answers.{looked, sought-by, joined-by, joined, two-classes, same, taken-by, taken}
+use Rattle.classes.specs.Answers.{looked, sought-by, joined-by, joined, two-classes, same, taken-by, taken-if, taken}
 use Rattle.classes.specs.declared.Sought.{Sought}
 use Rattle.classes.specs.declared.Joined.{Joined}
 use Rattle.classes.specs.declared.Taken.{Taken}
@@ -143,8 +142,7 @@ taken-is c d m n t (done q) e = record { says = ap (λ p. taken-said (p .2)) e; 
 taken-is c d m n t (refused r) e = record { says = ap (λ p. taken-said (p .2)) e; leaves = ap (λ p. p .0) e; lists = ap (λ p. p .1) e }
 
 pub all-taken : (c d : Classes) (m n : List ℕ) (t : Taken) (x : ℕ) → max-sites ≤ length m → (d, n, t) ≡ taken c m x → Takes c d m n t (remove-set-of c x)
-unfolding remove-set-of
-all-taken c d m n t x h e = taken-is c d m n t (remove-below max-sites c x) (e ∙ ap (λ k. taken-by c m (remove-below k c x)) (min-eq-right h))
+all-taken c d m n t x h e = taken-is c d m n t (remove-set-of c x) (e ∙ ap (λ b. taken-if b c m (remove-set-of c x)) (le-leb max-sites (length m) h))
 
 numbered-at : (i : ℕ) (b : Bool) → numbered-said (if b then N.Known i else N.Fresh i) ≡ said 0 (i ∷ bit (not b) ∷ [])
 unfolding numbered-said

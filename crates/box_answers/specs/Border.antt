@@ -141,6 +141,7 @@ same-said (E.Refused r) = refused-said r
 unfoldable pub taken-said : Taken → Said
 taken-said (K.Members n) = said 0 (n ∷ [])
 taken-said (K.Refused r) = refused-said r
+taken-said K.Short = said short []
 
 unfoldable pub numbered-said : Numbered → Said
 numbered-said (N.Known i) = said 0 (i ∷ 0 ∷ [])

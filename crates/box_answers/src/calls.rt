@@ -2,6 +2,7 @@
 ghost use mathlib.Core.Path.{_≡_};
 ghost use Rattle.box_answers.specs.Border.{looked-said, sought-said, joined-said, same-said, taken-said, numbered-said, unfolded-said, added-said, overlap-word, reported-said};
 ghost use Rattle.box_answers.specs.Loads.{loaded-said};
+use crate::SHORT;
 use crate::Said;
 use crate::bit;
 use crate::crowded;
@@ -72,6 +73,11 @@ pub fn taken_said(t: Taken) -> Said
     match t {
         Taken::Members(n) => done(n as u64, 0),
         Taken::Refused(r) => refused(r),
+        Taken::Short => Said {
+            number: SHORT,
+            one: 0,
+            two: 0,
+        },
     }
 }
 

@@ -1,34 +1,33 @@
 -- A class taken out: what class_removal::remove_set_of_in and remove_listed_in list is what paper calls the members, and they leave what paper's
 -- `dissolve` leaves.
 use mathlib.Core.Path.{_≡_, refl, sym, ap, _∙_, subst, subst⁻¹}
-use mathlib.Core.Bool.{true, false}
+use mathlib.Core.Bool.{Bool, true, false}
 use mathlib.Core.Option.{Option, none, some}
 use mathlib.Core.List.{List, map, List·Memᴰ}
-use Prim.Native.Nat.{ℕ, _≤_, _<_, min}
+use Prim.Native.Nat.{ℕ, _≤_, _<_}
 use native.Mathlib.Omega.{arith}
 use native.Mathlib.Decide.{ℕ-discrete}
 use lib.ListN.{length, getD, take, drop, length-append, length-drop, List·getD-append}
 use lib.Seq.{take-append-seam}
 use lib.Dec.{eqb}
-use borrow.Author.Tests.{lt-ltb, ltb-false, eq-eqb, eqb-true, ne-eqb}
+use borrow.Author.Tests.{lt-ltb, le-leb, eq-eqb, eqb-true, ne-eqb}
 use Rattle.paper.specs.declared.Found.{Found}
 use Rattle.paper.specs.declared.Found.the-variants.{At, Nothing}
 use Rattle.paper.specs.Words.{keep, below, look}
 use Rattle.paper.specs.Numbers.{max-sites, Outcome, done}
-use Rattle.paper.specs.Classes.{Classes, classes, up, find-in, is-at, Removed, halved, remove-at, remove-below, remove-set-of}
+use Rattle.paper.specs.Classes.{Classes, classes, up, find-in, is-at, Removed, halved, remove-at, remove-set-of}
 use Rattle.paper.specs.Loading.{Labels, lowest, members, dissolve}
 use Rattle.paper.proofs.Labels.{never}
 use Rattle.paper.proofs.Tables.{Fine, of-keep, in-keep, keep-rising, look-in, in-look, lowest-is, dissolved, undissolved, dissolve-fine}
 use Rattle.paper.proofs.Lists.{no-way}
 use Rattle.classes.specs.declared.Taken.{Taken}
 use Rattle.classes.specs.declared.Taken.the-variants as K
-use Rattle.classes.specs.Answers.{or-self, rep, over, taken, taken-by}
+use Rattle.classes.specs.Answers.{or-self, rep, over, taken, taken-by, taken-if}
 use Rattle.class_removal.specs.Listed.{remove-of, taken-of}
 use Rattle.classes.specs.Well.{has-up, in-class, dropped}
 use Rattle.classes.specs.Equal.{Holds, TakesOut, sites-below}
 use Rattle.classes.proofs.Uniting.{is-joined, joined-has}
 use Rattle.classes.proofs.Laws.{remove-takes}
-use Rattle.class_removal.proofs.Room.{remove-room}
 use Rattle.class_removal.proofs.Listed.{Listed, remove-listed, remove-few}
 use Rattle.classes.proofs.Tables.{remove-dissolves}
 use Rattle.class_labels.specs.Tied.{has-label, Tied, tied-fine, label-some, label-none, some-label}
@@ -168,20 +167,9 @@ module _ {p r : List ℕ} {n : ℕ} {k : Labels} (T : Tied p r n k) where
       unfolding sites-below
       removed-members = out .list ∙ sym (members-are max-sites (omega arith) (T .inside))
 
-    -- within the room that is lent
-    few-up : (c : ℕ) → LabelsBelow k c → (z : ℕ) → c ≤ z → z < max-sites → max-sites ≤ up p z
-    few-up c B z l h = go (look k z) refl
-      where
-        go : (o : Option ℕ) → look k z ≡ o → max-sites ≤ up p z
-        go none e = ltb-false (up p z) max-sites (T .joined z h ∙ label-none k z e)
-        go (some v) e = let a = B z v e in absurd (omega arith)
-
-    is-set : remove-set-of (classes p r n) low ≡ done (remove-at max-sites (halved (classes p r n) low .after) (halved (classes p r n) low .found))
-    unfolding remove-set-of remove-below
+    is-set : remove-set-of (classes p r n) low ≡ done (remove-at (halved (classes p r n) low .after) (halved (classes p r n) low .found))
+    unfolding remove-set-of
     is-set = simp (lt-ltb low max-sites (T .inside low low own))
-
-    is-below : (c : ℕ) → LabelsBelow k c → remove-below (min c max-sites) (classes p r n) low ≡ remove-set-of (classes p r n) low
-    is-below c B = remove-room (classes p r n) low (min c max-sites) (omega arith) (λ z l h. few-up c B z (omega arith) h)
 
 -- What is left, and what is listed in the lent memory m.
 pub record Takes (p r : List ℕ) (n : ℕ) (k : Labels) (low : ℕ) (m m′ : List ℕ) (t : Taken) : Type 0 where
@@ -196,7 +184,7 @@ pub record Takes (p r : List ℕ) (n : ℕ) (k : Labels) (low : ℕ) (m m′ : L
 -- at each removal, at the lowest member of a class, that is paper's and has room for the members
 module _ {p r : List ℕ} {n : ℕ} {k : Labels} (T : Tied p r n k) (low : ℕ) (own : look k low ≡ some low) (m : List ℕ) where
   abbrev whole : Removed
-  whole = remove-at max-sites (halved (classes p r n) low .after) (halved (classes p r n) low .found)
+  whole = remove-at (halved (classes p r n) low .after) (halved (classes p r n) low .found)
 
   same : whole .members ≡ members k low
   same = removed-members T low own whole (is-set T low own)
@@ -221,17 +209,16 @@ module _ {p r : List ℕ} {n : ℕ} {k : Labels} (T : Tied p r n k) (low : ℕ) 
       list : m′ ≡ over m (members k low)
       list = ap (λ (w : Classes × List ℕ × Taken). w .1) all ∙ ap (over m) same
 
--- at each call of class_removal::remove_set_of_in: m has room for every joined site
-pub tied-take : {p r : List ℕ} {n : ℕ} {k : Labels} → Tied p r n k → (low : ℕ) → look k low ≡ some low → (m : List ℕ) → LabelsBelow k (length m)
+-- at each call of class_removal::remove_set_of_in: m has room for every site
+pub tied-take : {p r : List ℕ} {n : ℕ} {k : Labels} → Tied p r n k → (low : ℕ) → look k low ≡ some low → (m : List ℕ) → max-sites ≤ length m
     → (p′ : List ℕ) (n′ : ℕ) (m′ : List ℕ) (t : Taken) → _≡_ {A = Classes × List ℕ × Taken} (classes p′ r n′, m′, t) (taken (classes p r n) m low)
     → Takes p′ r n′ k low m m′ t
-tied-take {p} {r} {n} {k} T low own m B = takes T low own m (remove-below (min (length m) max-sites) (classes p r n) low) (is-below T low own (length m) B) room
+tied-take {p} {r} {n} {k} T low own m h p′ n′ m′ t e =
+    takes T low own m (remove-set-of (classes p r n) low) refl room p′ n′ m′ t
+    (e ∙ ap (λ (b : Bool). taken-if b (classes p r n) m (remove-set-of (classes p r n) low)) (le-leb max-sites (length m) h))
   where
-    fits : LabelsBelow k (min (length m) max-sites)
-    fits z v l = let a = B z v l in let b = T .inside z v l in omega arith
-
     room : length (members k low) ≤ length m
-    room = let w = members-few T low own (min (length m) max-sites) (omega arith) fits in omega arith
+    room = let w = members-few T low own max-sites (omega arith) (T .inside) in omega arith
 
 -- at each call of class_removal::remove_listed_in: the list ascends and has every joined site, and m has room for it
 pub tied-take-listed : {p r : List ℕ} {n : ℕ} {k : Labels} → Tied p r n k → (low : ℕ) → look k low ≡ some low → (xs m : List ℕ) → length xs ≤ length m
@@ -239,18 +226,18 @@ pub tied-take-listed : {p r : List ℕ} {n : ℕ} {k : Labels} → Tied p r n k 
     → ((z v : ℕ) → look k z ≡ some v → (i : ℕ) × (i < length xs) × (getD xs i 0 ≡ z))
     → (p′ : List ℕ) (n′ : ℕ) (m′ : List ℕ) (t : Taken) → _≡_ {A = Classes × List ℕ × Taken} (classes p′ r n′, m′, t) (taken-of (classes p r n) xs m low)
     → Takes p′ r n′ k low m m′ t
-tied-take-listed {p} {r} {n} {k} T low own xs m h a b has = takes T low own m (remove-of xs (min (length m) (length xs)) (classes p r n) low) is room
+tied-take-listed {p} {r} {n} {k} T low own xs m h a b has p′ n′ m′ t e =
+    takes T low own m (remove-of xs (classes p r n) low) is room p′ n′ m′ t
+    (e ∙ ap (λ (b : Bool). taken-if b (classes p r n) m (remove-of xs (classes p r n) low)) (le-leb (length xs) (length m) h))
   where
     all-listed : (z : ℕ) → z < max-sites → up p z < max-sites → Listed xs z
     all-listed z g u = has z (lowest k z) (some-label k z (sym (T .joined z g) ∙ lt-ltb (up p z) max-sites u))
 
-    is : remove-of xs (min (length m) (length xs)) (classes p r n) low ≡ remove-set-of (classes p r n) low
-    is =
-        let e : min (length m) (length xs) ≡ length xs = omega arith in
-        ap (λ (j : ℕ). remove-of xs j (classes p r n) low) e ∙ remove-listed (classes p r n) low xs a b all-listed
+    is : remove-of xs (classes p r n) low ≡ remove-set-of (classes p r n) low
+    is = remove-listed (classes p r n) low xs a b all-listed
 
     room : length (members k low) ≤ length m
     room =
-        let w = remove-few xs (min (length m) (length xs)) (classes p r n) low (whole T low own m) (is ∙ is-set T low own) in
+        let w = remove-few xs (classes p r n) low (whole T low own m) (is ∙ is-set T low own) in
         let l = ap length (same T low own m) in
         omega arith

@@ -91,9 +91,8 @@ remove-same w v c x e = ap (λ (q : Removed). demand (ltb x max-sites) (Unknown 
 
 pub remove-listed : (c : Classes) (x : ℕ) (xs : List ℕ) → Ascends xs → ((i : ℕ) → i < length xs → getD xs i 0 < max-sites)
     → ((z : ℕ) → z < max-sites → up (c .parents) z < max-sites → Listed xs z)
-    → remove-of xs (length xs) c x ≡ remove-set-of c x
-unfolding remove-set-of
-remove-listed c x xs a b has = remove-same (sweep-of xs (length xs)) (sweep max-sites) c x same ∙ remove-is-with max-sites c x
+    → remove-of xs c x ≡ remove-set-of c x
+remove-listed c x xs a b has = remove-same (sweep-of xs (length xs)) (sweep max-sites) c x same ∙ remove-is-with c x
   where
     still : (z : ℕ) → z < max-sites → up (halved c x .after .parents) z < max-sites → Listed xs z
     still z h u = go (decLt (up (c .parents) z) max-sites)
@@ -106,14 +105,14 @@ remove-listed c x xs a b has = remove-same (sweep-of xs (length xs)) (sweep max-
     same r = sym (sweep-same xs a (halved c x .after .parents) r still max-sites (length xs) (omega arith) (omega arith) b (λ j o k. absurd (omega arith)))
 
 -- no more are taken than are looked at
-pub remove-few : (xs : List ℕ) (k : ℕ) (c : Classes) (x : ℕ) (q : Removed) → remove-of xs k c x ≡ done q → length (q .members) ≤ k
+pub remove-few : (xs : List ℕ) (c : Classes) (x : ℕ) (q : Removed) → remove-of xs c x ≡ done q → length (q .members) ≤ length xs
 unfolding remove-with
-remove-few xs k c x q e = go (ltb x max-sites) refl
+remove-few xs c x q e = go (ltb x max-sites) refl
   where
-    by : (f : Found) → length (remove-by (sweep-of xs k) (halved c x .after) f .members) ≤ k
-    by (At r) = listed-within xs k (halved c x .after .parents) r .few
+    by : (f : Found) → length (remove-by (sweep-of xs (length xs)) (halved c x .after) f .members) ≤ length xs
+    by (At r) = listed-within xs (length xs) (halved c x .after .parents) r .few
     by Nothing = omega arith
 
-    go : (b : Bool) → ltb x max-sites ≡ b → length (q .members) ≤ k
-    go true p = subst (λ (o : Removed). length (o .members) ≤ k) (same-done (simp p at e)) (by (halved c x .found))
+    go : (b : Bool) → ltb x max-sites ≡ b → length (q .members) ≤ length xs
+    go true p = subst (λ (o : Removed). length (o .members) ≤ length xs) (same-done (simp p at e)) (by (halved c x .found))
     go false p = never (simp p at e)

@@ -2,22 +2,23 @@
 use mathlib.Core.Path.{_≡_, refl, sym, _∙_, ap, subst⁻¹}
 use mathlib.Core.List.{List, [], _∷_, _++_}
 use mathlib.Core.Bool.{Bool, true, false}
-use Prim.Native.Nat.{ℕ, zero, suc, _+_, _-_, _≤_, _<_, min}
+use Prim.Native.Nat.{ℕ, zero, suc, _+_, _-_, _≤_, _<_}
 use native.Mathlib.Omega.{arith}
 use native.Mathlib.Decide.{decLt}
 use native.Mathlib.Numerals.{add-one}
 use lib.ListN.{length, getD, set, take, drop, length-append, length-drop, List·getD-append}
 use lib.Seq.{set-at, drop-cons, append-snoc, getD-append-add, take-at, drop-length}
-use lib.Dec.{eqb, ltb}
+use lib.Dec.{eqb, ltb, leb}
+use borrow.Author.Tests.{le-leb, lt-leb}
 use Rattle.paper.specs.declared.Found.{Found}
 use Rattle.paper.specs.declared.Found.the-variants.{At, Nothing}
 use Rattle.paper.specs.declared.Refusal.the-variants.{Unknown}
 use Rattle.paper.specs.Words.{if_then_else_}
-use Rattle.paper.specs.Numbers.{max-sites, done, _>>=_, demand}
-use Rattle.paper.specs.Classes.{Classes, classes, is-at, halve-in, halved, Swept, sweep, unjoin, Removed, remove-at, remove-below}
+use Rattle.paper.specs.Numbers.{max-sites, Outcome, done, _>>=_, demand}
+use Rattle.paper.specs.Classes.{Classes, classes, is-at, halve-in, halved, Swept, sweep, unjoin, Removed, remove-at, remove-set-of}
 use Rattle.classes.specs.declared.Taken.{Taken}
 use Rattle.classes.specs.declared.Taken.the-variants as K
-use Rattle.classes.specs.Answers.{noted, over, Sweeps, taken, taken-by}
+use Rattle.classes.specs.Answers.{noted, over, Sweeps, taken, taken-by, taken-if}
 use Rattle.class_removal.specs.Listed.{swept-on, sweep-of, remove-by, remove-with, remove-of, taken-of}
 use Rattle.classes.specs.Well.{bit}
 use Rattle.classes.proofs.Updating.{update-out}
@@ -185,18 +186,32 @@ module _ (w : List ℕ → ℕ → Swept) (c : Classes) (m : List ℕ) (x : ℕ)
         let l′ : l ≡ c .count - length (w q r .members) = u .1 ∙ ap (λ (y : List ℕ). c .count - length y) (part-is S) in
         rw (p, l′, S .members, S .number) (by (At r) o)
 
--- the sites below k, and the first k of the listed ones
-pub remove-is-with : (k : ℕ) (c : Classes) (x : ℕ) → remove-with (sweep k) c x ≡ remove-below k c x
-unfolding remove-with remove-below
-remove-is-with k c x = ap (λ (q : Removed). demand (ltb x max-sites) (Unknown x) >>= λ _. done q) (go (halved c x .found))
+-- all sites, and the listed ones
+pub remove-is-with : (c : Classes) (x : ℕ) → remove-with (sweep max-sites) c x ≡ remove-set-of c x
+unfolding remove-with remove-set-of
+remove-is-with c x = ap (λ (q : Removed). demand (ltb x max-sites) (Unknown x) >>= λ _. done q) (go (halved c x .found))
   where
-    go : (f : Found) → remove-by (sweep k) (halved c x .after) f ≡ remove-at k (halved c x .after) f
+    go : (f : Found) → remove-by (sweep max-sites) (halved c x .after) f ≡ remove-at (halved c x .after) f
     go (At r) = refl
     go Nothing = refl
 
-module _ (k : ℕ) (c : Classes) (m : List ℕ) (x : ℕ) where
-  pub taken-below : k ≡ min (length m) max-sites → taken-by c m (remove-with (sweep k) c x) ≡ taken c m x
-  taken-below z = ap (taken-by c m) (remove-is-with k c x ∙ ap (λ (j : ℕ). remove-below j c x) z)
+-- with room for all that is looked at the removal is done, and with less nothing is
+module _ (k : ℕ) (c : Classes) (m : List ℕ) (o : Outcome Removed) where
+  taken-room : k ≤ length m → taken-by c m o ≡ taken-if (leb k (length m)) c m o
+  taken-room h = sym (ap (λ (b : Bool). taken-if b c m o) (le-leb k (length m) h))
 
-  pub taken-listed : (xs : List ℕ) → k ≡ min (length m) (length xs) → taken-by c m (remove-with (sweep-of xs k) c x) ≡ taken-of c xs m x
-  taken-listed xs z = ap (λ (j : ℕ). taken-by c m (remove-of xs j c x)) z
+  taken-less : length m < k → _≡_ {A = Classes × List ℕ × Taken} (c, m, K.Short) (taken-if (leb k (length m)) c m o)
+  taken-less h = sym (ap (λ (b : Bool). taken-if b c m o) (lt-leb k (length m) h))
+
+module _ (c : Classes) (m : List ℕ) (x : ℕ) where
+  pub short-all : length m < max-sites → _≡_ {A = Classes × List ℕ × Taken} (c, m, K.Short) (taken c m x)
+  short-all h = taken-less max-sites c m (remove-set-of c x) h
+
+  pub taken-all : max-sites ≤ length m → taken-by c m (remove-with (sweep max-sites) c x) ≡ taken c m x
+  taken-all h = ap (taken-by c m) (remove-is-with c x) ∙ taken-room max-sites c m (remove-set-of c x) h
+
+  pub short-listed : (xs : List ℕ) → length m < length xs → _≡_ {A = Classes × List ℕ × Taken} (c, m, K.Short) (taken-of c xs m x)
+  short-listed xs h = taken-less (length xs) c m (remove-of xs c x) h
+
+  pub taken-listed : (xs : List ℕ) → length xs ≤ length m → taken-by c m (remove-of xs c x) ≡ taken-of c xs m x
+  taken-listed xs h = taken-room (length xs) c m (remove-of xs c x) h

@@ -1,7 +1,7 @@
 // A class taken apart: its members listed, and taken out of every class. On the lent parts of `classes`, and total on any contents.
 ghost use mathlib.Core.Path.{_≡_};
 ghost use mathlib.Core.List.{List};
-ghost use Prim.Native.Nat.{ℕ, _-_, _<_, _≤_, min};
+ghost use Prim.Native.Nat.{ℕ, _-_, _<_, _≤_};
 ghost use lib.ListN.{length, getD};
 ghost use Rattle.paper.specs.declared.Found.the-variants.{At};
 ghost use Rattle.paper.specs.Numbers.{max-sites};
@@ -30,15 +30,15 @@ fn note(members: &mut [u16], n: usize, f: Found, r: u16, y: u16) -> usize
     n + 1
 }
 
-// The updating find on each of the k lowest sites, ascending. Those with the root r are listed: how many.
-fn sweep(parents: &mut [u16; SITES], r: u16, k: u16, members: &mut [u16]) -> usize
-    requires { ⌜ (k ≤ max-sites) × (k ≤ length (now members)) ⌝ }
-    ensures { λ n. ⌜ (let swept = C.sweep k (now (parents .entry)) r in
+// The updating find on every site, ascending. Those with the root r are listed: how many.
+fn sweep(parents: &mut [u16; SITES], r: u16, members: &mut [u16]) -> usize
+    requires { ⌜ max-sites ≤ length (now members) ⌝ }
+    ensures { λ n. ⌜ (let swept = C.sweep max-sites (now (parents .entry)) r in
         Sweeps swept (now (members .entry)) (now (parents .exit)) (now (members .exit)) n) ⌝ }
 {
     let mut n: usize = 0;
     let mut y: u16 = 0;
-    while y < k {
+    while y < NEVER {
         let f = classes::halve_in(parents, y);
         n = note(members, n, f, r, y);
         y += 1;
@@ -46,21 +46,15 @@ fn sweep(parents: &mut [u16; SITES], r: u16, k: u16, members: &mut [u16]) -> usi
     n
 }
 
-// The updating find on the first k of the listed sites, in their order. Those with the root r are listed in members: how many.
-fn sweep_listed(
-    parents: &mut [u16; SITES],
-    r: u16,
-    sites: &[u16],
-    k: usize,
-    members: &mut [u16],
-) -> usize
-    requires { ⌜ (k ≤ length (now sites)) × (k ≤ length (now members)) ⌝ }
-    ensures { λ n. ⌜ (let swept = sweep-of (now (sites .entry)) k (now (parents .entry)) r in
+// The updating find on the listed sites, in their order. Those with the root r are listed in members: how many.
+fn sweep_listed(parents: &mut [u16; SITES], r: u16, sites: &[u16], members: &mut [u16]) -> usize
+    requires { ⌜ length (now sites) ≤ length (now members) ⌝ }
+    ensures { λ n. ⌜ (let swept = sweep-of (now (sites .entry)) (length (now (sites .entry))) (now (parents .entry)) r in
         Sweeps swept (now (members .entry)) (now (parents .exit)) (now (members .exit)) n) ⌝ }
 {
     let mut n: usize = 0;
     let mut at: usize = 0;
-    while at < k {
+    while at < sites.len() {
         let y = sites[at];
         let f = classes::halve_in(parents, y);
         n = note(members, n, f, r, y);
@@ -82,22 +76,10 @@ fn unjoin(parents: &mut [u16; SITES], members: &[u16])
     }
 }
 
-fn least(n: usize) -> u16
-    ensures { λ r. ⌜ r ≡ min n max-sites ⌝ }
-{
-    if n < SITES { n as u16 } else { NEVER }
-}
-
 fn less(n: u16, m: usize) -> u16
     ensures { λ r. ⌜ r ≡ n - m ⌝ }
 {
     if m < size16(n) { n - m as u16 } else { 0 }
-}
-
-fn fewer(n: usize, m: usize) -> usize
-    ensures { λ r. ⌜ r ≡ min n m ⌝ }
-{
-    if n < m { n } else { m }
 }
 
 // Takes the members out of every class, and out of the count.
@@ -111,7 +93,7 @@ fn take_out(parents: &mut [u16; SITES], count: &mut u16, members: &[u16])
     *count = less(n, members.len());
 }
 
-// Takes x's class apart and lists its members, ascending. The sites looked at are those that `members` has room for.
+// Takes x's class apart and lists its members, ascending. A list that could not hold every site is refused first: half a class is never taken.
 pub fn remove_set_of_in(
     parents: &mut [u16; SITES],
     count: &mut u16,
@@ -123,6 +105,9 @@ pub fn remove_set_of_in(
         let after = C.classes (now (parents .exit)) R (now (count .exit)) in
         (after, now (members .exit), r) ≡ taken before (now (members .entry)) x) ⌝ }
 {
+    if members.len() < SITES {
+        return Taken::Short;
+    }
     if SITES <= size16(x) {
         return Taken::Refused(Refusal::Unknown { site: x });
     }
@@ -130,13 +115,12 @@ pub fn remove_set_of_in(
     let Found::At(r) = f else {
         return Taken::Members(0);
     };
-    let k = least(members.len());
-    let n = sweep(parents, r, k, members);
+    let n = sweep(parents, r, members);
     take_out(parents, count, &members[..n]);
     Taken::Members(n)
 }
 
-// The same, looking only at the listed sites, as many of them as `members` has room for.
+// The same, looking only at the listed sites; `members` has room for as many.
 // Where these ascend and hold every joined site, that takes what a look at all sites takes (proofs/Listed.antt, `remove-listed`).
 pub fn remove_listed_in(
     parents: &mut [u16; SITES],
@@ -150,6 +134,9 @@ pub fn remove_listed_in(
         let after = C.classes (now (parents .exit)) R (now (count .exit)) in
         (after, now (members .exit), r) ≡ taken-of before (now (sites .entry)) (now (members .entry)) x) ⌝ }
 {
+    if members.len() < sites.len() {
+        return Taken::Short;
+    }
     if SITES <= size16(x) {
         return Taken::Refused(Refusal::Unknown { site: x });
     }
@@ -157,8 +144,7 @@ pub fn remove_listed_in(
     let Found::At(r) = f else {
         return Taken::Members(0);
     };
-    let k = fewer(members.len(), sites.len());
-    let n = sweep_listed(parents, r, sites, k, members);
+    let n = sweep_listed(parents, r, sites, members);
     take_out(parents, count, &members[..n]);
     Taken::Members(n)
 }

@@ -13,7 +13,7 @@ use Rattle.paper.specs.declared.Found.{Found}
 use Rattle.paper.specs.declared.Found.the-variants.{At, Nothing}
 use Rattle.paper.specs.Words.{any, has, keep, below}
 use Rattle.paper.specs.Numbers.{max-sites, Outcome, done, refused}
-use Rattle.paper.specs.Classes.{Classes, no-classes, up, Trail, find-in, is-at, Halved, halved, find, find-mut, enter, unite, merge, Removed, remove-at, remove-below, remove-set-of}
+use Rattle.paper.specs.Classes.{Classes, no-classes, up, Trail, find-in, is-at, Halved, halved, find, find-mut, enter, unite, merge, Removed, remove-at, remove-set-of}
 use Rattle.paper.proofs.Joins.{Gen, base, self, back, via, gen-map, gen-same}
 use Rattle.classes.specs.Answers.{rep, two-classes}
 use Rattle.classes.specs.Well.{log-sites, Leads, WellMade, members, has-up, in-class, cnt, rep-of, dropped}
@@ -80,11 +80,11 @@ find-mut-is c x h e = go (ltb x max-sites) refl
     go false p = never (simp p at e)
 
 pub remove-is : (c : Classes) (x : ℕ) (q : Removed) → remove-set-of c x ≡ done q
-    → (x < max-sites) × (q ≡ remove-at max-sites (halved c x .after) (halved c x .found))
-unfolding remove-set-of remove-below
+    → (x < max-sites) × (q ≡ remove-at (halved c x .after) (halved c x .found))
+unfolding remove-set-of
 remove-is c x q e = go (ltb x max-sites) refl
   where
-    go : (a : Bool) → ltb x max-sites ≡ a → (x < max-sites) × (q ≡ remove-at max-sites (halved c x .after) (halved c x .found))
+    go : (a : Bool) → ltb x max-sites ≡ a → (x < max-sites) × (q ≡ remove-at (halved c x .after) (halved c x .found))
     go true p = (ltb-true x max-sites p, sym (same-done (simp p at e)))
     go false p = never (simp p at e)
 
@@ -169,9 +169,9 @@ module _ (c : Classes) (W : WellMade c) (x : ℕ) (q : Removed) (e : remove-set-
   unfolding d
   same = halved-keeps c W x .2
 
-  by : (f : Found) → rep-of c x ≡ f → q ≡ remove-at max-sites d f
+  by : (f : Found) → rep-of c x ≡ f → q ≡ remove-at d f
   unfolding d
-  by f o = remove-is c x q e .1 ∙ ap (remove-at max-sites (halved c x .after)) (halved-keeps c W x .1 ∙ o)
+  by f o = remove-is c x q e .1 ∙ ap (remove-at (halved c x .after)) (halved-keeps c W x .1 ∙ o)
 
   same-list : (k r : ℕ) → Q.sites-below k (d .parents) r ≡ Q.sites-below k (c .parents) r
   unfolding Q.sites-below d
@@ -181,16 +181,16 @@ module _ (c : Classes) (W : WellMade c) (x : ℕ) (q : Removed) (e : remove-set-
   unfolding d
   remove-takes r o = subst⁻¹ (λ (q : Removed). Q.TakesOut c r q) (by (At r) o) takes
     where
-      T : Q.TakesOut d r (remove-at max-sites d (At r))
+      T : Q.TakesOut d r (remove-at d (At r))
       T = takes-out d D r
 
-      takes : Q.TakesOut c r (remove-at max-sites d (At r))
+      takes : Q.TakesOut c r (remove-at d (At r))
       takes = record {
         well = T .well;
         found = λ z. T .found z ∙ ap (dropped r) (same z);
         list = T .list ∙ same-list max-sites r;
         size = T .size ∙ cnt-ext (in-class (d .parents) r) (in-class (c .parents) r) max-sites (λ z l. ap (λ (f : Found). is-at f (At r)) (same z));
-        leaves = λ z h. T .leaves z h ∙ ap (λ (b : Bool). b && not (has (remove-at max-sites d (At r) .members) z)) (has-same c W x z h);
+        leaves = λ z h. T .leaves z h ∙ ap (λ (b : Bool). b && not (has (remove-at d (At r) .members) z)) (has-same c W x z h);
       }
 
   pub remove-leaves : rep-of c x ≡ Nothing → Leaves c q

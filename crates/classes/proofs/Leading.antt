@@ -29,7 +29,7 @@ unfolding find-in
 find-out p x h = seek-out p x max-sites 0 h
 
 -- a site with no parent
-pub find-none : (p : List ℕ) (x : ℕ) → x < max-sites → max-sites ≤ up p x → find-in p x ≡ trail Nothing 1
+pub find-none : (p : List ℕ) (x : ℕ) → x < max-sites → max-sites ≤ up p x → find-in p x ≡ trail Nothing 0
 unfolding find-in
 find-none p x h g = seek-step p x _ 0 h (λ e. omega arith) ∙ seek-out p (up p x) _ 1 g
 

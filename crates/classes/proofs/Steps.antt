@@ -11,12 +11,12 @@ use Rattle.paper.specs.Numbers.{max-sites}
 use Rattle.paper.specs.Classes.{up, Trail, trail, seek, halve}
 
 module _ (p : List ℕ) (at : ℕ) where
-  pub seek-out : (k n : ℕ) → max-sites ≤ at → seek k p at n ≡ trail Nothing n
+  pub seek-out : (k n : ℕ) → max-sites ≤ at → seek k p at n ≡ trail Nothing 0
   unfolding seek
   seek-out zero n h = refl
   seek-out (suc k) n h = rw (le-ltb at max-sites h, seek)
 
-  pub seek-none : (n : ℕ) → seek 0 p at n ≡ trail Nothing n
+  pub seek-none : (n : ℕ) → seek 0 p at n ≡ trail Nothing 0
   unfolding seek
   seek-none n = refl
 
@@ -55,7 +55,7 @@ module _ (p : List ℕ) (at w n : ℕ) (e : w ≡ at) (l : n < max-sites) where
   turns : max-sites - n ≡ suc (max-sites - (n + 1))
   turns = omega arith
 
-  pub at-out : {F : Trail} → max-sites ≤ w → seek (max-sites - n) p at n ≡ F → trail Nothing n ≡ F
+  pub at-out : {F : Trail} → max-sites ≤ w → seek (max-sites - n) p at n ≡ F → trail Nothing 0 ≡ F
   at-out h q = sym (seek-out p at (max-sites - n) n (rw e at h)) ∙ q
 
   pub half-out : {F : List ℕ × Found} → max-sites ≤ w → halve (max-sites - n) p at ≡ F → _≡_ {A = List ℕ × Found} (p, Nothing) F

@@ -1,15 +1,15 @@
 -- The code's answers in paper's words: what each call leaves and answers, on any state. "Every refusal leaves .. all lent memory unchanged."
 use mathlib.Core.Path.{_≡_}
-use mathlib.Core.Bool.{Bool, not}
+use mathlib.Core.Bool.{Bool, true, false, not}
 use mathlib.Core.List.{List, _++_}
-use Prim.Native.Nat.{ℕ, _+_, min}
+use Prim.Native.Nat.{ℕ, _+_}
 use lib.ListN.{length, set, drop}
-use lib.Dec.{eqb}
+use lib.Dec.{eqb, leb}
 use Rattle.paper.specs.declared.Found.{Found}
 use Rattle.paper.specs.declared.Found.the-variants.{At, Nothing}
 use Rattle.paper.specs.Words.{if_then_else_}
 use Rattle.paper.specs.Numbers.{max-sites, Outcome, done, refused}
-use Rattle.paper.specs.Classes.{Classes, Trail, find-in, Halved, find-mut, Rooted, enter, merge, Swept, Removed, remove-below}
+use Rattle.paper.specs.Classes.{Classes, Trail, find-in, Halved, find-mut, Rooted, enter, merge, Swept, Removed, remove-set-of}
 use Rattle.classes.specs.declared.Trail as T
 use Rattle.classes.specs.declared.Looked.{Looked}
 use Rattle.classes.specs.declared.Looked.the-variants as L
@@ -79,5 +79,10 @@ abbrev pub taken-by : Classes → List ℕ → Outcome Removed → Classes × Li
 taken-by c m (done q) = (q .after, over m (q .members), K.Members (length (q .members)))
 taken-by c m (refused e) = (c, m, K.Refused e)
 
+-- "Removing returns the members ascending, or none", all of them: where the list that is lent could not hold every site, nothing is done.
+abbrev pub taken-if : Bool → Classes → List ℕ → Outcome Removed → Classes × List ℕ × Taken
+taken-if true c m o = taken-by c m o
+taken-if false c m o = (c, m, K.Short)
+
 abbrev pub taken : Classes → List ℕ → ℕ → Classes × List ℕ × Taken
-taken c m x = taken-by c m (remove-below (min (length m) max-sites) c x)
+taken c m x = taken-if (leb max-sites (length m)) c m (remove-set-of c x)

@@ -45,6 +45,8 @@ pub enum Same {
 pub enum Taken {
     Members(usize),
     Refused(Refusal),
+    // The list that was lent could not hold every site: nothing was looked at, and nothing is changed.
+    Short,
 }
 
 // "Classes start empty".
@@ -56,7 +58,7 @@ pub fn clear_in(parents: &mut [u16; SITES], ranks: &mut [u8; SITES], count: &mut
     *count = 0;
 }
 
-// The root of x's class, with the links on the way.
+// The root of x's class, with the links on the way to it; where there is none, no links.
 fn trail_in(parents: &[u16; SITES], x: u16) -> Trail
     ensures { λ r. ⌜ C.trail (r .found) (r .links) ≡ C.find-in (now (parents .entry)) x ⌝ }
 {
@@ -67,7 +69,7 @@ fn trail_in(parents: &[u16; SITES], x: u16) -> Trail
         if SITES <= i {
             return Trail {
                 found: Found::Nothing,
-                links,
+                links: 0,
             };
         }
         let up = parents[i];
@@ -82,7 +84,7 @@ fn trail_in(parents: &[u16; SITES], x: u16) -> Trail
     }
     Trail {
         found: Found::Nothing,
-        links,
+        links: 0,
     }
 }
 

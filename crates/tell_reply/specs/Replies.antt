@@ -92,9 +92,11 @@ abbrev pub listed-text : List ℕ → ℕ → List ℕ
 listed-text ms zero = unended "none"
 listed-text ms (suc k) = members-text ms (min (suc k) (length ms))
 
+-- a script lends room for every site, so that no removal finds its list short
 abbrev pub taken-text : List ℕ → Taken → List ℕ
 taken-text ms (taken.Members k) = listed-text ms k
 taken-text ms (taken.Refused e) = refusal-text e
+taken-text ms taken.Short = []
 
 abbrev pub reply-text : List ℕ → ℕ → Reply → List ℕ
 reply-text ms line (reply.Merged j) = joined-text j

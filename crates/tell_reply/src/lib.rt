@@ -139,6 +139,7 @@ fn put_taken(out: &mut [u8], n: usize, members: &[u16], t: Taken) -> usize
             put_members(out, n, members, k)
         }
         Taken::Refused(e) => put_refusal(out, n, e),
+        Taken::Short => n,
     }
 }
 

@@ -13,7 +13,11 @@ returns-2 : tie.Need-returns-2
 unfolding taken-said
 returns-2 c = c .refused .ensures ∙ sym (ap taken-said (c .before .before .t2 .given .1))
 
+returns-3 : tie.Need-returns-3
+unfolding taken-said
+returns-3 c = sym (ap taken-said (c .enum-told .given .1))
+
 pub taken-said-spec : {M : Type 1} → statement M
 taken-said-spec =
     tie.close
-    (tie.spec (λ c. search needs) (λ c κs. search needs) (λ c. search needs) (λ c κs. search needs) returns returns-2)
+    (tie.spec (λ c. search needs) (λ c κs. search needs) (λ c. search needs) (λ c κs. search needs) (λ c. search needs) returns returns-2 returns-3)
