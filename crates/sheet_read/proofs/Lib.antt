@@ -1,3 +1,4 @@
 pub mod Feeding
 pub mod Finished
 pub mod Sheeted
+pub mod Leaving

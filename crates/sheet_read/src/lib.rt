@@ -10,6 +10,7 @@ ghost use Rattle.sheet_ended.specs.Sets.{end-room};
 ghost use Rattle.term_table.specs.Table.{no-edges};
 ghost use Rattle.sheet_lines.specs.Fed.{Reading};
 ghost use Rattle.sheet_read.specs.Whole.{first-state, Feeds, Ends, Pauses, Checks, is-stopped};
+ghost use Rattle.sheet_read.specs.Leaves.{leaves, feed-line-in, feed-in, said, end-in, check-in};
 use item_words::ITEMS_ROOM;
 use paper::RULES;
 use paper::Refusal;
@@ -109,6 +110,10 @@ fn feed_line(
     at: usize,
 ) -> Fed
     requires { ⌜ (from < length (now piece)) × (at + step-room ≤ length (now room)) × (s .stopped ≡ false) ⌝ }
+    ensures { λ f.
+        let before = lent (now (m .entry)) (now (words .entry)) (now (items .entry)) (now (table .entry)) in
+        let after = lent (now (m .exit)) (now (words .exit)) (now (items .exit)) (now (table .exit)) in
+        ⌜ leaves f after (now (room .exit)) ≡ feed-line-in s before (now (room .entry)) at (now (piece .entry)) from ⌝ }
     ensures { λ f. ⌜ (from < f .read) × (f .read ≤ length (now (piece .entry))) ⌝ }
     ensures { λ f.
         let before = lent (now (m .entry)) (now (words .entry)) (now (items .entry)) (now (table .entry)) in
@@ -178,6 +183,10 @@ pub fn feed(
     room: &mut [u8],
     at: usize,
 ) -> Fed
+    ensures { λ f.
+        let before = lent (now (m .entry)) (now (words .entry)) (now (items .entry)) (now (table .entry)) in
+        let after = lent (now (m .exit)) (now (words .exit)) (now (items .exit)) (now (table .exit)) in
+        ⌜ leaves f after (now (room .exit)) ≡ feed-in s before (now (room .entry)) at (now (piece .entry)) ⌝ }
     ensures { λ f. ⌜ f .read ≤ length (now (piece .entry)) ⌝ }
     ensures { λ f.
         let before = lent (now (m .entry)) (now (words .entry)) (now (items .entry)) (now (table .entry)) in
@@ -213,6 +222,7 @@ pub fn feed(
 
 // The sheet ends here: "at the end the 14s ascending, then 15"; a line that is not ended, or a set that is open, is 1.
 pub fn end(s: State, table: &[[u64; WORDS]; TERMS], room: &mut [u8], at: usize) -> Room
+    ensures { λ w. ⌜ said w (now (room .exit)) ≡ end-in s (now (table .entry)) (now (room .entry)) at ⌝ }
     ensures { λ w. ⌜ ((m ws i : List ℕ) → Ends s (lent m ws i (now (table .entry))) (now (room .entry)) (now (room .exit)) at w) ⌝ }
 {
     if room.len() < END_ROOM {
@@ -268,6 +278,10 @@ pub fn check(
     table: &mut [[u64; WORDS]; TERMS],
     room: &mut [u8],
 ) -> Checked
+    ensures { λ r.
+        let before = lent (now (m .entry)) (now (words .entry)) (now (items .entry)) (now (table .entry)) in
+        let after = lent (now (m .exit)) (now (words .exit)) (now (items .exit)) (now (table .exit)) in
+        ⌜ leaves r after (now (room .exit)) ≡ check-in (now (sheet .entry)) before (now (room .entry)) ⌝ }
     ensures { λ r. ⌜ Checks (now (sheet .entry)) (now (m .entry)) (now (words .entry)) (now (items .entry)) (now (room .entry)) (now (room .exit)) r ⌝ }
 {
     if m.len() < SITES_ROOM {

@@ -1,13 +1,15 @@
 -- The two ways to answer a line: the sheet stops, or it goes on.
 use mathlib.Core.Path.{_≡_, refl, sym, ap, _∙_}
-use mathlib.Core.Bool.{true, false}
+use mathlib.Core.Bool.{Bool, true, false}
 use mathlib.Core.List.{List, [], _∷_, append-nil}
-use Prim.Native.Nat.{ℕ, _+_, _-_, _≤_}
+use Prim.Native.Nat.{ℕ, _+_, _-_, _≤_, _<_}
 use native.Mathlib.Omega.{arith}
 use lib.ListN.{length}
+use lib.Dec.{ltb}
+use borrow.Author.Tests.{lt-ltb, le-ltb}
 use Rattle.paper.specs.declared.Refusal.{Refusal}
-use Rattle.paper.specs.Words.{joined, four}
-use Rattle.paper.specs.Numbers.{Outcome, done, refused, _>>=_}
+use Rattle.paper.specs.Words.{if_then_else_, joined, four}
+use Rattle.paper.specs.Numbers.{last-line, Outcome, done, refused, _>>=_}
 use Rattle.paper.specs.Layout.{hex}
 use Rattle.paper.specs.Loading.{written}
 use Rattle.paper.specs.Sheets as paper
@@ -19,7 +21,8 @@ use Rattle.sheet_lines.specs.Fed.{after-line}
 use Rattle.sheet_ended.specs.Sets.{to-or}
 use Rattle.sheet_ended.proofs.Laws.{length-hex, written-none, said-to, after-is}
 use Rattle.sheet_ended.specs.Holds.{Holds}
-use Rattle.sheet_reader.specs.State.{Lent, Roomy, stands-in, Fine, step-room}
+use Rattle.sheet_reader.specs.State.{Lent, lent, Roomy, stands-in, Fine, step-room}
+use Rattle.sheet_reader.specs.Leaves.{after, next-line, gone-on, stop-answer, stop-in}
 use Rattle.sheet_reader.specs.Answers.{Answers, Stops, went, text-of}
 use Rattle.sheet_reader.specs.declared.Stands.{Stands}
 use Rattle.sheet_reader.specs.declared.Reader.{Reader}
@@ -96,3 +99,36 @@ module _ (r : Reader) (k k′ : Lent) (room : List ℕ) (at : ℕ) (st : Stands)
         goes = (u, record { holds = H; fine = F; roomy = R }, refl);
         fits = rw t l;
       })
+
+-- ---- what `stop` and `on` leave, where there is room and the line has a number
+no-memory : Lent
+no-memory = lent [] [] [] []
+
+pub stop-stops : (r : Reader) (why : Refusal) (room room′ : List ℕ) (at : ℕ) (a : Stepped) → at + step-room ≤ length room → ((k : Lent) → after a k room′ ≡ stop-in r k room at why) → Stops r why room room′ at a
+unfolding stop-in stop-answer
+stop-stops r why room room′ at a h E =
+    let x = hex (stop-found (r .line) why) in
+    let e : a ≡ record { reader = r; event = event.Stopped why; to = to-or (room-said room at x) at } = ap (λ o. o .answer) (E no-memory) in
+    let o : room′ ≡ room-after room at x = ap (λ o. o .room) (E no-memory) in
+    rw e (stops r why room room′ at (to-or (room-said room at x) at) (room-said room at x) h refl o refl)
+
+pub on-went : (r : Reader) (st : Stands) (ev : Event) (to : ℕ) (a : Stepped) → r .line ≤ last-line → a ≡ gone-on r st ev to → a ≡ went r st ev to
+unfolding gone-on
+on-went r st ev to a h e = e ∙ onward r st ev to (next-line (r .line)) (rw (le-ltb last-line (r .line) h))
+
+pub next-same : (n : ℕ) → last-line < n → n ≡ next-line n
+next-same n h = rw (lt-ltb last-line n h)
+
+pub next-more : (n : ℕ) → n ≤ last-line → n + 1 ≡ next-line n
+next-more n h = rw (le-ltb last-line n h)
+
+pub goes-as : (r : Reader) (st : Stands) (ev : Event) (to l : ℕ) → l ≡ next-line (r .line) → _≡_ {A = Stepped} (record { reader = record { line = l; stands = st; ended = r .ended }; event = ev; to = to }) (gone-on r st ev to)
+unfolding gone-on
+goes-as r st ev to l e = rw e
+
+pub stops-as : (r : Reader) (why : Refusal) (room room′ : List ℕ) (at to : ℕ) (w : Room) → w ≡ room-said room at (hex (stop-found (r .line) why)) → room′ ≡ room-after room at (hex (stop-found (r .line) why)) → to ≡ to-or w at → (k : Lent) → after (record { reader = r; event = event.Stopped why; to = to }) k room′ ≡ stop-in r k room at why
+unfolding stop-in stop-answer
+stops-as r why room room′ at to w s o t k =
+    let x = hex (stop-found (r .line) why) in
+    let e : to ≡ to-or (room-said room at x) at = t ∙ ap (λ v. to-or v at) s in
+    rw (e, o)

@@ -1,3 +1,4 @@
 pub mod Small
 pub mod Acts
 pub mod Standing
+pub mod Leaving

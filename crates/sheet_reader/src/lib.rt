@@ -2,11 +2,9 @@
 // open set, the items of its open rule and the term table lie in lent memory, and what a line finds is written to a lent room.
 ghost use mathlib.Core.Path.{_≡_};
 ghost use mathlib.Core.Bool.{Bool};
-ghost use Prim.Native.Nat.{_+_, _≤_};
-ghost use lib.ListN.{length};
-ghost use Rattle.paper.specs.Numbers.{last-line};
-ghost use Rattle.sheet_reader.specs.State.{step-room};
-ghost use Rattle.sheet_reader.specs.Answers.{Stops, went, is-outside, site-set, rule-set, open-rule};
+ghost use Rattle.sheet_reader.specs.State.{Lent};
+ghost use Rattle.sheet_reader.specs.Answers.{is-outside, site-set, rule-set, open-rule};
+ghost use Rattle.sheet_reader.specs.Leaves.{after, next-line, gone-on, stop-in};
 use paper::Refusal;
 use report::REPORT_ROOM;
 use sheet_ended::EndedSets;
@@ -148,7 +146,7 @@ pub fn open_rule(s: Stands) -> Awaits
 
 // "a last frame 1F line (4, from 1), number": the sheet stops.
 pub fn stop(r: Reader, why: Refusal, room: &mut [u8], at: usize) -> Stepped
-    ensures { λ a. ⌜ (at + step-room ≤ length (now (room .entry)) → Stops r why (now (room .entry)) (now (room .exit)) at a) ⌝ }
+    ensures { λ a. ⌜ ((k : Lent) → after a k (now (room .exit)) ≡ stop-in r k (now (room .entry)) at why) ⌝ }
 {
     let line = r.line;
     let w = write_stop(line, why, room, at);
@@ -162,7 +160,7 @@ pub fn stop(r: Reader, why: Refusal, room: &mut [u8], at: usize) -> Stepped
 
 // The number of the next line; the last has none.
 fn next_line(n: u32) -> u32
-    ensures { λ r. ⌜ (n ≤ last-line → r ≡ n + 1) ⌝ }
+    ensures { λ r. ⌜ r ≡ next-line n ⌝ }
 {
     if LAST_LINE < n {
         return n;
@@ -172,7 +170,7 @@ fn next_line(n: u32) -> u32
 
 // The sheet goes on.
 pub fn on(r: Reader, stands: Stands, event: Event, to: usize) -> Stepped
-    ensures { λ a. ⌜ (r .line ≤ last-line → a ≡ went r stands event to) ⌝ }
+    ensures { λ a. ⌜ a ≡ gone-on r stands event to ⌝ }
 {
     let ended = r.ended;
     Stepped {

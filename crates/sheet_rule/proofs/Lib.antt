@@ -2,3 +2,4 @@ pub mod Small
 pub mod Loaded
 pub mod Ruled
 pub mod Itemed
+pub mod Leaving

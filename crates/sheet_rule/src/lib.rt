@@ -9,7 +9,9 @@ ghost use Rattle.term_table.specs.Table.{Square};
 ghost use Rattle.item_words.specs.Items.{Ranged};
 ghost use Rattle.sheet_reader.specs.State.{lent, Tells, Ready};
 ghost use Rattle.sheet_reader.specs.Answers.{Acts};
+ghost use Rattle.sheet_reader.specs.Leaves.{after};
 ghost use Rattle.sheet_rule.specs.Rules.{Reads, next-rule-of, minus-of, item-kept};
+ghost use Rattle.sheet_rule.specs.Leaves.{read-in, rule-in, item-in};
 use item_words::hold_item;
 use paper::ITEMS;
 use paper::Item;
@@ -66,6 +68,10 @@ fn read_rule(
     room: &mut [u8],
     at: usize,
 ) -> Stepped
+    ensures { λ a. ⌜ ((t : Square) →
+        let k = lent (now (m .entry)) (now (words .entry)) (now (items .entry)) t in
+        let k′ = lent (now (m .exit)) (now (words .exit)) (now (items .entry)) t in
+        after a k′ (now (room .exit)) ≡ read-in r k (now (room .entry)) at set rule) ⌝ }
     ensures { λ a. ⌜ (Ready r (now (room .entry)) at → (t : Square) (p : paper.Ended) →
         let k = lent (now (m .entry)) (now (words .entry)) (now (items .entry)) t in
         let k′ = lent (now (m .exit)) (now (words .exit)) (now (items .entry)) t in
@@ -120,6 +126,10 @@ pub fn rule_frame(
     room: &mut [u8],
     at: usize,
 ) -> Stepped
+    ensures { λ a. ⌜ ((t : Square) →
+        let k = lent (now (m .entry)) (now (words .entry)) (now (items .entry)) t in
+        let k′ = lent (now (m .exit)) (now (words .exit)) (now (items .entry)) t in
+        after a k′ (now (room .exit)) ≡ rule-in r k (now (room .entry)) at rule) ⌝ }
     ensures { λ a. ⌜ (Ready r (now (room .entry)) at → (t : Square) (p : paper.Ended) →
         let k = lent (now (m .entry)) (now (words .entry)) (now (items .entry)) t in
         let k′ = lent (now (m .exit)) (now (words .exit)) (now (items .entry)) t in
@@ -157,6 +167,10 @@ pub fn item_frame(
     room: &mut [u8],
     at: usize,
 ) -> Stepped
+    ensures { λ a. ⌜ ((t : Square) →
+        let k = lent (now (m .entry)) (now (words .entry)) (now (items .entry)) t in
+        let k′ = lent (now (m .exit)) (now (words .exit)) (now (items .exit)) t in
+        after a k′ (now (room .exit)) ≡ item-in r k (now (room .entry)) at item) ⌝ }
     ensures { λ a. ⌜ (Ready r (now (room .entry)) at → (t : Square) (p : paper.Ended) →
         let k = lent (now (m .entry)) (now (words .entry)) (now (items .entry)) t in
         let k′ = lent (now (m .exit)) (now (words .exit)) (now (items .exit)) t in

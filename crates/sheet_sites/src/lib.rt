@@ -10,7 +10,9 @@ ghost use Rattle.paper.specs.Sheets as paper;
 ghost use Rattle.term_table.specs.Table.{Square};
 ghost use Rattle.sheet_reader.specs.State.{Lent, lent, Tells, Ready};
 ghost use Rattle.sheet_reader.specs.Answers.{Acts};
+ghost use Rattle.sheet_reader.specs.Leaves.{after};
 ghost use Rattle.sheet_sites.specs.Numbers.{next-of};
+ghost use Rattle.sheet_sites.specs.Leaves.{begin-in, site-in, site-line-in};
 use paper::Refusal;
 use paper::Verdict;
 use sheet_ended::may_begin;
@@ -35,6 +37,7 @@ fn next(n: u16) -> u16
 
 // 01: "9 for a term used before, then 7".
 pub fn begin_frame(r: Reader, term: u16, flags: u8, room: &mut [u8], at: usize) -> Stepped
+    ensures { λ a. ⌜ ((k : Lent) → after a k (now (room .exit)) ≡ begin-in r k (now (room .entry)) at term flags) ⌝ }
     ensures { λ a. ⌜ (Ready r (now (room .entry)) at → (k : Lent) (p : paper.Ended) →
         Tells r k p → Acts r k k (now (room .entry)) (now (room .exit)) at p (begin-set term flags) a) ⌝ }
 {
@@ -59,6 +62,8 @@ pub fn begin_frame(r: Reader, term: u16, flags: u8, room: &mut [u8], at: usize) 
 
 // 02: 9 for a site that the set has, then 2 and 7. A site that the set has earns neither of the two.
 fn site_frame(r: Reader, body: &[u8], m: &mut [u8], room: &mut [u8], at: usize) -> Stepped
+    ensures { λ a. ⌜ ((w i : List ℕ) (t : Square) → after a (lent (now (m .exit)) w i t) (now (room .exit))
+        ≡ site-in r (lent (now (m .entry)) w i t) (now (room .entry)) at (now (body .entry))) ⌝ }
     ensures { λ a. ⌜ (Ready r (now (room .entry)) at → (w i : List ℕ) (t : Square) (p : paper.Ended) (x : Site) →
         let k = lent (now (m .entry)) w i t in
         let k′ = lent (now (m .exit)) w i t in
@@ -86,6 +91,8 @@ fn site_frame(r: Reader, body: &[u8], m: &mut [u8], room: &mut [u8], at: usize) 
 
 // 02: the body stands behind the frame's first byte.
 pub fn site_line(r: Reader, bytes: &[u8], m: &mut [u8], room: &mut [u8], at: usize) -> Stepped
+    ensures { λ a. ⌜ ((w i : List ℕ) (t : Square) → after a (lent (now (m .exit)) w i t) (now (room .exit))
+        ≡ site-line-in r (lent (now (m .entry)) w i t) (now (room .entry)) at (now (bytes .entry))) ⌝ }
     ensures { λ a. ⌜ (Ready r (now (room .entry)) at → (w i : List ℕ) (t : Square) (p : paper.Ended) (x : Site) →
         let k = lent (now (m .entry)) w i t in
         let k′ = lent (now (m .exit)) w i t in

@@ -7,7 +7,9 @@ ghost use Rattle.paper.specs.Layout.{end-set};
 ghost use Rattle.paper.specs.Sheets as paper;
 ghost use Rattle.sheet_reader.specs.State.{lent, Tells, Ready, step-room};
 ghost use Rattle.sheet_reader.specs.Answers.{Acts, Stepping};
+ghost use Rattle.sheet_reader.specs.Leaves.{after};
 ghost use Rattle.sheet_step.specs.Parts.{count-of, report-end, report-after};
+ghost use Rattle.sheet_step.specs.Leaves.{end-in, numbered-in, step-in};
 use paper::Refusal;
 use paper::TERMS;
 use report::Reported;
@@ -62,6 +64,10 @@ fn end_frame(
     at: usize,
 ) -> Stepped
     requires { ⌜ Ready r (now room) at ⌝ }
+    ensures { λ a. ⌜ ((i : List ℕ) →
+        let k = lent (now (m .entry)) (now (words .entry)) i (now (table .entry)) in
+        let k′ = lent (now (m .entry)) (now (words .entry)) i (now (table .exit)) in
+        after a k′ (now (room .exit)) ≡ end-in r k (now (room .entry)) at) ⌝ }
     ensures { λ a. ⌜ ((i : List ℕ) (p : paper.Ended) →
         let k = lent (now (m .entry)) (now (words .entry)) i (now (table .entry)) in
         let k′ = lent (now (m .entry)) (now (words .entry)) i (now (table .exit)) in
@@ -99,6 +105,10 @@ fn take_line(
     at: usize,
 ) -> Stepped
     requires { ⌜ at + step-room ≤ length (now room) ⌝ }
+    ensures { λ a. ⌜ (
+        let k = lent (now (m .entry)) (now (words .entry)) (now (items .entry)) (now (table .entry)) in
+        let k′ = lent (now (m .exit)) (now (words .exit)) (now (items .exit)) (now (table .exit)) in
+        after a k′ (now (room .exit)) ≡ numbered-in r k (now (room .entry)) at (now (text .entry))) ⌝ }
     ensures { λ a. ⌜ (
         let k = lent (now (m .entry)) (now (words .entry)) (now (items .entry)) (now (table .entry)) in
         let k′ = lent (now (m .exit)) (now (words .exit)) (now (items .exit)) (now (table .exit)) in
@@ -144,6 +154,10 @@ pub fn step(
     room: &mut [u8],
     at: usize,
 ) -> Stepped
+    ensures { λ a. ⌜ (
+        let k = lent (now (m .entry)) (now (words .entry)) (now (items .entry)) (now (table .entry)) in
+        let k′ = lent (now (m .exit)) (now (words .exit)) (now (items .exit)) (now (table .exit)) in
+        after a k′ (now (room .exit)) ≡ step-in r k (now (room .entry)) at (now (text .entry))) ⌝ }
     ensures { λ a. ⌜ (
         let k = lent (now (m .entry)) (now (words .entry)) (now (items .entry)) (now (table .entry)) in
         let k′ = lent (now (m .exit)) (now (words .exit)) (now (items .exit)) (now (table .exit)) in

@@ -14,7 +14,7 @@ returns-2 : tie.Need-returns-2
 returns-2 c = end-short _ _ _ _ _ _ (second-no _ _ (yes-of _ _ (c .before .before .before .before .before .keeps .ensures) (c .before .before .before .before .if1 .left)) (no-of _ _ (c .before .writes .ensures) (c .if2 .taken)))
 
 returns-3 : tie.Need-returns-3
-returns-3 c = end-says _ _ _ _ _ _ _ _ _ _ _ (c .before .before .before .before .before .before .before .before .before .state-in .ensures) (writes-long _ _ _ (yes-of _ _ (c .before .before .before .before .before .before .before .before .before .before .before .writes .ensures) (c .before .before .before .before .before .before .before .before .before .before .if2 .left)) .0) (c .before .before .before .before .before .before .before .end .ensures) (c .before .before .before .ended-said .ensures) (said-there _ _ _ _ (writes-long _ _ _ (yes-of _ _ (c .before .before .before .before .before .before .before .before .before .before .before .writes .ensures) (c .before .before .before .before .before .before .before .before .before .before .if2 .left)) .1) (c .before .before .say .ensures) refl) _ (both-yes _ _ (yes-of _ _ (c .before .before .before .before .before .before .before .before .before .before .before .before .before .before .before .keeps .ensures) (c .before .before .before .before .before .before .before .before .before .before .before .before .before .before .if1 .left)) (yes-of _ _ (c .before .before .before .before .before .before .before .before .before .before .before .writes .ensures) (c .before .before .before .before .before .before .before .before .before .before .if2 .left)))
+returns-3 c = end-says _ _ _ _ _ _ _ _ _ _ _ (c .before .before .before .before .before .before .before .before .before .state-in .ensures) (writes-long _ _ _ (yes-of _ _ (c .before .before .before .before .before .before .before .before .before .before .before .writes .ensures) (c .before .before .before .before .before .before .before .before .before .before .if2 .left)) .0) (c .before .before .before .before .before .before .before .end .ensures .1) (c .before .before .before .ended-said .ensures) (said-there _ _ _ _ (writes-long _ _ _ (yes-of _ _ (c .before .before .before .before .before .before .before .before .before .before .before .writes .ensures) (c .before .before .before .before .before .before .before .before .before .before .if2 .left)) .1) (c .before .before .say .ensures) refl) _ (both-yes _ _ (yes-of _ _ (c .before .before .before .before .before .before .before .before .before .before .before .before .before .before .before .keeps .ensures) (c .before .before .before .before .before .before .before .before .before .before .before .before .before .before .if1 .left)) (yes-of _ _ (c .before .before .before .before .before .before .before .before .before .before .before .writes .ensures) (c .before .before .before .before .before .before .before .before .before .before .if2 .left)))
 
 pub end-sheet-spec : {M : Type 1} → statement M
 end-sheet-spec =

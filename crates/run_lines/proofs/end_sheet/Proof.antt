@@ -9,7 +9,7 @@ returns : tie.Need-returns
 returns c = stopped-here _ _ _ _ _ _ _ _ (not-true _ (c .if1 .taken)) (c .before .before .spare .ensures)
 
 returns-2 : tie.Need-returns-2
-returns-2 c = last-here _ _ _ _ _ _ _ _ _ _ _ _ _ _ (not-false _ (c .before .before .before .before .before .before .before .before .before .before .before .if1 .left)) (c .before .before .before .before .before .before .before .before .before .before .before .before .before .spare .ensures) (c .before .before .before .before .before .before .before .before .before .end .ensures) (c .before .before .before .before .before .before .to-or .ensures) (c .before .before .before .before .part .ensures) (c .before .before .put-end .ensures) (omega (arith, c .before .before .before .before .before .before .before .before .room .given))
+returns-2 c = last-here _ _ _ _ _ _ _ _ _ _ _ _ _ _ (not-false _ (c .before .before .before .before .before .before .before .before .before .before .before .if1 .left)) (c .before .before .before .before .before .before .before .before .before .before .before .before .before .spare .ensures) (c .before .before .before .before .before .before .before .before .before .end .ensures .1) (c .before .before .before .before .before .before .to-or .ensures) (c .before .before .before .before .part .ensures) (c .before .before .put-end .ensures) (omega (arith, c .before .before .before .before .before .before .before .before .room .given))
 
 pub end-sheet-spec : {M : Type 1} → statement M
 end-sheet-spec =

@@ -4,7 +4,7 @@ use Rattle.run_lines.proofs.take_line.Statement.{statement}
 use Rattle.run_lines.proofs.take_line.Tie as tie
 
 returns : tie.Need-returns
-returns c = took-here _ _ _ _ _ _ _ _ _ _ _ _ _ _ _ _ (c .before .before .before .before .before .before .before .before .before .before .before .before .before .before .before .before .before .before .before .before .before .before .before .before .before .spare .ensures) (c .before .before .before .before .before .before .before .before .before .before .before .before .before .before .before .before .before .before .before .step .ensures) (c .before .before .before .before .before .before .before .before .part .ensures) (c .before .before .before .before .put-step .ensures) (c .before .goes-on .ensures) (c .has-found .ensures)
+returns c = took-here _ _ _ _ _ _ _ _ _ _ _ _ _ _ _ _ (c .before .before .before .before .before .before .before .before .before .before .before .before .before .before .before .before .before .before .before .before .before .before .before .before .before .spare .ensures) (c .before .before .before .before .before .before .before .before .before .before .before .before .before .before .before .before .before .before .before .step .ensures .1) (c .before .before .before .before .before .before .before .before .part .ensures) (c .before .before .before .before .put-step .ensures) (c .before .goes-on .ensures) (c .has-found .ensures)
 
 pub take-line-spec : {M : Type 1} → statement M
 take-line-spec =
