@@ -8,7 +8,7 @@
  *   the answer where the number is 0, else what 01 tells with that number. What a call does not name here is 0; words after the first
  *   LINTEL_ANSWER are left alone.
  * - A refused call leaves all lent memory but `answer` as it was; of lintel_sheet_check the room and the working memory too are excepted. LINTEL_SHORT
- *   leaves `answer` too, and is looked for before all else.
+ *   leaves `answer` too, and is looked for before all else; lintel_sheet_check may answer it later, and says what it leaves then.
  * - A slice is a pointer and a count of elements (not bytes). A pointer must not be null, with a count of 0 either. A part whose size is written
  *   in brackets is that many elements, and has no count.
  * - A pointer is aligned as its type asks: to 8 bytes for words (uint64_t), to 2 for uint16_t.
@@ -35,7 +35,7 @@ extern "C" {
 
 /* The version of this header and of its archive. It grows where a caller may have to change something. What has a number here is a macro, so that #if can
  * use it. */
-#define LINTEL_VERSION 4
+#define LINTEL_VERSION 5
 
 /* 01's limits. */
 #define LINTEL_SITES 1024          /* sites of a set */
@@ -86,10 +86,20 @@ extern "C" {
 #define LINTEL_UNREACHABLE 4       /* told: two sites */
 #define LINTEL_HANGING 5           /* told: the lowest such site */
 #define LINTEL_ENDLESS 6           /* self-containing; told: the lowest such site */
-#define LINTEL_LIMIT 7             /* a limit is passed, or the lent room for what is written; told: nothing */
 #define LINTEL_PLACE_USED 8        /* told: the place */
 #define LINTEL_REPEATED 9          /* a site repeated in its set, a term in the sheet; told: the line. Only in findings: no call answers it */
-#define LINTEL_SHORT 255           /* none of 01's: a lent slice is shorter than the call asks. Nothing was read or changed */
+/* A limit of 01 is passed, or lent room below it. Told first: the number that was asked for, or the first one past the limit where the asking stops there. */
+#define LINTEL_TOO_MANY_SITES 20       /* told: LINTEL_SITES, or the slots that are lent, and one; the item, from 0 (in the rounds the item count), or the line */
+#define LINTEL_TOO_MANY_SOURCES 21     /* told: how many; the line */
+#define LINTEL_TOO_MANY_FIELDS 22      /* told: how many; the item */
+#define LINTEL_TOO_MANY_RULES 23       /* told: LINTEL_RULES and one, or the rules that fit and one; of a report how many */
+#define LINTEL_TOO_MANY_ITEMS 24       /* told: how many */
+#define LINTEL_TOO_MANY_CONSTRAINED 25 /* told: how many the result has */
+#define LINTEL_TOO_MANY_EQUAL 26       /* told: how many the result has */
+#define LINTEL_TOO_MANY_SETS 27        /* Only in findings: no call answers it */
+#define LINTEL_TERM_TOO_HIGH 28        /* told: the term, the first of two */
+#define LINTEL_UNFOLDING_TOO_LONG 29   /* told: the lower of LINTEL_UNFOLDING and the room, and one */
+#define LINTEL_SHORT 255               /* none of 01's: lent too little. A lent slice is shorter than the call asks, and nothing was read or changed */
 
 /* The word for a site that was never joined. */
 #define LINTEL_NONE 65535
@@ -134,11 +144,11 @@ uint32_t lintel_is_empty(const uint16_t *count);
  * keeps `count`, how many slots are used, from 0 on. In a slot the bytes past the body are left alone, and say nothing. */
 
 /* Adds the site with this body. answer: its number; 1 where it is new, and then `count` is to grow by one, else 0. Where it is new its slot, number
- * `count`, is written. 1 told `line`, 2, 7 as 01 says; 7 too where `sites` is too short for the sites that there are then. */
+ * `count`, is written. 1 told `line`, 2, 21, 28, 20 as 01 says; 20 too where `sites` is too short for the sites that there are then. */
 uint32_t lintel_add_site(uint8_t *sites, size_t sites_length, uint16_t count, const uint8_t *body, size_t body_length, uint32_t line,
                          uint64_t *answer, size_t answer_length);
 
-/* Writes the unfolding of a site to the start of `room`, and leaves the rest of it alone. answer: how many bytes. 2; 7 where it has over
+/* Writes the unfolding of a site to the start of `room`, and leaves the rest of it alone. answer: how many bytes. 2; 29 where it has over
  * LINTEL_UNFOLDING bytes or `room` less. The call with the deepest stack: LINTEL_STACK_UNFOLD. */
 uint32_t lintel_unfold(const uint8_t *sites, size_t sites_length, uint16_t count, uint16_t site, uint8_t *room, size_t room_length,
                        uint64_t *answer, size_t answer_length);
@@ -148,14 +158,15 @@ uint32_t lintel_unfold(const uint8_t *sites, size_t sites_length, uint16_t count
  * constrained site, ascending: site, kind * 65536 + type (the name of a ConstPrim), and two words (Variant: variant, fields; Struct: fields, 0;
  * ConstBool: value, 0; ConstInt: high word, low word; others 0, 0); from word 132 on two words for each equal site, ascending: site, lowest
  * member of its class. The words of a stride that its counts do not use are left alone, and say nothing. LINTEL_SHORT where the words end before the
- * rules that are asked for; lintel_load then answers 7. */
+ * rules that are asked for; lintel_load then answers 23. */
 
 /* Loads a rule into the set of the first `count` sites and the first `kept` rules. answer: how many sites there are then, and `kept` is to grow by one.
  * The sites that are new stand in their slots, the rule in stride `kept`. `items` has LINTEL_ITEM words for each of the `many` items: of a constraint
  * the site and its three words as in a stride, of an equality 65536 + one site, then the other, 0, 0.
- * Looked for in this order: LINTEL_SHORT, where `items` ends before its last item; 7, where `kept` is LINTEL_RULES or more, or `words` ends before the
- * end of stride `kept`; 7, where `count` is over LINTEL_SITES; 7, where `many` is over LINTEL_ITEMS; 8; then the items as written, each 2, 7, 4, 7;
- * then 5, 4, 6 and 7 as 01 says; last 7, where `sites` is too short for the sites that there are then. */
+ * Looked for in this order: LINTEL_SHORT, where `items` ends before its last item; 23, where `kept` is LINTEL_RULES or more, or `words` ends before the
+ * end of stride `kept`; 20 told `count`, where `count` is over LINTEL_SITES; 24, where `many` is over LINTEL_ITEMS; 8; then the items as written, each 2, 22,
+ * 4, 20; then 5, 4, 6, in the rounds 20, and 25, 26 as 01 says; last 20, where `sites` is too short for the sites that there are then, told: its slots and
+ * one, and `many`. */
 uint32_t lintel_load(uint8_t *sites, size_t sites_length, uint16_t count, uint64_t *words, size_t words_length, uint32_t kept, uint32_t place,
                      int64_t priority, const uint64_t *items, size_t items_length, uint8_t many, uint64_t *answer, size_t answer_length);
 
@@ -166,13 +177,13 @@ uint32_t lintel_may_overlap(const uint64_t *words, size_t words_length, uint32_t
 uint32_t lintel_total_constraints(const uint64_t *words, size_t words_length, uint32_t rule, uint64_t *answer, size_t answer_length);
 
 /* The report of the first `count` rules of a set with these flags (1 multi, 2 rec, 3 both), as lines of findings 12 and 13. answer: how many bytes;
- * they stand first in `room`, and the rest of it is left alone. `room` has at least LINTEL_REPORT_ROOM bytes. 7 where there are too many rules, their
+ * they stand first in `room`, and the rest of it is left alone. `room` has at least LINTEL_REPORT_ROOM bytes. 23 where there are too many rules, their
  * words being there. Flags over 3 are not refused: odd flags are those of a multi term, with an empty report, and no other bit is looked at. */
 uint32_t lintel_report(const uint64_t *words, size_t words_length, uint32_t count, uint8_t flags, uint8_t *room, size_t room_length,
                        uint64_t *answer, size_t answer_length);
 
 /* ---- terms: `table` has a row of LINTEL_ROW words for each term, a mark for each term that an edge runs to; `recs` is one such row, the terms
- * with rec. Mark t is bit t % 64 of word t / 64. A term over 255 is 7. */
+ * with rec. Mark t is bit t % 64 of word t / 64. A term over 255 is 28. */
 
 /* Leaves both without marks. */
 void lintel_terms_clear(uint64_t table[LINTEL_PART(LINTEL_TABLE)], uint64_t recs[LINTEL_PART(LINTEL_ROW)]);
@@ -214,8 +225,9 @@ uint32_t lintel_sheet_end(const uint64_t *state, size_t state_length, const uint
                           const uint64_t table[LINTEL_PART(LINTEL_TABLE)], uint8_t *room, size_t room_length, uint64_t *answer, size_t answer_length);
 
 /* A sheet that is there whole. answer: how many bytes of findings stand in `room`. A room of LINTEL_STEP_ROOM more than the findings is always enough;
- * one under LINTEL_STEP_ROOM is LINTEL_SHORT, whatever the sheet. 7 where the room was too short: it then holds the first findings, in whole lines, and
- * where they end is not told; in a room that was zeros before they end at its first 0. What sites, words, items and table hold before does not
+ * one under LINTEL_STEP_ROOM is LINTEL_SHORT, whatever the sheet, and then nothing was read. LINTEL_SHORT too, with two zeros in `answer`, where the room
+ * turned out too short: it then holds the first findings, in whole lines, and where they end is not told; in a room that was zeros before they end at its
+ * first 0. What sites, words, items and table hold before does not
  * matter, and what they hold after is of no use. */
 uint32_t lintel_sheet_check(const uint8_t *sheet, size_t sheet_length, uint8_t *sites, size_t sites_length, uint64_t *words, size_t words_length,
                             uint64_t *items, size_t items_length, uint64_t table[LINTEL_PART(LINTEL_TABLE)], uint8_t *room, size_t room_length,

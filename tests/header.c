@@ -5,7 +5,7 @@
 #include <stdio.h>
 #include <string.h>
 
-#if LINTEL_VERSION != 4 || LINTEL_SITES * LINTEL_SLOT != LINTEL_SITES_ROOM || LINTEL_RULES * LINTEL_STRIDE != LINTEL_KEPT_ROOM
+#if LINTEL_VERSION != 5 || LINTEL_SITES * LINTEL_SLOT != LINTEL_SITES_ROOM || LINTEL_RULES * LINTEL_STRIDE != LINTEL_KEPT_ROOM
 #error "the sizes of a set"
 #endif
 #if LINTEL_ITEMS * LINTEL_ITEM != LINTEL_ITEMS_ROOM || LINTEL_TERMS * LINTEL_ROW != LINTEL_TABLE || LINTEL_STACK_UNFOLD < LINTEL_STACK_OTHER
@@ -51,11 +51,13 @@ static void slots(void) {
     so(lintel_add_site(sites, sizeof sites, 0, argument, sizeof argument, 1, answer, LINTEL_ANSWER) == LINTEL_DONE && answer[1] == 1, "a site is added");
     so(sites[0] == 2 && marked(sites, 3, sizeof sites) == sizeof sites, "in a slot the bytes past the body are left alone");
     so(lintel_add_site(sites, sizeof sites, 1, structure, sizeof structure, 1, answer, LINTEL_ANSWER) == LINTEL_DONE && answer[1] == 1, "and another");
-    so(lintel_add_site(sites, LINTEL_SLOT, 2, argument, sizeof argument, 1, answer, LINTEL_ANSWER) == LINTEL_LIMIT, "a known site, no room for all");
+    so(lintel_add_site(sites, LINTEL_SLOT, 2, argument, sizeof argument, 1, answer, LINTEL_ANSWER) == LINTEL_TOO_MANY_SITES && answer[0] == 2 && answer[1] == 1,
+       "a known site, no room for all: the slots and one, the line");
     memset(room, 0xA5, sizeof room);
     so(lintel_unfold(sites, sizeof sites, 2, 1, room, sizeof room, answer, LINTEL_ANSWER) == LINTEL_DONE && answer[0] == 6, "an unfolding");
     so(marked(room, 6, sizeof room) == sizeof room, "the room past an unfolding is left alone");
-    so(lintel_unfold(sites, sizeof sites, 2, 1, room, 5, answer, LINTEL_ANSWER) == LINTEL_LIMIT && answer[0] == 0, "no room for it");
+    so(lintel_unfold(sites, sizeof sites, 2, 1, room, 5, answer, LINTEL_ANSWER) == LINTEL_UNFOLDING_TOO_LONG && answer[0] == 6 && answer[1] == 0, "no room for it: the room and one");
+    so(lintel_unfold(sites, sizeof sites, 2, 0, room, 0, answer, LINTEL_ANSWER) == LINTEL_UNFOLDING_TOO_LONG && answer[0] == 1, "into no room: one");
 }
 
 static void rules(void) {
@@ -65,21 +67,22 @@ static void rules(void) {
     items[1] = 3 * 65536 + 3;
     /* each call has all that follows wrong too */
     so(load(1025, LINTEL_STRIDE - 1, 0, 7, item - 1, 1) == LINTEL_SHORT, "load: short items first");
-    so(load(2, LINTEL_STRIDE - 1, 0, 7, item, 1) == LINTEL_LIMIT, "load: 7, not short, where the words end before stride 0");
-    so(load(2, 2 * LINTEL_STRIDE, 2, 7, item, 1) == LINTEL_LIMIT, "load: 7, not short, where the words end before the kept rules");
-    so(load(2, all, LINTEL_RULES, 7, item, 1) == LINTEL_LIMIT, "load: 7 for too many rules");
-    so(load(LINTEL_SITES + 1, all, 0, 7, item, 1) == LINTEL_LIMIT, "load: 7 for too many sites");
+    so(load(2, LINTEL_STRIDE - 1, 0, 7, item, 1) == LINTEL_TOO_MANY_RULES && answer[0] == 1, "load: 23, not short, where the words end before stride 0");
+    so(load(2, 2 * LINTEL_STRIDE, 2, 7, item, 1) == LINTEL_TOO_MANY_RULES && answer[0] == 3, "load: 23, not short, where the words end before the kept rules");
+    so(load(2, all, LINTEL_RULES, 7, item, 1) == LINTEL_TOO_MANY_RULES && answer[0] == LINTEL_RULES + 1, "load: 23 for too many rules");
+    so(load(LINTEL_SITES + 1, all, 0, 7, item, 1) == LINTEL_TOO_MANY_SITES && answer[0] == LINTEL_SITES + 1, "load: 20 for too many sites");
     so(load(2, all, 0, 7, item, 1) == LINTEL_UNKNOWN && answer[0] == 900, "load: 2 where nothing else is wrong");
     so(marked((const uint8_t *)words, 0, sizeof words) == sizeof words, "what is refused is not written");
     items[0] = 0;
     so(load(2, all, 0, 7, item, 1) == LINTEL_DONE && answer[0] == 2, "a rule is kept");
     so(words[2] == 1 && words[3] == 0 && marked((const uint8_t *)words, 64, sizeof words) == sizeof words, "the words that its counts do not use are left alone");
     items[0] = 900;
-    so(load(2, all, 1, 7, sizeof items / 8, MANY) == LINTEL_LIMIT, "load: 7 for too many items before 8");
+    so(load(2, all, 1, 7, sizeof items / 8, MANY) == LINTEL_TOO_MANY_ITEMS && answer[0] == MANY, "load: 24 for too many items before 8");
     so(load(2, all, 1, 7, sizeof items / 8 - 1, MANY) == LINTEL_SHORT, "load: and short before that");
     so(load(2, all, 1, 7, item, 1) == LINTEL_PLACE_USED && answer[0] == 7, "load: 8 before 2");
     items[0] = 0;
-    so(lintel_load(sites, LINTEL_SLOT, 2, words, all, 1, 8, 0, items, item, 1, answer, LINTEL_ANSWER) == LINTEL_LIMIT, "load: last 7 for the slots");
+    so(lintel_load(sites, LINTEL_SLOT, 2, words, all, 1, 8, 0, items, item, 1, answer, LINTEL_ANSWER) == LINTEL_TOO_MANY_SITES && answer[0] == 2 && answer[1] == 1,
+       "load: last 20 for the slots");
     so(load(2, all, 1, 8, item, 1) == LINTEL_DONE, "a second rule is kept");
     so(lintel_total_constraints(words, 2 * LINTEL_STRIDE - 1, 1, answer, LINTEL_ANSWER) == LINTEL_SHORT, "total: short words");
     so(lintel_report(words, all, LINTEL_RULES + 1, 0, room, sizeof room, answer, LINTEL_ANSWER) == LINTEL_SHORT, "report: short before too many rules");
@@ -110,7 +113,7 @@ static void sheets(void) {
     so(check("", LINTEL_STEP_ROOM) == LINTEL_DONE && answer[0] == 11, "check: the empty sheet");
     so(check(refused, sizeof room) == LINTEL_DONE && answer[0] == strlen(both) && !memcmp(room, both, strlen(both)), "check: three findings");
     memset(room, 0, sizeof room);
-    so(check(refused, LINTEL_STEP_ROOM) == LINTEL_LIMIT && answer[0] == 0, "check: 7 where the room was too short");
+    so(check(refused, LINTEL_STEP_ROOM) == LINTEL_SHORT && answer[0] == 0 && answer[1] == 0, "check: short, with two zeros, where the room was too short");
     so(strlen((const char *)room) == 13 && !memcmp(room, both, 13), "check: then whole lines, up to the first 0");
     lintel_sheet_begin(state, LINTEL_STATE, held, LINTEL_HELD, table);
     so(feed("01000700\n") == LINTEL_DONE && answer[0] == 9 && state[LINTEL_STOPPED] == 0, "feed: a set begins");

@@ -114,7 +114,7 @@ impl Tally {
                     self.count(&format!("pairs, {}", words[3]), 1);
                 }
                 frame if frame.starts_with("1F") => {
-                    self.count(&format!("sheets that stop with {}", &frame[11..]), 1)
+                    self.count(&format!("sheets that stop with {}", &frame[10..]), 1)
                 }
                 frame => self.count(&format!("report frames {}", &frame[..2]), 1),
             }
@@ -133,7 +133,7 @@ impl Tally {
                 self.count("classes of kept rules", lines(" e"));
             }
             "refused" if ours.starts_with("refused 4 ") => self.count("rules refused 4", 1),
-            "left" if ours.starts_with(&format!("refused {}", words[4])) => {
+            "left" if format!("{ours} ").starts_with(&format!("refused {} ", words[4])) => {
                 let heading = match (words[4], words[5]) {
                     ("2", _) => "Unknown sites",
                     ("4", "-") => "Items past a refusal",
@@ -141,7 +141,7 @@ impl Tally {
                     ("4", _) => "Walks back under differing constraints",
                     ("5", _) => "Hanging sites",
                     ("6", _) => "Self-containing rules",
-                    ("7", _) => "Limits",
+                    ("20" | "21" | "22" | "23" | "24" | "25" | "26", _) => "Limits",
                     ("8", _) => "A place used twice",
                     _ => "none",
                 };

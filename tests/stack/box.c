@@ -230,7 +230,7 @@ int main(void) {
     if (answer[0] != 30) return 1;
     load_wide();
     if (answer[0] != 36) return 1;
-    if (too_large() != 7) return 1;
+    if (too_large() != LINTEL_TOO_MANY_CONSTRAINED || answer[0] != 36) return 1;
     begin();
     feed();
     if (answer[1] != 17086 || !state[LINTEL_STOPPED]) return 1;

@@ -16,6 +16,7 @@ use classes::Sought;
 use classes::Taken;
 use classes::Trail;
 use paper::Overlap;
+use paper::Refusal;
 use paper::Verdict;
 use report::Reported;
 use rule_load::Loaded;
@@ -124,7 +125,7 @@ pub fn reported_said(r: Reported) -> Said
 {
     match r {
         Reported::Done(n) => done(word32(n), 0),
-        Reported::TooManyRules => crowded(),
+        Reported::TooManyRules(n) => refused(Refusal::TooManyRules { asked: n }),
         Reported::NoRoom => crowded(),
     }
 }

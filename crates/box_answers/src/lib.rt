@@ -3,7 +3,7 @@
 ghost use mathlib.Core.Path.{_≡_};
 ghost use mathlib.Core.List.{[], _∷_};
 ghost use Rattle.paper.specs.Numbers.{number, told};
-ghost use Rattle.box_answers.specs.Border.{answer-words, said, has-room, answered, found-word, bit};
+ghost use Rattle.box_answers.specs.Border.{short, answer-words, said, has-room, answered, found-word, bit};
 ghost use Rattle.box_answers.specs.Telling.{one-told, two-told};
 use paper::Found;
 use paper::Refusal;
@@ -12,7 +12,7 @@ use widths::word32;
 
 pub mod calls;
 
-// The number for a lent slice that is too short: none of 01's.
+// The number for a lent slice that is too short, or room that turned out to be: none of 01's.
 pub const SHORT: u32 = 255;
 
 // The words of an answer.
@@ -39,22 +39,22 @@ fn told_one(r: Refusal) -> u64
         Refusal::Unreachable { site, other: _ } => word16(site),
         Refusal::Hanging { site } => word16(site),
         Refusal::Endless { site } => word16(site),
-        Refusal::TooManySites { asked: _, at: _ } => 0,
-        Refusal::TooManySources { asked: _, at: _ } => 0,
-        Refusal::TooManyFields { asked: _, at: _ } => 0,
-        Refusal::TooManyRules { asked: _ } => 0,
-        Refusal::TooManyItems { asked: _ } => 0,
-        Refusal::TooManyConstrained { asked: _ } => 0,
-        Refusal::TooManyEqual { asked: _ } => 0,
-        Refusal::TooManySets { asked: _ } => 0,
-        Refusal::TermTooHigh { asked: _ } => 0,
-        Refusal::UnfoldingTooLong { asked: _ } => 0,
+        Refusal::TooManySites { asked, at: _ } => word32(asked),
+        Refusal::TooManySources { asked, at: _ } => word32(asked),
+        Refusal::TooManyFields { asked, at: _ } => word32(asked),
+        Refusal::TooManyRules { asked } => word32(asked),
+        Refusal::TooManyItems { asked } => word32(asked),
+        Refusal::TooManyConstrained { asked } => word32(asked),
+        Refusal::TooManyEqual { asked } => word32(asked),
+        Refusal::TooManySets { asked } => word32(asked),
+        Refusal::TermTooHigh { asked } => word32(asked),
+        Refusal::UnfoldingTooLong { asked } => word32(asked),
         Refusal::PlaceUsed { place } => word32(place),
         Refusal::Repeated { line } => word32(line),
     }
 }
 
-// The second word: only 4 tells two sites.
+// The second word: 4 tells two sites, 20 to 22 the item or line that asked.
 fn told_two(r: Refusal) -> u64
     ensures { λ w. ⌜ w ≡ two-told r ⌝ }
 {
@@ -65,9 +65,9 @@ fn told_two(r: Refusal) -> u64
         Refusal::Unreachable { site: _, other } => word16(other),
         Refusal::Hanging { site: _ } => 0,
         Refusal::Endless { site: _ } => 0,
-        Refusal::TooManySites { asked: _, at: _ } => 0,
-        Refusal::TooManySources { asked: _, at: _ } => 0,
-        Refusal::TooManyFields { asked: _, at: _ } => 0,
+        Refusal::TooManySites { asked: _, at } => word32(at),
+        Refusal::TooManySources { asked: _, at } => word32(at),
+        Refusal::TooManyFields { asked: _, at } => word32(at),
         Refusal::TooManyRules { asked: _ } => 0,
         Refusal::TooManyItems { asked: _ } => 0,
         Refusal::TooManyConstrained { asked: _ } => 0,
@@ -114,12 +114,12 @@ pub fn done(one: u64, two: u64) -> Said
     }
 }
 
-// A limit is passed, or the lent room: 01's 7, and nothing told.
+// The lent room is too short for what is to be written: lent too little, and nothing told.
 pub fn crowded() -> Said
-    ensures { λ s. ⌜ s ≡ said 7 [] ⌝ }
+    ensures { λ s. ⌜ s ≡ said short [] ⌝ }
 {
     Said {
-        number: 7,
+        number: SHORT,
         one: 0,
         two: 0,
     }

@@ -204,7 +204,7 @@ module _ (w h : List ℕ) (t : Square) (room a room′ a′ : List ℕ) (r : ℕ
         into = N .into;
       }
 
-  numbered : (v : Room) → x ≡ v → (r ≡ 0) ⊎ (r ≡ 7)
+  numbered : (v : Room) → x ≡ v → (r ≡ 0) ⊎ (r ≡ short)
   unfolding ended-said answered
   numbered (rooms.To n) e = inl (ap (λ (q : List ℕ × ℕ). q .1) p ∙ ap (λ (u : Said). u .number) (ey ∙ ap ended-said e))
   numbered rooms.Short e = inr (ap (λ (q : List ℕ × ℕ). q .1) p ∙ ap (λ (u : Said). u .number) (ey ∙ ap ended-said e))

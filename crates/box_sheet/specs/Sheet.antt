@@ -64,10 +64,10 @@ FeedSays false w h k piece room a w′ h′ k′ room′ a′ r = Unfed w h k ro
 
 -- ---- end
 
--- 7 is said of states that no call made alone
+-- room that is too short, which is said of states that no call made alone
 unfoldable pub ended-said : Room → Said
 ended-said (rooms.To n) = said 0 (n ∷ [])
-ended-said rooms.Short = said 7 []
+ended-said rooms.Short = said short []
 
 -- all that is found where the sheet ends here
 pub record Closed (M : Reading) (room a room′ a′ : List ℕ) (r : ℕ) : Type 0 where
@@ -76,7 +76,7 @@ pub record Closed (M : Reading) (room a room′ a′ : List ℕ) (r : ℕ) : Typ
 
 unfoldable pub EndSays : Bool → List ℕ → List ℕ → Square → List ℕ → List ℕ → List ℕ → List ℕ → ℕ → Type 0
 EndSays true w h t room a room′ a′ r =
-    ((m ws i : List ℕ) (M : Reading) → Shows (state-in w h) (lent m ws i t) M → Closed M room a room′ a′ r) × ((r ≡ 0) ⊎ (r ≡ 7))
+    ((m ws i : List ℕ) (M : Reading) → Shows (state-in w h) (lent m ws i t) M → Closed M room a room′ a′ r) × ((r ≡ 0) ⊎ (r ≡ short))
 EndSays false w h t room a room′ a′ r = (room′ ≡ room) × (a′ ≡ a) × (r ≡ short)
 
 -- ---- check
@@ -84,7 +84,7 @@ EndSays false w h t room a room′ a′ r = (room′ ≡ room) × (a′ ≡ a) �
 -- NoMemory is never met: `lends` is asked first
 unfoldable pub checked-said : Checked → Said
 checked-said (checked.Done n) = said 0 (n ∷ [])
-checked-said checked.NoRoom = said 7 []
+checked-said checked.NoRoom = said short []
 checked-said checked.NoMemory = said short []
 
 pub record Found (sheet room a room′ a′ : List ℕ) (r : ℕ) : Type 0 where
@@ -92,7 +92,7 @@ pub record Found (sheet room a room′ a′ : List ℕ) (r : ℕ) : Type 0 where
   pub into : room′ ≡ written-at room 0 (findings sheet)
 
 pub record Crowded (sheet room a a′ : List ℕ) (r : ℕ) : Type 0 where
-  pub answer : (a′, r) ≡ answered true a (said 7 [])
+  pub answer : (a′, r) ≡ answered true a (said short [])
   pub short : length room < length (findings sheet) + step-room
 
 pub record Unread (k : Lent) (room a : List ℕ) (k′ : Lent) (room′ a′ : List ℕ) (r : ℕ) : Type 0 where

@@ -2,7 +2,7 @@
 use mathlib.Core.Path.{_≡_, sym, ap, _∙_}
 use mathlib.Core.Bool.{_&&_}
 use mathlib.Core.List.{List, [], _∷_, _++_}
-use Prim.Native.Nat.{ℕ, suc, _+_, _*_, min}
+use Prim.Native.Nat.{ℕ, suc, _+_, _*_, min, _/_}
 use lib.ListN.{length, getD}
 use lib.Seq.{getD-at}
 use lib.Dec.{ltb, leb}
@@ -25,7 +25,7 @@ loaded-so m n ws k r g e =
     let x = demand-done (ltb k max-rules && leb (base k + stride) (length ws)) (TooManyRules (suc (min k max-rules))) _ g e in
     let y = demand-done (leb n max-sites) (TooManySites n (r .count)) _ g (x .1) in
     let z = bind-done (load (set-in m n ws k) (written r)) _ g (y .1) in
-    let w = demand-done (leb (length (z .0 .sites) * slot) (length m)) (TooManySites (length (z .0 .sites)) (r .count)) _ g (z .2) in
+    let w = demand-done (leb (length (z .0 .sites) * slot) (length m)) (TooManySites (length m / slot + 1) (r .count)) _ g (z .2) in
     z .1 ∙ ap done (done-once (w .1))
 
 -- the rule that was kept is the set's last

@@ -4,7 +4,7 @@ use mathlib.Core.Bool.{Bool, true, false, _&&_}
 use mathlib.Core.Option.{none, some}
 use mathlib.Core.Logic.{_↔_}
 use mathlib.Core.List.{List, List·Memᴰ, List·Memᴰ·head, List·Memᴰ·tail}
-use Prim.Native.Nat.{ℕ, zero, suc, _+_, _*_, _<_, min}
+use Prim.Native.Nat.{ℕ, zero, suc, _+_, _*_, _<_, min, _/_}
 use native.Mathlib.Omega.{arith}
 use lib.ListN.{length, getD}
 use lib.Dec.{ltb, leb}
@@ -65,20 +65,20 @@ kept-rule m n ws k r g F e =
     ap (kept-in (words-after ws k (done g))) z)
 
 -- ---- 1, without room
--- lent memory that is too small is 7: so a 4 or a 6 is paper's
+-- lent memory that is too small is 20 or 23: so a 4 or a 6 is paper's
 pub four-six-so : (m : List ℕ) (n : ℕ) (ws : List ℕ) (k : ℕ) (r : Rule) (x : Refusal) → load-in m n ws k r ≡ refused x → Four-or-six x →
     load (set-in m n ws k) (written r) ≡ refused x
 unfolding load-in number
 four-six-so m n ws k r x e u = go (ltb k max-rules && leb (base k + stride) (length ws)) (leb n max-sites) (load (set-in m n ws k) (written r)) e
   where
-    last : (g : Set) (c : Bool) → (demand c (TooManySites (length (g .sites)) (r .count)) >>= λ _. done g) ≡ refused x → ⊥
+    last : (g : Set) (c : Bool) → (demand c (TooManySites (length m / slot + 1) (r .count)) >>= λ _. done g) ≡ refused x → ⊥
     last g true f = not-refused (sym f)
-    last g false f = clear-refused {A = Set} (TooManySites (length (g .sites)) (r .count)) refl x f u
+    last g false f = clear-refused {A = Set} (TooManySites (length m / slot + 1) (r .count)) refl x f u
 
     go : (a b : Bool) (o : Outcome Set) →
         (demand a (TooManyRules (suc (min k max-rules))) >>= λ _.
         (demand b (TooManySites n (r .count)) >>= λ _. (o >>= λ g.
-        (demand (leb (length (g .sites) * slot) (length m)) (TooManySites (length (g .sites)) (r .count)) >>= λ _. done g)))) ≡ refused x →
+        (demand (leb (length (g .sites) * slot) (length m)) (TooManySites (length m / slot + 1) (r .count)) >>= λ _. done g)))) ≡ refused x →
         o ≡ refused x
     go false b o f = absurd (clear-refused {A = Set} (TooManyRules (suc (min k max-rules))) refl x f u)
     go true false o f = absurd (clear-refused {A = Set} (TooManySites n (r .count)) refl x f u)

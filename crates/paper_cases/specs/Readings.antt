@@ -4,7 +4,7 @@ use mathlib.Core.List.{List, [], _∷_, _++_}
 use Rattle.paper.specs.Sheets.{findings, all-sheets}
 use Rattle.paper.specs.Text.{text, sheet, unended}
 
-pub r3-1 : findings (sheet ("01010000" ∷ "zz" ∷ [])) ≡ sheet ("1F0000000107" ∷ [])
+pub r3-1 : findings (sheet ("01010000" ∷ "zz" ∷ [])) ≡ sheet ("1F000000011C" ∷ [])
 unfolding all-sheets
 r3-1 = refl
 
@@ -106,7 +106,7 @@ pub r15-1 : findings (sheet ("01000100" ∷ "020300" ∷ "020A000008" ∷ "06" �
 unfolding all-sheets
 r15-1 = refl
 
-pub r16-1 : findings (sheet ("01000100" ∷ "020300" ∷ "0209000109000000000000000000000000000000000000" ∷ "06" ∷ [])) ≡ sheet ("1F0000000307" ∷ [])
+pub r16-1 : findings (sheet ("01000100" ∷ "020300" ∷ "0209000109000000000000000000000000000000000000" ∷ "06" ∷ [])) ≡ sheet ("1F0000000315" ∷ [])
 unfolding all-sheets
 r16-1 = refl
 

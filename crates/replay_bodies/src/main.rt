@@ -50,7 +50,19 @@ fn refused(r: Refusal) {
         told(b"refused 2 site ", site as u64);
         return;
     }
-    io::write_all(STDOUT_FILENO, b"refused 7");
+    if let Refusal::TooManySources { asked, at } = r {
+        told(b"refused 21 sources ", asked as u64);
+        told(b" line ", at as u64);
+        return;
+    }
+    if let Refusal::TermTooHigh { asked } = r {
+        told(b"refused 28 term ", asked as u64);
+        return;
+    }
+    if let Refusal::TooManySites { asked, at } = r {
+        told(b"refused 20 sites ", asked as u64);
+        told(b" line ", at as u64);
+    }
 }
 
 fn show_byte(b: u8) {

@@ -1,7 +1,7 @@
 // Replays stored graphs: reads edges between terms and writes the cyclic terms of each graph.
 //
 // In: a line `A B` is an edge from term A to term B, in decimal; a line `end` closes a graph, and the next one begins without edges.
-// Out: for each graph a line `cyclic T T ..`, its cyclic terms ascending, four digits each. An edge with a term over 255 is `refused 7`, and the graph
+// Out: for each graph a line `cyclic T T ..`, its cyclic terms ascending, four digits each. An edge with a term over 255 is `refused 28`, and the graph
 // stays as it was.
 // Any other line is `bad LINE`, counted from 1, and so is a text that ends inside a line or a graph; nothing after it is read.
 use libc::STDIN_FILENO;
@@ -130,7 +130,7 @@ fn add(t: &mut [[u64; WORDS]; TERMS], a: u16, b: u16) {
     match term_table::add(t, a, b) {
         Verdict::Fine => {}
         Verdict::Refused(_) => {
-            io::write_all(STDOUT_FILENO, b"refused 7\n");
+            io::write_all(STDOUT_FILENO, b"refused 28\n");
         }
     }
 }

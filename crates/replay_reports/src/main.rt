@@ -204,7 +204,7 @@ fn reported(s: State, words: &[u64], room: &mut [u8]) {
                 io::write_all(1, &room[..k]);
             }
         }
-        Reported::TooManyRules => {
+        Reported::TooManyRules(_) => {
             io::write_all(1, b"too many rules\n");
         }
         Reported::NoRoom => {

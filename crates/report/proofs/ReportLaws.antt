@@ -47,7 +47,7 @@ module _ (ws : List ℕ) (n flags : ℕ) where
   text-some e = ap text (multi-not flags (kept-first ws n) e)
 
   module _ (room : List ℕ) where
-    pub many : max-rules < n → (TooManyRules ≡ reported ws n flags room) × (room ≡ room-after ws n flags room)
+    pub many : max-rules < n → (TooManyRules n ≡ reported ws n flags room) × (room ≡ room-after ws n flags room)
     unfolding reported room-after
     many h = (rw (lt-ltb max-rules n h), rw (lt-ltb max-rules n h))
 

@@ -67,20 +67,23 @@ report-room = 2 * max-rules * line-room
 
 unfoldable pub reported : List ℕ → ℕ → ℕ → List ℕ → Reported
 reported ws n flags room =
-    if ltb max-rules n then TooManyRules else (if ltb (length room) report-room then NoRoom else Done (length (report-text ws n flags)))
+    if ltb max-rules n then TooManyRules n else (if ltb (length room) report-room then NoRoom else Done (length (report-text ws n flags)))
 
 unfoldable pub room-after : List ℕ → ℕ → ℕ → List ℕ → List ℕ
 room-after ws n flags room =
     if ltb max-rules n then room
     else (if ltb (length room) report-room then room else report-text ws n flags ++ drop (length (report-text ws n flags)) room)
 
--- 01's number of each answer, and what is told with it
+-- 01's number of each answer, and what is told with it; room that is too short is none of 01's numbers, but "lent too little"
+abbrev pub lent-too-little : ℕ
+lent-too-little = 255
+
 abbrev pub number-of : Reported → ℕ
 number-of (Done count) = 0
-number-of TooManyRules = 7
-number-of NoRoom = 7
+number-of (TooManyRules n) = 23
+number-of NoRoom = lent-too-little
 
 abbrev pub told-with : Reported → List ℕ
 told-with (Done count) = count ∷ []
-told-with TooManyRules = []
+told-with (TooManyRules n) = n ∷ []
 told-with NoRoom = []

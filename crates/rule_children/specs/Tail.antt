@@ -58,7 +58,7 @@ unfoldable pub table : List ℕ → ℕ → List ℕ → ℕ → Sites
 table m n tail k = sites-in m n ++ below k (λ i. site-of-word (getD tail i 0))
 
 -- A tail without room for eight words more, or for as many sites as a set may have, and a table that two bytes can't number, are refused as one that
--- is full (a caller that lends such an array and keeps to the limits meets neither). 7 for fields. Then the children of s under c are added, all or none.
+-- is full (a caller that lends such an array and keeps to the limits meets neither). 22 for fields. Then the children of s under c are added, all or none.
 unfoldable pub grown : List ℕ → ℕ → List ℕ → ℕ → ℕ → ℕ → Constraint → Outcome Sites
 grown m n tail k at s c = do
   _ ← demand (leb (min max-sites (k + max-fields)) (length tail)) (TooManySites (n + k) at)

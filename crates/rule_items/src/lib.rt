@@ -157,7 +157,7 @@ fn constrain(
     }
 }
 
-// "2; 7 for fields; 4 if the site already has another constraint"; the same again changes nothing.
+// "2; 22 for fields; 4 if the site already has another constraint"; the same again changes nothing.
 fn is_item(
     m: &[u8],
     n: u16,

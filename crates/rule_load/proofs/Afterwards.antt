@@ -2,7 +2,7 @@
 use mathlib.Core.Path.{_≡_, refl, sym, ap, _∙_}
 use mathlib.Core.Bool.{Bool, true, false, _&&_, not}
 use mathlib.Core.List.{List, [], _∷_, _++_, map, List·Memᴰ}
-use Prim.Native.Nat.{ℕ, zero, suc, _+_, _*_, _≤_, _<_, min}
+use Prim.Native.Nat.{ℕ, zero, suc, _+_, _*_, _≤_, _<_, min, _/_}
 use native.Mathlib.Omega.{arith}
 use lib.ListN.{length, getD, drop, length-map, length-append}
 use lib.Seq.{getD-at, drop-at}
@@ -87,7 +87,7 @@ module _ (m : List ℕ) (n : ℕ) (ws : List ℕ) (k : ℕ) (r : Rule) where
   unfolding load-in base
   load-is a b c d = start (ltb k max-rules) refl
     where
-      last : (o : Outcome Set) → load (set-in m n ws k) (written r) ≡ o → (o >>= λ g. (demand (leb (length (g .sites) * slot) (length m)) (TooManySites (length (g .sites)) (r .count)) >>= λ _. done g)) ≡ o
+      last : (o : Outcome Set) → load (set-in m n ws k) (written r) ≡ o → (o >>= λ g. (demand (leb (length (g .sites) * slot) (length m)) (TooManySites (length m / slot + 1) (r .count)) >>= λ _. done g)) ≡ o
       last (refused e) q = refl
       last (done g) q = let z = small g q in let y : length (g .sites) * slot ≤ length m = omega arith in rw (le-leb (length (g .sites) * slot) (length m) y)
         where
@@ -120,7 +120,7 @@ kept-comes m n ws k r g e =
     let z = bind-done (settled (length (y .0 .sites)) (length (y .0 .constraints)) (length (y .0 .classes)) (length m) (r .count)) (λ _. done (with-rule (set-in m n ws k) (written r) (y .0))) g (y .2) in
     let u = demand-done (leb (length (y .0 .constraints)) max-constrained) (TooManyConstrained (length (y .0 .constraints))) _ (z .0) (z .1) in
     let v = demand-done (leb (length (y .0 .classes)) max-equal) (TooManyEqual (length (y .0 .classes))) _ (z .0) (u .1) in
-    let w = demand-done {B = Unit {0}} (leb (length (y .0 .sites) * slot) (length m)) (TooManySites (length (y .0 .sites)) (r .count)) done (z .0) (again _ (z .0) (v .1)) in
+    let w = demand-done {B = Unit {0}} (leb (length (y .0 .sites) * slot) (length m)) (TooManySites (length m / slot + 1) (r .count)) done (z .0) (again _ (z .0) (v .1)) in
     record {
       solving = y .0;
       work = y .1;

@@ -2,7 +2,7 @@
 use mathlib.Core.Path.{_≡_, refl, sym, ap, _∙_}
 use mathlib.Core.Bool.{Bool, true, false, _&&_, not}
 use mathlib.Core.List.{List}
-use Prim.Native.Nat.{ℕ, suc, _+_, _*_, _≤_, _<_, min}
+use Prim.Native.Nat.{ℕ, suc, _+_, _*_, _/_, _≤_, _<_, min}
 use native.Mathlib.Omega.{arith}
 use lib.ListN.{length}
 use lib.Dec.{ltb, leb}
@@ -59,7 +59,7 @@ module _ (total held equal room count : ℕ) where
     equal-many k = rw (le-leb held max-constrained h, lt-leb equal max-equal k)
 
     module _ (k : equal ≤ max-equal) where
-      pub room-short : room < total * slot → Refused (TooManySites total count) ≡ answer-as (settled total held equal room count)
+      pub room-short : room < total * slot → Refused (TooManySites (room / slot + 1) count) ≡ answer-as (settled total held equal room count)
       unfolding settled
       room-short l = rw (le-leb held max-constrained h, le-leb equal max-equal k, lt-leb (total * slot) room l)
 

@@ -4,7 +4,7 @@ use mathlib.Core.Bool.{Bool, true, false, _&&_, not}
 use mathlib.Core.Option.{Option, none, some}
 use mathlib.Core.Logic.{⊎-elim}
 use mathlib.Core.List.{List, [], _∷_, _++_, map, List·Memᴰ, List·Memᴰ·head}
-use Prim.Native.Nat.{ℕ, zero, suc, _+_, _*_, _≤_, _<_, min}
+use Prim.Native.Nat.{ℕ, zero, suc, _+_, _*_, _≤_, _<_, min, _/_}
 use native.Mathlib.Omega.{arith}
 use lib.ListN.{length, getD, take, drop, replicate, length-replicate}
 use lib.Seq.{drop-at, getD-at}
@@ -99,7 +99,7 @@ module _ (m : List ℕ) (n : ℕ) (ws : List ℕ) (k place priority count : ℕ)
     limits =
         let u = demand-done (leb (x .held) max-constrained) (TooManyConstrained (x .held)) _ tt settles in
         let v = demand-done (leb (x .equal) max-equal) (TooManyEqual (x .equal)) _ tt (u .1) in
-        let w = demand-done {B = Unit {0}} (leb (total * slot) (length m)) (TooManySites total count) done tt (bind-unit _ (v .1)) in
+        let w = demand-done {B = Unit {0}} (leb (total * slot) (length m)) (TooManySites (length m / slot + 1) count) done tt (bind-unit _ (v .1)) in
         (leb-true _ _ (u .0), leb-true _ _ (v .0), leb-true _ _ (w .0))
       where
         bind-unit : (o : Outcome (Unit {0})) → o ≡ done tt → (o >>= done) ≡ done tt

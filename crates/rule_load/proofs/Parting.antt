@@ -2,7 +2,7 @@
 use mathlib.Core.Path.{_≡_, refl, sym, ap, _∙_}
 use mathlib.Core.Bool.{Bool, true, false, _&&_, not}
 use mathlib.Core.List.{List, [], _∷_, _++_, map}
-use Prim.Native.Nat.{ℕ, zero, suc, _+_, _*_, _≤_, _<_, min}
+use Prim.Native.Nat.{ℕ, zero, suc, _+_, _*_, _≤_, _<_, min, _/_}
 use native.Mathlib.Omega.{arith}
 use lib.ListN.{length}
 use lib.Dec.{ltb, leb}
@@ -91,8 +91,8 @@ module _ (m : List ℕ) (n : ℕ) (ws : List ℕ) (k : ℕ) (r : Rule) where
           (λ l. rounds most-rounds (r .count) (started l))
           (λ s. leb (length (s .constraints)) max-constrained) (λ s. leb (length (s .classes)) max-equal)
           (λ s. TooManyConstrained (length (s .constraints))) (λ s. TooManyEqual (length (s .classes)))
-          (with-rule (set-in m n ws k) (written r)) (λ s. leb (length (s .sites) * slot) (length m)) (λ s. TooManySites (length (s .sites)) (r .count))
-          (λ g. leb (length (g .sites) * slot) (length m)) (λ g. TooManySites (length (g .sites)) (r .count)) (λ s. refl) (λ s. refl)
+          (with-rule (set-in m n ws k) (written r)) (λ s. leb (length (s .sites) * slot) (length m)) (λ s. TooManySites (length m / slot + 1) (r .count))
+          (λ g. leb (length (g .sites) * slot) (length m)) (λ g. TooManySites (length m / slot + 1) (r .count)) (λ s. refl) (λ s. refl)
           (load-items (no-items (sites-in m n)) 0 (written r .items)))
 
 -- loading looks at what is written alone

@@ -52,12 +52,12 @@ worked m n count items = do
   _ ← (let k = closure l in no-endless (endless (steps k (holders l))))
   rounds most-rounds count (started l)
 
--- "Last, 7 if the result passes a number", or if the lent bytes can't hold its table
+-- "Last, 25 for the constrained sites, 26 for the equal ones". Then 20 if the lent bytes can't hold its table: the slots that they are, and one
 unfoldable pub settled : ℕ → ℕ → ℕ → ℕ → ℕ → Outcome (Unit {0})
 settled total held equal room count = do
   _ ← demand (leb held max-constrained) (TooManyConstrained held)
   _ ← demand (leb equal max-equal) (TooManyEqual equal)
-  demand (leb (total * slot) room) (TooManySites total count)
+  demand (leb (total * slot) room) (TooManySites (room / slot + 1) count)
 
 -- the lists that are lent are long enough for the items
 pub record Lent (tail sites rows : List ℕ) : Type 0 where

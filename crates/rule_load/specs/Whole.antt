@@ -1,7 +1,7 @@
 -- Loading a rule into a set in lent memory: what is answered, and what the memory is afterwards.
 use mathlib.Core.Bool.{Bool, _&&_}
 use mathlib.Core.List.{List, [], _∷_, map}
-use Prim.Native.Nat.{ℕ, suc, _+_, _*_, min}
+use Prim.Native.Nat.{ℕ, suc, _+_, _*_, _/_, min}
 use lib.ListN.{length, getD, drop}
 use lib.Dec.{ltb, leb}
 use Rattle.paper.specs.declared.Constraint.{Constraint}
@@ -23,12 +23,13 @@ unfoldable pub set-in : List ℕ → ℕ → List ℕ → ℕ → Set
 set-in m n ws k = record { term = 0; flags = 0; sites = sites-in m n; kept = kept-first ws k }
 
 -- Words without room for one more rule are full, as a set of max-rules is; a table that passes the numbers, or that the lent bytes can't hold, is full.
+-- "Lent room below a limit counts as the limit": told are the slots that are lent, and one. They are asked for last, when the rule is to be kept.
 unfoldable pub load-in : List ℕ → ℕ → List ℕ → ℕ → Rule → Outcome Set
 load-in m n ws k r = do
   _ ← demand (ltb k max-rules && leb (base k + stride) (length ws)) (TooManyRules (suc (min k max-rules)))
   _ ← demand (leb n max-sites) (TooManySites n (r .count))
   g ← load (set-in m n ws k) (written r)
-  _ ← demand (leb (length (g .sites) * slot) (length m)) (TooManySites (length (g .sites)) (r .count))
+  _ ← demand (leb (length (g .sites) * slot) (length m)) (TooManySites (length m / slot + 1) (r .count))
   done g
 
 abbrev pub loaded-as : Outcome Set → Loaded

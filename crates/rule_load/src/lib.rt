@@ -78,7 +78,7 @@ fn used(words: &[u64], kept: u32, place: u32) -> bool
     false
 }
 
-// The checks before the items: 7 for the rule count, then for the item count; 8.
+// The checks before the items: 23 for the rule count, then 24 for the item count; 8.
 fn admit(n: u16, words: &[u64], kept: u32, place: u32, count: u8) -> Verdict
     ensures { λ r. ⌜ r ≡ answer-as (admitted n (now (words .entry)) kept place count) ⌝ }
 {
@@ -293,7 +293,7 @@ fn solve(
     )
 }
 
-// The checks of the result: 7 if it passes a number, then if the lent bytes can't hold its table.
+// The checks of the result: 25, then 26. Then 20 if the lent bytes can't hold its table: told are the slots that they are, and one.
 fn settle(total: usize, held: usize, equal: usize, room: usize, count: u8) -> Verdict
     requires { ⌜ (total ≤ max-sites) × (held < 4294967296) × (equal < 4294967296) ⌝ }
     ensures { λ r. ⌜ r ≡ answer-as (settled total held equal room count) ⌝ }
@@ -308,7 +308,7 @@ fn settle(total: usize, held: usize, equal: usize, room: usize, count: u8) -> Ve
     }
     if room < total * SLOT {
         return Verdict::Refused(Refusal::TooManySites {
-            asked: total as u32,
+            asked: (room / SLOT) as u32 + 1,
             at: count as u32,
         });
     }

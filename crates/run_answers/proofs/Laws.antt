@@ -9,7 +9,10 @@ use lib.ListN.{length, getD, take, drop, set, replicate, length-append, length-d
 use lib.Seq.{drop-cons, take-at, take-suc-set, sets}
 use lib.Dec.{eqb, ltb, leb}
 use borrow.Author.Tests.{lt-ltb, le-ltb, le-leb, lt-leb, eq-eqb, ne-eqb, ltb-true, ltb-false, leb-true, leb-false}
-use Rattle.paper.specs.Words.{if_then_else_, same-list}
+use Rattle.paper.specs.Words.{if_then_else_, same-list, four}
+use Rattle.paper.specs.Numbers.{number}
+use Rattle.paper.specs.declared.Verdict.{Verdict}
+use Rattle.paper.specs.declared.Verdict.the-variants as verdict
 use Rattle.paper.specs.declared.Refusal.{Refusal}
 use Rattle.paper.specs.Loading.{Kept}
 use Rattle.paper.specs.Layout.{Lines, nothing, unended, line, lines}
@@ -36,7 +39,7 @@ use Rattle.tell_text.specs.Written as texts
 use Rattle.tell_text.specs.Written.{Room, with-byte, wrote, after, follows, fits, one-fits, one-past, past}
 use Rattle.run_answers.specs.declared.How.{How}
 use Rattle.run_answers.specs.declared.How.the-variants as how
-use Rattle.run_answers.specs.Told.{byte-of, bytes-in, finding-room, finding-in, lines-said, in-words, pairs-with, pair-lines, set-of, event-text, answer, is-clean, last-room, is-stop, last-text, last-answer}
+use Rattle.run_answers.specs.Told.{asked-for, asker, first-limit, told-bytes, why-of, why-said, said-by, byte-of, bytes-in, finding-room, finding-in, lines-said, in-words, pairs-with, pair-lines, set-of, event-text, answer, is-clean, last-room, is-stop, last-text, last-answer}
 
 -- ---- what is left of a text
 pub wrote-more : (q r F : Room) (a b c : List ℕ) → c ≡ a ++ b → wrote q c ≡ F → r ≡ wrote q a → wrote r b ≡ F
@@ -184,14 +187,16 @@ stays-inside (b ∷ s) m at h = go (ltb at (length m)) refl (stays-inside s (set
         rw (one-past m at b l, past m at s l) h
 
 -- ---- a finding in words
-finding-is : (bytes bytes′ l f : List ℕ) (k : ℕ) → length bytes ≡ finding-room → (bytes′, k) ≡ wrote (bytes, 0) (bytes-in l) → f ≡ part-of bytes′ 0 k → f ≡ finding-in l
-unfolding finding-in
-finding-is bytes bytes′ l f k n e g =
-    let s = bytes-in l in
+first-is : (bytes bytes′ s f : List ℕ) (k : ℕ) → length bytes ≡ finding-room → (bytes′, k) ≡ wrote (bytes, 0) s → f ≡ part-of bytes′ 0 k → f ≡ take finding-room s
+first-is bytes bytes′ s f k n e g =
     let i : k ≤ length bytes′ = subst (λ (p : Room). p .1 ≤ length (p .0)) (sym e) (stays-inside s bytes 0 (omega arith)) in
     let w : take k bytes′ ≡ take (length bytes - 0) s = ap (λ (p : Room). take (p .1) (p .0)) e ∙ holds-first s bytes 0 (omega arith) in
     let d : length bytes - 0 ≡ finding-room = omega arith in
     g ∙ (sym (first-there bytes′ k i) ∙ (w ∙ ap (λ (j : ℕ). take j s) d))
+
+finding-is : (bytes bytes′ l f : List ℕ) (k : ℕ) → length bytes ≡ finding-room → (bytes′, k) ≡ wrote (bytes, 0) (bytes-in l) → f ≡ part-of bytes′ 0 k → f ≡ finding-in l
+unfolding finding-in
+finding-is bytes bytes′ l f k n e g = first-is bytes bytes′ (bytes-in l) f k n e g
 
 said-in : (m m′ s : List ℕ) (at most r : ℕ) (w : F.Room) → most ≡ max at (length m) → w ≡ room-said m at s → m′ ≡ wrote (m, at) s .0 → r ≡ to-or w most → (m′, r) ≡ wrote (m, at) s
 unfolding room-said
@@ -210,6 +215,30 @@ said-in m m′ s at most r w e f g h = go (leb (at + length s) (length m)) refl
 pub explained-put : (m m′ bytes bytes′ l f : List ℕ) (clean : Bool) (at k most r : ℕ) (w : F.Room) → length bytes ≡ finding-room → (bytes′, k) ≡ wrote (bytes, 0) (bytes-in l) → f ≡ part-of bytes′ 0 k → most ≡ max at (length m) → w ≡ room-said m at (said clean f) → m′ ≡ wrote (m, at) (said clean f) .0 → r ≡ to-or w most → (m′, r) ≡ wrote (m, at) (said clean (finding-in l))
 explained-put m m′ bytes bytes′ l f clean at k most r w n e g a b c d =
     said-in m m′ (said clean f) at most r w a b c d ∙ ap (λ z. wrote (m, at) (said clean z)) (finding-is bytes bytes′ l f k n e g)
+
+-- ---- a limit that is passed
+pub none-told : (p : Room) (x : Refusal) (n : ℕ) → n ≡ number x → n < first-limit → p ≡ wrote p (told-bytes x)
+unfolding told-bytes
+none-told p x n e h = let k : number x < first-limit = omega arith in rw (lt-ltb (number x) first-limit k) (texts.nothing p)
+
+pub both-told : (p q r : Room) (x : Refusal) (n a b : ℕ) → n ≡ number x → first-limit ≤ n → a ≡ asked-for x → b ≡ asker x → q ≡ wrote p (four a) → r ≡ wrote q (four b) → r ≡ wrote p (told-bytes x)
+unfolding told-bytes
+both-told p q r x n a b e h f g u v =
+    let k : first-limit ≤ number x = omega arith in
+    rw (le-ltb (number x) first-limit k) (follows p q r (four (asked-for x)) (four (asker x)) (u ∙ ap (λ z. wrote p (four z)) f) (v ∙ ap (λ z. wrote q (four z)) g))
+
+pub why-put : (m m′ bytes bytes′ bytes″ l f : List ℕ) (x : Refusal) (at k j most r : ℕ) (w : F.Room) → length bytes ≡ finding-room → (bytes′, k) ≡ wrote (bytes, 0) (bytes-in l) → (bytes″, j) ≡ wrote (bytes′, k) (told-bytes x) → f ≡ part-of bytes″ 0 j → most ≡ max at (length m) → w ≡ room-said m at (said false f) → m′ ≡ wrote (m, at) (said false f) .0 → r ≡ to-or w most → (m′, r) ≡ wrote (m, at) (why-said x l)
+unfolding why-said
+why-put m m′ bytes bytes′ bytes″ l f x at k j most r w n e h g a b c d =
+    said-in m m′ (said false f) at most r w a b c d ∙ ap (λ z. wrote (m, at) (said false z))
+    (first-is bytes bytes″ (bytes-in l ++ told-bytes x) f j n (follows (bytes, 0) (bytes′, k) (bytes″, j) (bytes-in l) (told-bytes x) e h) g)
+
+module _ (p q : Room) (e : Event) (v : Verdict) (f : List ℕ) (g : v ≡ why-of e) where
+  pub why-line : {x : Refusal} → v ≡ verdict.Refused x → q ≡ wrote p (why-said x f) → q ≡ wrote p (said-by (why-of e) f)
+  why-line h k = k ∙ ap (λ z. wrote p (said-by z f)) (sym h ∙ g)
+
+  pub other-line : v ≡ verdict.Fine → q ≡ wrote p (in-words false f) → q ≡ wrote p (said-by (why-of e) f)
+  other-line h k = k ∙ ap (λ z. wrote p (said-by z f)) (sym h ∙ g)
 
 -- ---- the lines of the findings
 none-said : (clean : Bool) (x : Lines) (l : List ℕ) → Left-of x l → lines-said clean x ≡ []
@@ -320,7 +349,7 @@ module _ (p q : Room) (h : How) (e : Event) (s t : Stands) (m w f : List ℕ) wh
   unfolding answer
   check-put g k = as-answer how.Check g k
 
-  pub explain-put : h ≡ how.Explain → q ≡ wrote p (in-words false f) → q ≡ wrote p (answer h e s t m w f)
+  pub explain-put : h ≡ how.Explain → q ≡ wrote p (said-by (why-of e) f) → q ≡ wrote p (answer h e s t m w f)
   unfolding answer
   explain-put g k = as-answer how.Explain g k
 

@@ -3,8 +3,13 @@ use mathlib.Core.Bool.{Bool, true, false}
 use mathlib.Core.List.{List, [], _∷_, _++_}
 use Prim.Native.Nat.{ℕ, _+_, _*_, _%_}
 use lib.ListN.{length, take}
-use lib.Dec.{leb}
-use Rattle.paper.specs.Words.{if_then_else_, same-list}
+use lib.Dec.{ltb, leb}
+use Rattle.paper.specs.declared.Refusal.{Refusal}
+use Rattle.paper.specs.declared.Refusal.the-variants.{Layout, Unknown, Itself, Unreachable, Hanging, Endless, TooManySites, TooManySources, TooManyFields, TooManyRules, TooManyItems, TooManyConstrained, TooManyEqual, TooManySets, TermTooHigh, UnfoldingTooLong, PlaceUsed, Repeated}
+use Rattle.paper.specs.declared.Verdict.{Verdict}
+use Rattle.paper.specs.declared.Verdict.the-variants.{Fine, Refused}
+use Rattle.paper.specs.Numbers.{number}
+use Rattle.paper.specs.Words.{if_then_else_, same-list, four}
 use Rattle.paper.specs.Text as text
 use Rattle.paper.specs.Loading.{Kept}
 use Rattle.paper.specs.Layout.{Lines, nothing, unended, line, lines, digit}
@@ -22,6 +27,48 @@ use Rattle.run_answers.specs.declared.How.{How}
 use Rattle.run_answers.specs.declared.How.the-variants as how
 
 -- ---- `explain`: each line of the findings in words
+
+-- what is told with a limit: the number that was asked for; the item or the line, where it is told
+abbrev pub asked-for : Refusal → ℕ
+asked-for (Layout line) = 0
+asked-for (Unknown site) = 0
+asked-for (Itself site) = 0
+asked-for (Unreachable site other) = 0
+asked-for (Hanging site) = 0
+asked-for (Endless site) = 0
+asked-for (TooManySites asked at) = asked
+asked-for (TooManySources asked at) = asked
+asked-for (TooManyFields asked at) = asked
+asked-for (TooManyRules asked) = asked
+asked-for (TooManyItems asked) = asked
+asked-for (TooManyConstrained asked) = asked
+asked-for (TooManyEqual asked) = asked
+asked-for (TooManySets asked) = asked
+asked-for (TermTooHigh asked) = asked
+asked-for (UnfoldingTooLong asked) = asked
+asked-for (PlaceUsed place) = 0
+asked-for (Repeated line) = 0
+
+abbrev pub asker : Refusal → ℕ
+asker (Layout line) = 0
+asker (Unknown site) = 0
+asker (Itself site) = 0
+asker (Unreachable site other) = 0
+asker (Hanging site) = 0
+asker (Endless site) = 0
+asker (TooManySites asked at) = at
+asker (TooManySources asked at) = at
+asker (TooManyFields asked at) = at
+asker (TooManyRules asked) = 0
+asker (TooManyItems asked) = 0
+asker (TooManyConstrained asked) = 0
+asker (TooManyEqual asked) = 0
+asker (TooManySets asked) = 0
+asker (TermTooHigh asked) = 0
+asker (UnfoldingTooLong asked) = 0
+asker (PlaceUsed place) = 0
+asker (Repeated line) = 0
+
 abbrev pub byte-of : ℕ → ℕ → ℕ
 byte-of h l = digit h % 16 * 16 + digit l % 16
 
@@ -45,6 +92,32 @@ lines-said clean (line l rest) = said clean (finding-in l) ++ lines-said clean r
 
 unfoldable pub in-words : Bool → List ℕ → List ℕ
 in-words clean found = lines-said clean (lines found)
+
+-- A rule that is refused, or a line that stops the sheet: the one finding, and where a limit is passed the number that was asked for and who asked
+-- behind it, four bytes each.
+abbrev pub why-of : Event → Verdict
+why-of event.Begun = Fine
+why-of event.Site = Fine
+why-of event.Item = Fine
+why-of (event.Kept p q) = Fine
+why-of (event.Refused p q x) = Refused x
+why-of event.Ended = Fine
+why-of (event.Stopped x) = Refused x
+why-of event.NoRoom = Fine
+
+-- the numbers of the limits are the highest
+abbrev pub first-limit : ℕ
+first-limit = 20
+
+unfoldable pub told-bytes : Refusal → List ℕ
+told-bytes x = if ltb (number x) first-limit then [] else four (asked-for x) ++ four (asker x)
+
+unfoldable pub why-said : Refusal → List ℕ → List ℕ
+why-said x found = said false (take finding-room (bytes-in found ++ told-bytes x))
+
+abbrev pub said-by : Verdict → List ℕ → List ℕ
+said-by Fine found = in-words false found
+said-by (Refused x) found = why-said x found
 
 -- ---- `kept`: what the line was
 -- "each pair of kept rules of the set, in rule order, the earlier first"
@@ -78,7 +151,7 @@ event-text event.NoRoom b a m w found = []
 -- ---- a line
 unfoldable pub answer : How → Event → Stands → Stands → List ℕ → List ℕ → List ℕ → List ℕ
 answer how.Check e s t m w found = found
-answer how.Explain e s t m w found = in-words false found
+answer how.Explain e s t m w found = said-by (why-of e) found
 answer how.Kept e s t m w found = event-text e (set-of s) (set-of t) m w found
 
 -- ---- the end of a sheet

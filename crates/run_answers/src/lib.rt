@@ -4,13 +4,17 @@ ghost use mathlib.Core.Path.{_≡_};
 ghost use mathlib.Core.Bool.{Bool};
 ghost use Prim.Native.Nat.{_+_, _-_, _<_, max};
 ghost use lib.ListN.{length};
+ghost use Rattle.paper.specs.Words.{four};
 ghost use Rattle.tell_text.specs.Written.{wrote};
 ghost use Rattle.tell_english.specs.Said.{said};
 ghost use Rattle.rule_words.specs.Stored.{kept-in, kept-first, run};
 ghost use Rattle.sheet_lines.specs.Cut.{part-of};
-ghost use Rattle.run_answers.specs.Told.{byte-of, bytes-in, finding-in, in-words, pairs-with, pair-lines, set-of, event-text, answer, is-clean, is-stop, last-text, last-answer};
+ghost use Rattle.run_answers.specs.Told.{asked-for, asker, byte-of, bytes-in, finding-in, in-words, why-of, told-bytes, why-said, said-by, pairs-with, pair-lines, set-of, event-text, answer, is-clean, is-stop, last-text, last-answer};
+use paper::Refusal;
 use paper::TERMS;
+use paper::Verdict;
 use sheet_ended::to_or;
+use sheet_findings::number_of;
 use sheet_frames::digits::value_of;
 use sheet_lines::Ends;
 use sheet_lines::line_end;
@@ -89,6 +93,133 @@ fn put_all_explained(room: &[u8], clean: bool, out: &mut [u8], at: usize) -> usi
         from = e + 1;
     }
     n
+}
+
+// ---- a limit that is passed, in words
+
+// The numbers of the limits are the highest.
+const FIRST_LIMIT: u8 = 20;
+
+// The number that was asked for.
+fn asked_of(r: Refusal) -> u32
+    ensures { λ n. ⌜ n ≡ asked-for r ⌝ }
+{
+    match r {
+        Refusal::Layout { line: _ } => 0,
+        Refusal::Unknown { site: _ } => 0,
+        Refusal::Itself { site: _ } => 0,
+        Refusal::Unreachable { site: _, other: _ } => 0,
+        Refusal::Hanging { site: _ } => 0,
+        Refusal::Endless { site: _ } => 0,
+        Refusal::TooManySites { asked, at: _ } => asked,
+        Refusal::TooManySources { asked, at: _ } => asked,
+        Refusal::TooManyFields { asked, at: _ } => asked,
+        Refusal::TooManyRules { asked } => asked,
+        Refusal::TooManyItems { asked } => asked,
+        Refusal::TooManyConstrained { asked } => asked,
+        Refusal::TooManyEqual { asked } => asked,
+        Refusal::TooManySets { asked } => asked,
+        Refusal::TermTooHigh { asked } => asked,
+        Refusal::UnfoldingTooLong { asked } => asked,
+        Refusal::PlaceUsed { place: _ } => 0,
+        Refusal::Repeated { line: _ } => 0,
+    }
+}
+
+// The item or the line that asked, where it is told.
+fn asker_of(r: Refusal) -> u32
+    ensures { λ n. ⌜ n ≡ asker r ⌝ }
+{
+    match r {
+        Refusal::Layout { line: _ } => 0,
+        Refusal::Unknown { site: _ } => 0,
+        Refusal::Itself { site: _ } => 0,
+        Refusal::Unreachable { site: _, other: _ } => 0,
+        Refusal::Hanging { site: _ } => 0,
+        Refusal::Endless { site: _ } => 0,
+        Refusal::TooManySites { asked: _, at } => at,
+        Refusal::TooManySources { asked: _, at } => at,
+        Refusal::TooManyFields { asked: _, at } => at,
+        Refusal::TooManyRules { asked: _ } => 0,
+        Refusal::TooManyItems { asked: _ } => 0,
+        Refusal::TooManyConstrained { asked: _ } => 0,
+        Refusal::TooManyEqual { asked: _ } => 0,
+        Refusal::TooManySets { asked: _ } => 0,
+        Refusal::TermTooHigh { asked: _ } => 0,
+        Refusal::UnfoldingTooLong { asked: _ } => 0,
+        Refusal::PlaceUsed { place: _ } => 0,
+        Refusal::Repeated { line: _ } => 0,
+    }
+}
+
+// Four bytes, high byte first.
+fn put_word(bytes: &mut [u8], at: usize, v: u32) -> usize
+    ensures { λ r. ⌜ (now (bytes .exit), r) ≡ wrote (now (bytes .entry), at) (four v) ⌝ }
+{
+    let b = [
+        (v / 256 / 256 / 256) as u8,
+        (v / 256 / 256 % 256) as u8,
+        (v / 256 % 256) as u8,
+        (v % 256) as u8,
+    ];
+    put_text(bytes, at, &b)
+}
+
+// What is told with a limit, behind its finding.
+fn put_told(bytes: &mut [u8], at: usize, why: Refusal) -> usize
+    ensures { λ r. ⌜ (now (bytes .exit), r) ≡ wrote (now (bytes .entry), at) (told-bytes why) ⌝ }
+{
+    if number_of(why) < FIRST_LIMIT {
+        return at;
+    }
+    let a = put_word(bytes, at, asked_of(why));
+    put_word(bytes, a, asker_of(why))
+}
+
+// A finding with what is told, in words.
+fn put_why(found: &[u8], why: Refusal, out: &mut [u8], at: usize) -> usize
+    ensures { λ r. ⌜ (now (out .exit), r) ≡ wrote (now (out .entry), at) (why-said why (now (found .entry))) ⌝ }
+{
+    let mut bytes = [0u8; FINDING];
+    let k = bytes_of(found, &mut bytes);
+    let e = put_told(&mut bytes, k, why);
+    let most = later(at, out.len());
+    let r = tell_english::explain(part(&bytes, 0, e), false, out, at);
+    to_or(r, most)
+}
+
+// Why a rule was refused, or the sheet stopped.
+fn why_of(e: Event) -> Verdict
+    ensures { λ r. ⌜ r ≡ why-of e ⌝ }
+{
+    match e {
+        Event::Begun => Verdict::Fine,
+        Event::Site => Verdict::Fine,
+        Event::Item => Verdict::Fine,
+        Event::Kept {
+            place: _,
+            priority: _,
+        } => Verdict::Fine,
+        Event::Refused {
+            place: _,
+            priority: _,
+            why,
+        } => Verdict::Refused(why),
+        Event::Ended => Verdict::Fine,
+        Event::Stopped(why) => Verdict::Refused(why),
+        Event::NoRoom => Verdict::Fine,
+    }
+}
+
+// What a line found, in words.
+fn put_line_explained(e: Event, found: &[u8], out: &mut [u8], at: usize) -> usize
+    ensures { λ r. ⌜ (now (out .exit), r) ≡ wrote (now (out .entry), at) (said-by (why-of e) (now (found .entry))) ⌝ }
+{
+    let v = why_of(e);
+    if let Verdict::Refused(why) = v {
+        return put_why(found, why, out, at);
+    }
+    put_all_explained(found, false, out, at)
 }
 
 // ---- what is kept, in words
@@ -197,7 +328,7 @@ pub fn put_step(
 {
     match how {
         How::Check => put_text(out, at, found),
-        How::Explain => put_all_explained(found, false, out, at),
+        How::Explain => put_line_explained(e, found, out, at),
         How::Kept => put_event(e, stood, stands, m, words, found, out, at),
     }
 }

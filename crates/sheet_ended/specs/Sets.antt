@@ -28,7 +28,7 @@ abbrev pub verdict-as : Outcome (Unit {0}) → Verdict
 verdict-as (done a) = Fine
 verdict-as (refused r) = Refused r
 
--- "9 for a term used before, then 7"
+-- 9 for a term used before, then 27, 28
 unfoldable pub may-begin : EndedSets → ℕ → ℕ → Outcome (Unit {0})
 may-begin e t at = do
   _ ← demand (not (has-term (e .used) t)) (Repeated at)

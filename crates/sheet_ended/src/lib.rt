@@ -46,7 +46,7 @@ pub fn no_sets() -> EndedSets
     }
 }
 
-// "01 term, flags": 9 for a term used before, then 7.
+// "01 term, flags": 9 for a term used before, then 27, 28.
 pub fn may_begin(e: EndedSets, term: u16, line: u32) -> Verdict
     ensures { λ r. ⌜ r ≡ verdict-as (may-begin e term line) ⌝ }
 {

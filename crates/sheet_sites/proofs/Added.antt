@@ -1,5 +1,5 @@
--- 02: a site read into the open set. "9 for a site that the set has, then 2 and 7": adding tells them apart, since a site that the set has earns
--- neither 2 nor 7.
+-- 02: a site read into the open set. "9 for a site that the set has, then 2, 21, 28, 20": adding tells them apart, since a site that the set has earns
+-- none of the four.
 use mathlib.Core.Path.{_≡_, refl, sym, ap, _∙_}
 use mathlib.Core.Bool.{Bool, true, false, not, _||_}
 use mathlib.Core.Option.{Option, none, some}

@@ -35,7 +35,7 @@ fn next(n: u16) -> u16
     if n < 65535 { n + 1 } else { n }
 }
 
-// 01: "9 for a term used before, then 7".
+// 01: 9 for a term used before, then 27, 28.
 pub fn begin_frame(r: Reader, term: u16, flags: u8, room: &mut [u8], at: usize) -> Stepped
     ensures { λ a. ⌜ ((k : Lent) → after a k (now (room .exit)) ≡ begin-in r k (now (room .entry)) at term flags) ⌝ }
     ensures { λ a. ⌜ (Ready r (now (room .entry)) at → (k : Lent) (p : paper.Ended) →
@@ -60,7 +60,7 @@ pub fn begin_frame(r: Reader, term: u16, flags: u8, room: &mut [u8], at: usize) 
     on(r, Stands::Sites(set), Event::Begun, at)
 }
 
-// 02: 9 for a site that the set has, then 2 and 7. A site that the set has earns neither of the two.
+// 02: 9 for a site that the set has, then 2, 21, 28, 20. A site that the set has earns none of the four.
 fn site_frame(r: Reader, body: &[u8], m: &mut [u8], room: &mut [u8], at: usize) -> Stepped
     ensures { λ a. ⌜ ((w i : List ℕ) (t : Square) → after a (lent (now (m .exit)) w i t) (now (room .exit))
         ≡ site-in r (lent (now (m .entry)) w i t) (now (room .entry)) at (now (body .entry))) ⌝ }

@@ -9,7 +9,7 @@ use Rattle.report.specs.declared.Reported.the-variants as reported-is
 -- from `at` on
 abbrev pub count-of : Reported → ℕ
 count-of (reported-is.Done n) = n
-count-of reported-is.TooManyRules = 0
+count-of (reported-is.TooManyRules n) = 0
 count-of reported-is.NoRoom = 0
 
 abbrev pub report-end : List ℕ → ℕ → ℕ → List ℕ → ℕ → ℕ

@@ -39,7 +39,7 @@ fn count_of(r: Reported) -> usize
 {
     match r {
         Reported::Done(n) => n as usize,
-        Reported::TooManyRules => 0,
+        Reported::TooManyRules(_) => 0,
         Reported::NoRoom => 0,
     }
 }

@@ -114,7 +114,7 @@ link-of (matchTuple s f) = link.Nothing
 unfoldable pub missing : ℕ → List ℕ → Option ℕ
 missing n l = first (λ k. not (ltb k n)) l
 
--- "2, then 7 for sources or term", of a set of n sites
+-- "2, then 21 for sources and 28 for the term", of a set of n sites
 unfoldable pub admits : ℕ → ℕ → Site → Outcome (Unit {0})
 admits n at s = do
   _ ← missing-source (missing n (sources s))

@@ -2,13 +2,14 @@
 use mathlib.Core.Path.{_≡_, sym, ap, _∙_}
 use mathlib.Core.Bool.{true, false}
 use mathlib.Core.List.{List, [], _∷_, _++_, map}
-use Prim.Native.Nat.{ℕ, suc, _+_, _-_, _*_, _≤_, _<_}
+use Prim.Native.Nat.{ℕ, suc, _+_, _-_, _*_, _≤_, _<_, min}
 use native.Mathlib.Omega.{arith}
 use lib.ListN.{length, getD, take, drop}
 use lib.Seq.{getD-at, take-append-seam}
 use borrow.Author.Tests.{lt-ltb, le-ltb, le-leb, lt-leb}
 use Rattle.paper.specs.Words.{joined, below}
 use Rattle.paper.specs.Numbers.{max-unfolding, Outcome, done, refused}
+use Rattle.paper.specs.declared.Refusal.{Refusal}
 use Rattle.paper.specs.declared.Refusal.the-variants.{Unknown, UnfoldingTooLong}
 use Rattle.paper.specs.Sites.{argument, body-by, site-at, known, lower-only, unfolded, unfold-answer}
 use Rattle.paper.proofs.Laws.{older-unfolded, unfolded-is, lower-true, lower-false, same-lower}
@@ -120,6 +121,24 @@ module _ (m : List ℕ) (s : ℕ) (b : List ℕ) (from left : ℕ) where
     go-on out at e r o o′ g k l v u = rw (next-source, lower-true s (unfolded-in m) t l) (writes-then out at (unfolded-in m t) others e r o o′ g k v u)
 
 -- ---- the answer
+
+-- past either of two numbers is past the lower; within both is within it
+past-one : (a b n : ℕ) → a < n → min a b < n
+past-one a b n h = omega arith
+
+past-other : (a b n : ℕ) → b < n → min a b < n
+past-other a b n h = omega arith
+
+in-both : (a b n : ℕ) → n ≤ a → n ≤ b → n ≤ min a b
+in-both a b n h k = omega arith
+
+-- the first byte past the lower of the two
+pub over-limit : (room : ℕ) → max-unfolding ≤ room → UnfoldingTooLong (max-unfolding + 1) ≡ UnfoldingTooLong (suc (min max-unfolding room))
+over-limit room h = let e : max-unfolding + 1 ≡ suc (min max-unfolding room) = omega arith in ap UnfoldingTooLong e
+
+pub over-room : (room : ℕ) → room < max-unfolding → UnfoldingTooLong (room + 1) ≡ UnfoldingTooLong (suc (min max-unfolding room))
+over-room room h = let e : room + 1 ≡ suc (min max-unfolding room) = omega arith in ap UnfoldingTooLong e
+
 module _ (m : List ℕ) (n s : ℕ) (room : List ℕ) where
   abbrev answer : Outcome (List ℕ)
   answer = unfold-answer (sites-in m n) (length room) s
@@ -128,18 +147,17 @@ module _ (m : List ℕ) (n s : ℕ) (room : List ℕ) where
   unfolding unfold-answer known
   answer-unknown h = rw (sites-length m n, le-ltb s n h)
 
+  abbrev limit : ℕ
+  limit = min max-unfolding (length room)
+
   module _ (h : s < n) where
-    pub answer-long : max-unfolding < length (unfolded-in m s) → answer ≡ refused (UnfoldingTooLong (suc max-unfolding))
+    pub answer-over : limit < length (unfolded-in m s) → answer ≡ refused (UnfoldingTooLong (suc limit))
     unfolding unfold-answer known
-    answer-long l = rw (sites-length m n, lt-ltb s n h, unfolded-at m n s h, lt-leb (length (unfolded-in m s)) max-unfolding l)
+    answer-over l = rw (sites-length m n, lt-ltb s n h, unfolded-at m n s h, lt-leb (length (unfolded-in m s)) limit l)
 
-    pub answer-short : length (unfolded-in m s) ≤ max-unfolding → length room < length (unfolded-in m s) → answer ≡ refused (UnfoldingTooLong (suc (length room)))
+    pub answer-done : length (unfolded-in m s) ≤ limit → answer ≡ done (unfolded-in m s)
     unfolding unfold-answer known
-    answer-short l k = rw (sites-length m n, lt-ltb s n h, unfolded-at m n s h, le-leb (length (unfolded-in m s)) max-unfolding l, lt-leb (length (unfolded-in m s)) (length room) k)
-
-    pub answer-done : length (unfolded-in m s) ≤ max-unfolding → length (unfolded-in m s) ≤ length room → answer ≡ done (unfolded-in m s)
-    unfolding unfold-answer known
-    answer-done l k = rw (sites-length m n, lt-ltb s n h, unfolded-at m n s h, le-leb (length (unfolded-in m s)) max-unfolding l, le-leb (length (unfolded-in m s)) (length room) k)
+    answer-done l = rw (sites-length m n, lt-ltb s n h, unfolded-at m n s h, le-leb (length (unfolded-in m s)) limit l)
 
 -- ---- what each return of `unfold` cites
 pub put-front : (m x : List ℕ) → take (length x) (put m 0 x) ≡ x
@@ -150,28 +168,27 @@ module _ (m : List ℕ) (n s : ℕ) (room : List ℕ) where
   pub unfold-unknown : n ≤ s → (unfolding′.Refused (Unknown s) ≡ unfolded-as (answer m n s room)) × (room ≡ after-unfold room (answer m n s room))
   unfold-unknown h = let w = answer-unknown m n s room h in (rw w, rw w)
 
-  module _ (h : s < n) (aside aside′ : List ℕ) (z : length aside ≡ max-unfolding) where
-    pub unfold-long : Writes aside 0 (unfolded-in m s) Full aside′ → (unfolding′.Refused (UnfoldingTooLong (max-unfolding + 1)) ≡ unfolded-as (answer m n s room)) × (room ≡ after-unfold room (answer m n s room))
+  module _ (h : s < n) (over : Refusal) (o : over ≡ UnfoldingTooLong (suc (limit m n s room))) (aside aside′ : List ℕ) (z : length aside ≡ max-unfolding) where
+    pub unfold-long : Writes aside 0 (unfolded-in m s) Full aside′ → (unfolding′.Refused over ≡ unfolded-as (answer m n s room)) × (room ≡ after-unfold room (answer m n s room))
     unfold-long v =
         let l = end-full (length aside) 0 (unfolded-in m s) (v .is) in
-        let w = answer-long m n s room h (omega arith) in
-        (rw w, rw w)
+        let w = answer-over m n s room h (past-one max-unfolding (length room) (length (unfolded-in m s)) (omega arith)) in
+        (rw (w, o), rw w)
 
     module _ (e : ℕ) (v : Writes aside 0 (unfolded-in m s) (To e) aside′) where
       pub ends : (e ≡ length (unfolded-in m s)) × (e ≤ max-unfolding)
       ends = let a = writes-fits aside 0 (unfolded-in m s) e aside′ v in let x = a .0 in let y = a .1 in (omega arith, omega arith)
 
-      pub unfold-short : length room < e → (unfolding′.Refused (UnfoldingTooLong (length room + 1)) ≡ unfolded-as (answer m n s room)) × (room ≡ after-unfold room (answer m n s room))
+      pub unfold-short : length room < e → (unfolding′.Refused over ≡ unfolded-as (answer m n s room)) × (room ≡ after-unfold room (answer m n s room))
       unfold-short l =
           let g = ends in
-          let k : suc (length room) ≡ length room + 1 = omega arith in
-          let w = answer-short m n s room h (omega (arith, g .0, g .1)) (omega (arith, g .0)) in
-          (rw (w, k), rw w)
+          let w = answer-over m n s room h (past-other max-unfolding (length room) (length (unfolded-in m s)) (omega (arith, g .0))) in
+          (rw (w, o), rw w)
 
       pub unfold-done : (room′ : List ℕ) → e ≤ length room → room′ ≡ put room 0 (take e aside′) → (unfolding′.Bytes e ≡ unfolded-as (answer m n s room)) × (room′ ≡ after-unfold room (answer m n s room))
       unfold-done room′ l q =
           let g = ends in
-          let w = answer-done m n s room h (omega (arith, g .0, g .1)) (omega (arith, g .0)) in
+          let w = answer-done m n s room h (in-both max-unfolding (length room) (length (unfolded-in m s)) (omega (arith, g .0, g .1)) (omega (arith, g .0))) in
           let a = writes-fits aside 0 (unfolded-in m s) e aside′ v in
           let c : take e aside′ ≡ unfolded-in m s = rw (a .2, g .0) (put-front aside (unfolded-in m s)) in
           (rw (w, g .0), q ∙ rw (w, c))

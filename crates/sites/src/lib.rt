@@ -1,9 +1,11 @@
 // A set's sites in lent memory: slots of 32 bytes, a length byte and then the sheet body, kind byte first. (The Rust's `dedup_binding`.)
 ghost use mathlib.Core.Path.{_≡_};
-ghost use Prim.Native.Nat.{_+_, _*_, _≤_, _<_};
+ghost use Prim.Native.Nat.{suc, _+_, _*_, _≤_, _<_, min};
 ghost use lib.ListN.{length, drop};
 ghost use mathlib.Core.List.{_∷_, map};
 ghost use Rattle.paper.specs.Words.{joined};
+ghost use Rattle.paper.specs.Numbers.{max-unfolding};
+ghost use Rattle.paper.specs.declared.Refusal.the-variants.{UnfoldingTooLong};
 ghost use Rattle.paper.specs.Sites.{number-of, lower-only, unfold-answer};
 ghost use Rattle.site_body.specs.Body.{words, site-of, found-as};
 ghost use Rattle.sites.specs.Slots.{slot, slot-body, sites-in, Findable, added-in, numbered-as, after-add, put, unfolded-in, unfolded-as, after-unfold, Writes};
@@ -187,6 +189,20 @@ fn unfold_sources(
     unfold_sources(m, s, b, from + 2, left - 1, out, e)
 }
 
+// An unfolding that passes the lower of 4,096 bytes and the room. The asking stops at the first byte past it, which is told.
+fn too_long(room: usize) -> Refusal
+    ensures { λ r. ⌜ r ≡ UnfoldingTooLong (suc (min max-unfolding room)) ⌝ }
+{
+    if UNFOLDING <= room {
+        return Refusal::UnfoldingTooLong {
+            asked: UNFOLDING as u32 + 1,
+        };
+    }
+    Refusal::UnfoldingTooLong {
+        asked: room as u32 + 1,
+    }
+}
+
 // Writes the unfolding of site s of so many into the room, from its start on. What is refused leaves the room as it was, so the work is done aside.
 pub fn unfold(m: &[u8], count: u16, s: u16, room: &mut [u8]) -> Unfolded
     ensures { λ r. ⌜ (let answer = unfold-answer (sites-in (now (m .entry)) count) (length (now (room .entry))) s in
@@ -195,17 +211,14 @@ pub fn unfold(m: &[u8], count: u16, s: u16, room: &mut [u8]) -> Unfolded
     if count <= s {
         return Unfolded::Refused(Refusal::Unknown { site: s });
     }
+    let over = too_long(room.len());
     let mut aside = [0u8; UNFOLDING];
     let w = unfold_site(m, s, &mut aside, 0);
     let Wrote::To(e) = w else {
-        return Unfolded::Refused(Refusal::UnfoldingTooLong {
-            asked: UNFOLDING as u32 + 1,
-        });
+        return Unfolded::Refused(over);
     };
     if room.len() < e {
-        return Unfolded::Refused(Refusal::UnfoldingTooLong {
-            asked: room.len() as u32 + 1,
-        });
+        return Unfolded::Refused(over);
     }
     put_at(room, 0, &aside[..e]);
     Unfolded::Bytes(e)

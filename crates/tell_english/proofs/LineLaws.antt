@@ -15,8 +15,8 @@ use Rattle.sheet_findings.specs.Written.{room-said}
 use Rattle.tell_english.specs.declared.Shape.{Shape}
 use Rattle.tell_parts.specs.Parts.{filled}
 use Rattle.tell_english.specs.Shapes.{shape-of}
-use Rattle.tell_english.specs.Words.{unknown-site, unreachable, hanging-site, self-containing, limit-of-a-rule, place-used, other-refusal, bad-line, source-unknown, limit-of-a-sheet, repeated, other-stop}
-use Rattle.tell_english.specs.Said.{refused-words, stopped-words, ended-words, words-for, explained, said, line-end, line-room}
+use Rattle.tell_english.specs.Words.{unknown-site, unreachable, hanging-site, self-containing, place-used, other-refusal, bad-line, source-unknown, repeated, other-stop, too-many-sites, too-many-fields, too-many-rules, too-many-items, too-many-constrained, too-many-equal, full-set, too-many-sources, too-many-sets, term-too-high}
+use Rattle.tell_english.specs.Said.{refused-words, stopped-words, limit-words, stop-limit-words, ended-words, words-for, explained, said, line-end, line-room}
 
 -- ---- LF
 pub end-fits : (m : List ℕ) (at : ℕ) → at < length m → (To (at + 1) ≡ line-end (m, at)) × (set m at 10 ≡ line-room (m, at))
@@ -68,17 +68,13 @@ module _ (n : ℕ) where
   unfolding refused-words
   refused-6 e = rw e
 
-  pub refused-7 : n ≡ 7 → limit-of-a-rule ≡ refused-words n
-  unfolding refused-words
-  refused-7 e = rw e
-
   pub refused-8 : n ≡ 8 → place-used ≡ refused-words n
   unfolding refused-words
   refused-8 e = rw e
 
-  pub refused-other : (n ≡ 2 → ⊥) → (n ≡ 4 → ⊥) → (n ≡ 5 → ⊥) → (n ≡ 6 → ⊥) → (n ≡ 7 → ⊥) → (n ≡ 8 → ⊥) → other-refusal ≡ refused-words n
+  pub refused-other : (n ≡ 2 → ⊥) → (n ≡ 4 → ⊥) → (n ≡ 5 → ⊥) → (n ≡ 6 → ⊥) → (n ≡ 8 → ⊥) → other-refusal ≡ refused-words n
   unfolding refused-words
-  refused-other h2 h4 h5 h6 h7 h8 = rw (ne-eqb n 2 h2, ne-eqb n 4 h4, ne-eqb n 5 h5, ne-eqb n 6 h6, ne-eqb n 7 h7, ne-eqb n 8 h8)
+  refused-other h2 h4 h5 h6 h8 = rw (ne-eqb n 2 h2, ne-eqb n 4 h4, ne-eqb n 5 h5, ne-eqb n 6 h6, ne-eqb n 8 h8)
 
   pub stopped-1 : n ≡ 1 → bad-line ≡ stopped-words n
   unfolding stopped-words
@@ -88,17 +84,61 @@ module _ (n : ℕ) where
   unfolding stopped-words
   stopped-2 e = rw e
 
-  pub stopped-7 : n ≡ 7 → limit-of-a-sheet ≡ stopped-words n
-  unfolding stopped-words
-  stopped-7 e = rw e
-
   pub stopped-9 : n ≡ 9 → repeated ≡ stopped-words n
   unfolding stopped-words
   stopped-9 e = rw e
 
-  pub stopped-other : (n ≡ 1 → ⊥) → (n ≡ 2 → ⊥) → (n ≡ 7 → ⊥) → (n ≡ 9 → ⊥) → other-stop ≡ stopped-words n
+  pub stopped-other : (n ≡ 1 → ⊥) → (n ≡ 2 → ⊥) → (n ≡ 9 → ⊥) → other-stop ≡ stopped-words n
   unfolding stopped-words
-  stopped-other h1 h2 h7 h9 = rw (ne-eqb n 1 h1, ne-eqb n 2 h2, ne-eqb n 7 h7, ne-eqb n 9 h9)
+  stopped-other h1 h2 h9 = rw (ne-eqb n 1 h1, ne-eqb n 2 h2, ne-eqb n 9 h9)
+
+  pub limit-20 : n ≡ 20 → too-many-sites ≡ limit-words n
+  unfolding limit-words
+  limit-20 e = rw e
+
+  pub limit-22 : n ≡ 22 → too-many-fields ≡ limit-words n
+  unfolding limit-words
+  limit-22 e = rw e
+
+  pub limit-23 : n ≡ 23 → too-many-rules ≡ limit-words n
+  unfolding limit-words
+  limit-23 e = rw e
+
+  pub limit-24 : n ≡ 24 → too-many-items ≡ limit-words n
+  unfolding limit-words
+  limit-24 e = rw e
+
+  pub limit-25 : n ≡ 25 → too-many-constrained ≡ limit-words n
+  unfolding limit-words
+  limit-25 e = rw e
+
+  pub limit-26 : n ≡ 26 → too-many-equal ≡ limit-words n
+  unfolding limit-words
+  limit-26 e = rw e
+
+  pub limit-other : (n ≡ 20 → ⊥) → (n ≡ 22 → ⊥) → (n ≡ 23 → ⊥) → (n ≡ 24 → ⊥) → (n ≡ 25 → ⊥) → (n ≡ 26 → ⊥) → other-refusal ≡ limit-words n
+  unfolding limit-words
+  limit-other h20 h22 h23 h24 h25 h26 = rw (ne-eqb n 20 h20, ne-eqb n 22 h22, ne-eqb n 23 h23, ne-eqb n 24 h24, ne-eqb n 25 h25, ne-eqb n 26 h26)
+
+  pub stop-limit-20 : n ≡ 20 → full-set ≡ stop-limit-words n
+  unfolding stop-limit-words
+  stop-limit-20 e = rw e
+
+  pub stop-limit-21 : n ≡ 21 → too-many-sources ≡ stop-limit-words n
+  unfolding stop-limit-words
+  stop-limit-21 e = rw e
+
+  pub stop-limit-27 : n ≡ 27 → too-many-sets ≡ stop-limit-words n
+  unfolding stop-limit-words
+  stop-limit-27 e = rw e
+
+  pub stop-limit-28 : n ≡ 28 → term-too-high ≡ stop-limit-words n
+  unfolding stop-limit-words
+  stop-limit-28 e = rw e
+
+  pub stop-limit-other : (n ≡ 20 → ⊥) → (n ≡ 21 → ⊥) → (n ≡ 27 → ⊥) → (n ≡ 28 → ⊥) → other-stop ≡ stop-limit-words n
+  unfolding stop-limit-words
+  stop-limit-other h20 h21 h27 h28 = rw (ne-eqb n 20 h20, ne-eqb n 21 h21, ne-eqb n 27 h27, ne-eqb n 28 h28)
 
 -- the words of a number m that is the n of the frame
 pub words-of : (p q : Room) (f : List ℕ) (w : ℕ → List ℕ) (t : List ℕ) (n m : ℕ) → n ≡ m → t ≡ w n → q ≡ wrote p (filled f t) → q ≡ wrote p (filled f (w m))

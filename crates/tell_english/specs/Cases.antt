@@ -6,12 +6,12 @@ use Prim.Native.Nat.{ℕ}
 use Rattle.paper.specs.Text.{text}
 use Rattle.tell_text.specs.Decimal.{decimal, digits}
 use Rattle.tell_parts.specs.Parts.{two-at, four-at, separator, rest, places, plural, part, filled}
-use Rattle.tell_english.specs.Shapes.{listed, shape-of}
-use Rattle.tell_english.specs.Words.{pieces, unknown-site, unreachable, hanging-site, self-containing, limit-of-a-rule, place-used, other-refusal, overlap-two, overlap-more, mask-one, mask-more, calls-itself, read-to-end, clean-sheet, bad-line, source-unknown, limit-of-a-sheet, repeated, other-stop, not-known, empty-line}
-use Rattle.tell_english.specs.Said.{refused-words, stopped-words, explained, said}
+use Rattle.tell_english.specs.Shapes.{refusal, listed, shape-of}
+use Rattle.tell_english.specs.Words.{pieces, unknown-site, unreachable, hanging-site, self-containing, place-used, other-refusal, overlap-two, overlap-more, mask-one, mask-more, calls-itself, read-to-end, clean-sheet, bad-line, source-unknown, repeated, other-stop, not-known, empty-line, too-many-sites, too-many-fields, too-many-rules, too-many-items, too-many-constrained, too-many-equal, full-set, too-many-sources, too-many-sets, term-too-high}
+use Rattle.tell_english.specs.Said.{refused-words, stopped-words, limit-words, stop-limit-words, explained, said}
 
 unfoldable all-said : Unit {0}
-unfolding decimal digits two-at four-at separator rest places plural part filled listed shape-of refused-words stopped-words explained said unknown-site unreachable hanging-site self-containing limit-of-a-rule place-used other-refusal overlap-two overlap-more mask-one mask-more calls-itself read-to-end clean-sheet bad-line source-unknown limit-of-a-sheet repeated other-stop not-known empty-line
+unfolding decimal digits two-at four-at separator rest places plural part filled listed shape-of refused-words stopped-words explained said unknown-site unreachable hanging-site self-containing place-used other-refusal overlap-two overlap-more mask-one mask-more calls-itself read-to-end clean-sheet bad-line source-unknown repeated other-stop not-known empty-line refusal limit-words stop-limit-words too-many-sites too-many-fields too-many-rules too-many-items too-many-constrained too-many-equal full-set too-many-sources too-many-sets term-too-high
 all-said = tt
 
 -- 130000000A000100000014
@@ -115,3 +115,23 @@ a-cut-line = refl
 no-line : said false ([]) ≡ text "This line is empty, so it is no finding."
 unfolding all-said
 no-line = refl
+
+-- 110000000116, asked for 9, item 1
+nine-fields : said false (17 ∷ 0 ∷ 0 ∷ 0 ∷ 1 ∷ 22 ∷ 0 ∷ 0 ∷ 0 ∷ 9 ∷ 0 ∷ 0 ∷ 0 ∷ 1 ∷ []) ≡
+    pieces ("Rule 1 is refused with number 22 (fields): its item 1, counted from 0, asks for 9 fields, and a constraint has at most 8. The box leaves the " ∷
+    "rule out, so what it should print stays missing. Ask for fewer fields." ∷ []) ++ (10 ∷ [])
+unfolding all-said
+nine-fields = refl
+
+-- 1F000000011C, asked for 300
+a-high-term : said false (31 ∷ 0 ∷ 0 ∷ 0 ∷ 1 ∷ 28 ∷ 0 ∷ 0 ∷ 1 ∷ 44 ∷ 0 ∷ 0 ∷ 0 ∷ 0 ∷ []) ≡
+    pieces ("The sheet stops at line 1 with number 28 (term number): the line has term 300, and term numbers go to 255. Nothing from there on was " ∷
+    "checked, so do not load the sheet: give the term a lower number and check again." ∷ []) ++ (10 ∷ [])
+unfolding all-said
+a-high-term = refl
+
+-- 110000000114 without what is told: not what this program writes
+no-more-told : said false (17 ∷ 0 ∷ 0 ∷ 0 ∷ 1 ∷ 20 ∷ []) ≡
+    pieces ("Rule 1 is refused with number 20, a reason that this program has no words for. Read it with the program that wrote it." ∷ []) ++ (10 ∷ [])
+unfolding all-said
+no-more-told = refl

@@ -16,9 +16,9 @@ use Rattle.tell_text.specs.Decimal.{decimal}
 use Rattle.sheet_findings.specs.Written.{ended-found}
 use Rattle.tell_english.specs.declared.Shape.the-variants.{Refused, Term, End, Stop}
 use Rattle.tell_parts.specs.Parts.{two-at, four-at, separator, rest, places, filled}
-use Rattle.tell_english.specs.Shapes.{shape-of}
+use Rattle.tell_english.specs.Shapes.{refusal, shape-of}
 use Rattle.tell_english.specs.Words.{calls-itself}
-use Rattle.tell_english.specs.Said.{refused-words, stopped-words, ended-words, explained}
+use Rattle.tell_english.specs.Said.{refused-words, stopped-words, limit-words, stop-limit-words, ended-words, explained}
 
 four-bytes : (n : ℕ) → n < 4294967296 → (n / 256 / 256 / 256 * 256 + n / 256 / 256 % 256) * 65536 + (n / 256 % 256 * 256 + n % 256) ≡ n
 four-bytes n h = omega arith
@@ -29,7 +29,7 @@ two-bytes n = omega arith
 -- an 11: the words of its number, its place
 pub refusal-told : (clean : Bool) (place : ℕ) (r : Refusal)
     → explained clean (refusal-found place r) ≡ filled (refusal-found place r) (refused-words (number r))
-unfolding explained refusal-found four shape-of
+unfolding explained refusal-found four shape-of refusal
 refusal-told clean place r = refl
 
 pub refusal-place : (place : ℕ) (r : Refusal) → place < 4294967296 → four-at (refusal-found place r) 1 ≡ place
@@ -38,12 +38,33 @@ refusal-place place r h = four-bytes place h
 
 -- a 1F: the words of its number, its line
 pub stop-told : (clean : Bool) (line : ℕ) (r : Refusal) → explained clean (stop-found line r) ≡ filled (stop-found line r) (stopped-words (number r))
-unfolding explained stop-found four shape-of
+unfolding explained stop-found four shape-of refusal
 stop-told clean line r = refl
 
 pub stop-line : (line : ℕ) (r : Refusal) → line < 4294967296 → four-at (stop-found line r) 1 ≡ line
 unfolding stop-found four four-at two-at
 stop-line line r h = four-bytes line h
+
+-- a limit: the words of its number, the number that was asked for, and who asked
+pub limit-told : (clean : Bool) (place : ℕ) (r : Refusal) (asked at : ℕ) → let f = refusal-found place r ++ (four asked ++ four at) in
+    explained clean f ≡ filled f (limit-words (number r))
+unfolding explained refusal-found four shape-of refusal
+limit-told clean place r asked at = refl
+
+pub stop-limit-told : (clean : Bool) (line : ℕ) (r : Refusal) (asked at : ℕ) → let f = stop-found line r ++ (four asked ++ four at) in
+    explained clean f ≡ filled f (stop-limit-words (number r))
+unfolding explained stop-found four shape-of refusal
+stop-limit-told clean line r asked at = refl
+
+pub limit-asked : (place : ℕ) (r : Refusal) (asked at : ℕ) → asked < 4294967296 → at < 4294967296
+    → (four-at (refusal-found place r ++ (four asked ++ four at)) 6 ≡ asked) × (four-at (refusal-found place r ++ (four asked ++ four at)) 10 ≡ at)
+unfolding refusal-found four four-at two-at
+limit-asked place r asked at h k = (four-bytes asked h, four-bytes at k)
+
+pub stop-asked : (line : ℕ) (r : Refusal) (asked at : ℕ) → asked < 4294967296 → at < 4294967296
+    → (four-at (stop-found line r ++ (four asked ++ four at)) 6 ≡ asked) × (four-at (stop-found line r ++ (four asked ++ four at)) 10 ≡ at)
+unfolding stop-found four four-at two-at
+stop-asked line r asked at h k = (four-bytes asked h, four-bytes at k)
 
 -- a 14 and a 15
 pub term-told : (clean : Bool) (t : ℕ) → (explained clean (term-found t) ≡ filled (term-found t) calls-itself) × (two-at (term-found t) 1 ≡ t)

@@ -31,12 +31,6 @@ self-containing =
     pieces ("Rule # is refused with number 6 (self-containing): its equalities make a value a part of itself, which no page can have, so it never prints " ∷
     "anything. Take out the equality between a site and what lies inside it." ∷ [])
 
-unfoldable pub limit-of-a-rule : List ℕ
-limit-of-a-rule =
-    pieces ("Rule # is refused with number 7 (a limit is passed): its set has 64 kept rules already, or it has more than 32 items, a constraint of more " ∷
-    "than 8 fields, more than 32 constrained or 32 equal sites once it is worked out, or it brings its set above 1,024 sites. The box leaves it " ∷
-    "out, so what it should print stays missing. Make two shorter rules of it, or make room in its set." ∷ [])
-
 unfoldable pub place-used : List ℕ
 place-used =
     pieces ("Rule # is refused with number 8 (place already used): an earlier rule of the same set has place #, and only that one is used. Give this " ∷
@@ -89,12 +83,6 @@ source-unknown =
     pieces ("The sheet stops at line # with number 2 (unknown site): the site on it is made from a site that does not stand before it in its set. " ∷
     "Nothing from there on was checked, so do not load the sheet: put the missing 02 line before it, or correct the number, and check again." ∷ [])
 
-unfoldable pub limit-of-a-sheet : List ℕ
-limit-of-a-sheet =
-    pieces ("The sheet stops at line # with number 7 (a limit is passed): the line makes more than 64 sets, a term above 255, more than 1,024 sites in a " ∷
-    "set or more than 8 sources of a site. Nothing from there on was checked, so do not load the sheet: make the sheet, the set or the site " ∷
-    "smaller, or the term's number lower, and check again." ∷ [])
-
 unfoldable pub repeated : List ℕ
 repeated =
     pieces ("The sheet stops at line # with number 9 (repeated): the site on it stands in its set already, or its term has a set already. Nothing from " ∷
@@ -113,3 +101,54 @@ not-known =
 
 unfoldable pub empty-line : List ℕ
 empty-line = unended "This line is empty, so it is no finding."
+
+-- ---- a limit is passed: the number asked for, the limit, the item or line, and what to do
+unfoldable pub too-many-sites : List ℕ
+too-many-sites =
+    pieces ("Rule # is refused with number 20 (sites): at item !, counted from 0, its set needs & sites, and a set has at most 1,024; where the rule " ∷
+    "has no item !, its equalities need them. The box leaves the rule out, so what it should print stays missing. Split the set." ∷ [])
+
+unfoldable pub too-many-fields : List ℕ
+too-many-fields =
+    pieces ("Rule # is refused with number 22 (fields): its item !, counted from 0, asks for & fields, and a constraint has at most 8. The box leaves " ∷
+    "the rule out, so what it should print stays missing. Ask for fewer fields." ∷ [])
+
+unfoldable pub too-many-rules : List ℕ
+too-many-rules =
+    pieces ("Rule # is refused with number 23 (rules): it would be kept rule & of its set, and a set keeps at most 64. The box leaves the rule out, so " ∷
+    "what it should print stays missing. Split the set, or take a rule out of it." ∷ [])
+
+unfoldable pub too-many-items : List ℕ
+too-many-items =
+    pieces ("Rule # is refused with number 24 (items): it has & items, and a rule has at most 32. The box leaves the rule out, so what it should print " ∷
+    "stays missing. Make two shorter rules of it." ∷ [])
+
+unfoldable pub too-many-constrained : List ℕ
+too-many-constrained =
+    pieces ("Rule # is refused with number 25 (constrained sites): worked out, it has & constrained sites, and a kept rule has at most 32. The box " ∷
+    "leaves the rule out, so what it should print stays missing. Make two shorter rules of it." ∷ [])
+
+unfoldable pub too-many-equal : List ℕ
+too-many-equal =
+    pieces ("Rule # is refused with number 26 (equal sites): worked out, it has & equal sites, and a kept rule has at most 32. The box leaves the rule " ∷
+    "out, so what it should print stays missing. Make two shorter rules of it." ∷ [])
+
+unfoldable pub full-set : List ℕ
+full-set =
+    pieces ("The sheet stops at line # with number 20 (sites): the line needs & sites in its set, and a set has at most 1,024. Nothing from there on " ∷
+    "was checked, so do not load the sheet: split the set and check again." ∷ [])
+
+unfoldable pub too-many-sources : List ℕ
+too-many-sources =
+    pieces ("The sheet stops at line # with number 21 (sources): the site on it has & sources, and a site has at most 8. Nothing from there on was " ∷
+    "checked, so do not load the sheet: make the site of fewer sources and check again." ∷ [])
+
+unfoldable pub too-many-sets : List ℕ
+too-many-sets =
+    pieces ("The sheet stops at line # with number 27 (sets): the line begins set & of the sheet, and a sheet has at most 64. Nothing from there on " ∷
+    "was checked, so do not load the sheet: make two sheets of it and check again." ∷ [])
+
+unfoldable pub term-too-high : List ℕ
+term-too-high =
+    pieces ("The sheet stops at line # with number 28 (term number): the line has term &, and term numbers go to 255. Nothing from there on was " ∷
+    "checked, so do not load the sheet: give the term a lower number and check again." ∷ [])

@@ -1,4 +1,5 @@
-// A finding's frame in, English out: what is wrong, why it matters at the printer, and what to change. The words are in specs/Words.antt.
+// A finding's frame in, English out: what is wrong, why it matters at the printer, and what to change. The words are in specs/Words.antt. Where a limit is
+// passed, eight bytes stand behind the frame: the number that was asked for, and the item or line that asked.
 ghost use mathlib.Core.Path.{_≡_};
 ghost use mathlib.Core.Bool.{Bool};
 ghost use Prim.Native.Nat.{ℕ, _+_, _*_, _≤_, _<_};
@@ -6,9 +7,9 @@ ghost use lib.ListN.{length, getD};
 ghost use Rattle.tell_text.specs.Written.{wrote};
 ghost use Rattle.sheet_findings.specs.Written.{room-said};
 ghost use Rattle.tell_parts.specs.Parts.{filled};
-ghost use Rattle.tell_english.specs.Shapes.{when, listed, shape-of};
+ghost use Rattle.tell_english.specs.Shapes.{when, refusal, listed, shape-of};
 ghost use Rattle.tell_english.specs.Words.{calls-itself, not-known};
-ghost use Rattle.tell_english.specs.Said.{refused-words, stopped-words, ended-words, explained, said, line-end, line-room};
+ghost use Rattle.tell_english.specs.Said.{refused-words, stopped-words, limit-words, stop-limit-words, ended-words, explained, said, line-end, line-room};
 use sheet_findings::Room;
 use tell_parts::byte_at;
 use tell_parts::fill;
@@ -26,6 +27,8 @@ pub enum Shape {
     Stop,
     Empty,
     Unknown,
+    Limit,
+    StopLimit,
 }
 
 fn when(right: bool, s: Shape) -> Shape
@@ -35,6 +38,16 @@ fn when(right: bool, s: Shape) -> Shape
         return s;
     }
     Shape::Unknown
+}
+
+// A refusal's frame; or one with what is told behind it, the number that was asked for and who asked: a limit.
+fn refusal(n: u64, plain: Shape, limit: Shape) -> Shape
+    ensures { λ r. ⌜ r ≡ refusal n plain limit ⌝ }
+{
+    if n == 14 {
+        return limit;
+    }
+    when(n == 6, plain)
 }
 
 // A frame with a list: as long as its count says, with few places or more.
@@ -60,7 +73,7 @@ fn shape_of(f: &[u8]) -> Shape
         return Shape::Empty;
     }
     if kind == 17 {
-        return when(n == 6, Shape::Refused);
+        return refusal(n, Shape::Refused, Shape::Limit);
     }
     if kind == 18 {
         return listed(n, 3, two_at(f, 1), 2, Shape::OverlapTwo, Shape::OverlapMore);
@@ -74,24 +87,14 @@ fn shape_of(f: &[u8]) -> Shape
     if kind == 21 {
         return when(n == 5, Shape::End);
     }
-    when(kind == 31, when(n == 6, Shape::Stop))
+    when(kind == 31, refusal(n, Shape::Stop, Shape::StopLimit))
 }
 
-// The numbers that `put_refused` leaves: a limit, a place already used, and all that have no words.
+// The numbers that `put_refused` leaves: a place already used, and all that have no words.
 fn put_refused_last(f: &[u8], n: u64, out: &mut [u8], at: usize) -> usize
     requires { ⌜ (n ≡ 2 → ⊥) × ((n ≡ 4 → ⊥) × ((n ≡ 5 → ⊥) × (n ≡ 6 → ⊥))) ⌝ }
     ensures { λ r. ⌜ (now (out .exit), r) ≡ wrote (now (out .entry), at) (filled (now (f .entry)) (refused-words n)) ⌝ }
 {
-    if n == 7 {
-        return fill(
-            b"Rule # is refused with number 7 (a limit is passed): its set has 64 kept rules already, or it has more than 32 items, a constraint of \
-              more than 8 fields, more than 32 constrained or 32 equal sites once it is worked out, or it brings its set above 1,024 sites. The box \
-              leaves it out, so what it should print stays missing. Make two shorter rules of it, or make room in its set.",
-            f,
-            out,
-            at,
-        );
-    }
     if n == 8 {
         return fill(
             b"Rule # is refused with number 8 (place already used): an earlier rule of the same set has place #, and only that one is used. Give this \
@@ -179,21 +182,136 @@ fn put_stopped(f: &[u8], out: &mut [u8], at: usize) -> usize
             at,
         );
     }
-    if n == 7 {
-        return fill(
-            b"The sheet stops at line # with number 7 (a limit is passed): the line makes more than 64 sets, a term above 255, more than 1,024 sites in \
-              a set or more than 8 sources of a site. Nothing from there on was checked, so do not load the sheet: make the sheet, the set or the site \
-              smaller, or the term's number lower, and check again.",
-            f,
-            out,
-            at,
-        );
-    }
     if n == 9 {
         return fill(
             b"The sheet stops at line # with number 9 (repeated): the site on it stands in its set already, or its term has a set already. Nothing from \
               there on was checked, so do not load the sheet: take the second site out (those after it then count one lower), or make one set of the \
               two, and check again.",
+            f,
+            out,
+            at,
+        );
+    }
+    fill(
+        b"The sheet stops at line # with number ^, a reason that this program has no words for. Read it with the program that wrote it, and do not load \
+          the sheet.",
+        f,
+        out,
+        at,
+    )
+}
+
+// The limits that `put_limit` leaves: those of one rule alone.
+fn put_limit_last(f: &[u8], n: u64, out: &mut [u8], at: usize) -> usize
+    requires { ⌜ (n ≡ 20 → ⊥) × ((n ≡ 22 → ⊥) × (n ≡ 23 → ⊥)) ⌝ }
+    ensures { λ r. ⌜ (now (out .exit), r) ≡ wrote (now (out .entry), at) (filled (now (f .entry)) (limit-words n)) ⌝ }
+{
+    if n == 24 {
+        return fill(
+            b"Rule # is refused with number 24 (items): it has & items, and a rule has at most 32. The box leaves the rule out, so what it should \
+              print stays missing. Make two shorter rules of it.",
+            f,
+            out,
+            at,
+        );
+    }
+    if n == 25 {
+        return fill(
+            b"Rule # is refused with number 25 (constrained sites): worked out, it has & constrained sites, and a kept rule has at most 32. The box \
+              leaves the rule out, so what it should print stays missing. Make two shorter rules of it.",
+            f,
+            out,
+            at,
+        );
+    }
+    if n == 26 {
+        return fill(
+            b"Rule # is refused with number 26 (equal sites): worked out, it has & equal sites, and a kept rule has at most 32. The box leaves the \
+              rule out, so what it should print stays missing. Make two shorter rules of it.",
+            f,
+            out,
+            at,
+        );
+    }
+    fill(
+        b"Rule # is refused with number ^, a reason that this program has no words for. Read it with the program that wrote it.",
+        f,
+        out,
+        at,
+    )
+}
+
+// A rule that passes a limit: what it asked for, and what to do.
+fn put_limit(f: &[u8], out: &mut [u8], at: usize) -> usize
+    ensures { λ r. ⌜ (now (out .exit), r) ≡ wrote (now (out .entry), at) (filled (now (f .entry)) (limit-words (getD (now (f .entry)) 5 0))) ⌝ }
+{
+    let n = byte_at(f, 5);
+    if n == 20 {
+        return fill(
+            b"Rule # is refused with number 20 (sites): at item !, counted from 0, its set needs & sites, and a set has at most 1,024; where the rule \
+              has no item !, its equalities need them. The box leaves the rule out, so what it should print stays missing. Split the set.",
+            f,
+            out,
+            at,
+        );
+    }
+    if n == 22 {
+        return fill(
+            b"Rule # is refused with number 22 (fields): its item !, counted from 0, asks for & fields, and a constraint has at most 8. The box \
+              leaves the rule out, so what it should print stays missing. Ask for fewer fields.",
+            f,
+            out,
+            at,
+        );
+    }
+    if n == 23 {
+        return fill(
+            b"Rule # is refused with number 23 (rules): it would be kept rule & of its set, and a set keeps at most 64. The box leaves the rule out, \
+              so what it should print stays missing. Split the set, or take a rule out of it.",
+            f,
+            out,
+            at,
+        );
+    }
+    put_limit_last(f, n, out, at)
+}
+
+// A line that passes a limit, so that the sheet stops.
+fn put_stop_limit(f: &[u8], out: &mut [u8], at: usize) -> usize
+    ensures { λ r. ⌜ (now (out .exit), r) ≡ wrote (now (out .entry), at) (filled (now (f .entry)) (stop-limit-words (getD (now (f .entry)) 5 0))) ⌝ }
+{
+    let n = byte_at(f, 5);
+    if n == 20 {
+        return fill(
+            b"The sheet stops at line # with number 20 (sites): the line needs & sites in its set, and a set has at most 1,024. Nothing from there on \
+              was checked, so do not load the sheet: split the set and check again.",
+            f,
+            out,
+            at,
+        );
+    }
+    if n == 21 {
+        return fill(
+            b"The sheet stops at line # with number 21 (sources): the site on it has & sources, and a site has at most 8. Nothing from there on was \
+              checked, so do not load the sheet: make the site of fewer sources and check again.",
+            f,
+            out,
+            at,
+        );
+    }
+    if n == 27 {
+        return fill(
+            b"The sheet stops at line # with number 27 (sets): the line begins set & of the sheet, and a sheet has at most 64. Nothing from there on \
+              was checked, so do not load the sheet: make two sheets of it and check again.",
+            f,
+            out,
+            at,
+        );
+    }
+    if n == 28 {
+        return fill(
+            b"The sheet stops at line # with number 28 (term number): the line has term &, and term numbers go to 255. Nothing from there on was \
+              checked, so do not load the sheet: give the term a lower number and check again.",
             f,
             out,
             at,
@@ -294,6 +412,8 @@ fn put_explained(f: &[u8], clean: bool, out: &mut [u8], at: usize) -> usize
         Shape::Stop => put_stopped(f, out, at),
         Shape::Empty => fill(b"This line is empty, so it is no finding.", f, out, at),
         Shape::Unknown => put_unknown(f, out, at),
+        Shape::Limit => put_limit(f, out, at),
+        Shape::StopLimit => put_stop_limit(f, out, at),
     }
 }
 

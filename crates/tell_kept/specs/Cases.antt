@@ -26,7 +26,7 @@ a-refused-rule : refused-line 50 0 (Unreachable 1 0) ≡ text "rule 00000032 000
 unfolding all-listed
 a-refused-rule = refl
 
-one-too-many : refused-line 1 18446744073709551615 (TooManyRules 65) ≡ text "rule 00000001 FFFFFFFFFFFFFFFF refused 7"
+one-too-many : refused-line 1 18446744073709551615 (TooManyRules 65) ≡ text "rule 00000001 FFFFFFFFFFFFFFFF refused 23 65"
 unfolding all-listed
 one-too-many = refl
 

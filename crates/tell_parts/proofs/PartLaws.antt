@@ -126,9 +126,17 @@ pub is-kind : (f : List ℕ) (b n : ℕ) → b ≡ 126 → n ≡ getD f 0 0 → 
 unfolding part
 is-kind f b n e g = rw (e, g)
 
-pub is-itself : (f : List ℕ) (b : ℕ) → (b ≡ 35 → ⊥) → (b ≡ 37 → ⊥) → (b ≡ 42 → ⊥) → (b ≡ 64 → ⊥) → (b ≡ 36 → ⊥) → (b ≡ 123 → ⊥) → (b ≡ 125 → ⊥) → (b ≡ 94 → ⊥) → (b ≡ 126 → ⊥) → b ∷ [] ≡ part f b
+pub is-asked : (f : List ℕ) (b n : ℕ) → b ≡ 38 → n ≡ four-at f 6 → decimal n ≡ part f b
 unfolding part
-is-itself f b h1 h2 h3 h4 h5 h6 h7 h8 h9 = rw (ne-eqb b 35 h1, ne-eqb b 37 h2, ne-eqb b 42 h3, ne-eqb b 64 h4, ne-eqb b 36 h5, ne-eqb b 123 h6, ne-eqb b 125 h7, ne-eqb b 94 h8, ne-eqb b 126 h9)
+is-asked f b n e g = rw (e, g)
+
+pub is-asker : (f : List ℕ) (b n : ℕ) → b ≡ 33 → n ≡ four-at f 10 → decimal n ≡ part f b
+unfolding part
+is-asker f b n e g = rw (e, g)
+
+pub is-itself : (f : List ℕ) (b : ℕ) → (b ≡ 35 → ⊥) → (b ≡ 37 → ⊥) → (b ≡ 42 → ⊥) → (b ≡ 64 → ⊥) → (b ≡ 36 → ⊥) → (b ≡ 123 → ⊥) → (b ≡ 125 → ⊥) → (b ≡ 94 → ⊥) → (b ≡ 126 → ⊥) → (b ≡ 38 → ⊥) → (b ≡ 33 → ⊥) → b ∷ [] ≡ part f b
+unfolding part
+is-itself f b h1 h2 h3 h4 h5 h6 h7 h8 h9 h10 h11 = rw (ne-eqb b 35 h1, ne-eqb b 37 h2, ne-eqb b 42 h3, ne-eqb b 64 h4, ne-eqb b 36 h5, ne-eqb b 123 h6, ne-eqb b 125 h7, ne-eqb b 94 h8, ne-eqb b 126 h9, ne-eqb b 38 h10, ne-eqb b 33 h11)
 
 -- ---- the words: what is left of them
 pub part-turn : (p q r : Room) (f words : List ℕ) (i : ℕ) → i < length words → wrote q (filled f (drop i words)) ≡ wrote p (filled f words) → r ≡ wrote q (part f (getD words i 0)) → wrote r (filled f (drop (i + 1) words)) ≡ wrote p (filled f words)

@@ -4,6 +4,7 @@
 --     @ the number of two bytes after the kind     $ the number of two bytes after that
 --     { an s, but where @ is 1                     } an s, but where $ is 1
 --     ^ the number of a refusal                    ~ the first byte
+--     & the number that was asked for              ! the item or the line that asked: four bytes each, behind those of a refusal
 use mathlib.Core.Bool.{Bool, true, false}
 use mathlib.Core.List.{List, [], _∷_, _++_}
 use Prim.Native.Nat.{ℕ, zero, suc, _+_, _-_, _*_, _/_}
@@ -35,7 +36,7 @@ places f = decimal (four-at f 7) ++ rest f 11 ((length f - 11) / 4)
 unfoldable pub plural : ℕ → List ℕ
 plural n = if eqb n 1 then [] else unended "s"
 
--- what a byte of the words stands for: # % * @ $ { } ^ ~
+-- what a byte of the words stands for: # % * @ $ { } ^ ~ & !
 unfoldable pub part : List ℕ → ℕ → List ℕ
 part f b =
     if eqb b 35 then decimal (four-at f 1) else
@@ -46,7 +47,9 @@ part f b =
     (if eqb b 123 then plural (two-at f 1) else
     (if eqb b 125 then plural (two-at f 3) else
     (if eqb b 94 then decimal (getD f 5 0) else
-    (if eqb b 126 then decimal (getD f 0 0) else b ∷ []))))))))
+    (if eqb b 126 then decimal (getD f 0 0) else
+    (if eqb b 38 then decimal (four-at f 6) else
+    (if eqb b 33 then decimal (four-at f 10) else b ∷ []))))))))))
 
 unfoldable pub filled : List ℕ → List ℕ → List ℕ
 filled f [] = []

@@ -124,6 +124,12 @@ fn put_part(b: u8, f: &[u8], out: &mut [u8], at: usize) -> usize
     if b == b'~' {
         return put_decimal(out, at, byte_at(f, 0));
     }
+    if b == b'&' {
+        return put_decimal(out, at, four_at(f, 6));
+    }
+    if b == b'!' {
+        return put_decimal(out, at, four_at(f, 10));
+    }
     put(out, at, b)
 }
 

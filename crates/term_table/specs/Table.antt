@@ -60,7 +60,7 @@ numbers = below terms (λ a. a)
 unfoldable pub edges-in : Square → Edges
 edges-in t = joined (below terms (λ a. map (λ b. (a, b)) (keep (marked t a) numbers)))
 
--- "term numbers to 255", else 7
+-- "term numbers to 255", else 28
 unfoldable pub if-term : {A : Type 0} → ℕ → Outcome A → Outcome A
 if-term a o = demand (leb a max-term) (TermTooHigh a) >>= (λ _. o)
 

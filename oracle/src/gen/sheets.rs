@@ -162,7 +162,7 @@ impl Draft {
         if let Item::Is(site, c) = &item {
             if *site < self.sites.0.len() && c.fields() <= 8 && !self.shapes.contains_key(site) {
                 self.shapes.insert(*site, c.clone());
-                let _ = self.sites.add_children(*site, c);
+                let _ = self.sites.add_children(*site, c, 0);
             }
         }
         self.items.push(item);

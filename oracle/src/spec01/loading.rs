@@ -77,7 +77,8 @@ pub struct Loading {
 }
 
 impl Loading {
-    fn item(&mut self, item: &Item) -> Result<(), Refusal> {
+    /// The item that is number `at`, counted from 0.
+    fn item(&mut self, item: &Item, at: usize) -> Result<(), Refusal> {
         let known = self.sites.0.len();
         match item {
             Item::Is(site, constraint) => {
@@ -85,13 +86,13 @@ impl Loading {
                     return refuse(2, &[*site]);
                 }
                 if constraint.too_many_fields() {
-                    return refuse(7, &[]);
+                    return refuse(22, &[constraint.fields() as usize, at]);
                 }
                 match self.constraints.get(site) {
                     Some(other) if other != constraint => return refuse(4, &[*site, *site]),
                     Some(_) => {}
                     None => {
-                        self.sites.add_children(*site, constraint)?;
+                        self.sites.add_children(*site, constraint, at)?;
                         self.constraints.insert(*site, constraint.clone());
                     }
                 }
@@ -206,14 +207,17 @@ impl Set {
     }
 
     fn checked(&self, rule: &Rule, loading: &mut Loading) -> Result<Kept, Refusal> {
-        if self.kept.len() >= RULES || rule.items.len() > ITEMS {
-            return refuse(7, &[]);
+        if self.kept.len() >= RULES {
+            return refuse(23, &[self.kept.len() + 1]);
+        }
+        if rule.items.len() > ITEMS {
+            return refuse(24, &[rule.items.len()]);
         }
         if self.kept.iter().any(|kept| kept.place == rule.place) {
             return refuse(8, &[rule.place as usize]);
         }
-        for item in &rule.items {
-            loading.item(item)?;
+        for (at, item) in rule.items.iter().enumerate() {
+            loading.item(item, at)?;
         }
         if let Some(&site) = loading.named.iter().find(|&&site| loading.hangs(site)) {
             return refuse(5, &[site]);
@@ -245,7 +249,8 @@ fn check_classes(loading: &Loading) -> Result<(), Refusal> {
     }
 }
 
-/// "Then rounds, over the written equalities joined in item order .. Last, 7 if the result passes a number."
+/// "Then rounds, over the written equalities joined in item order .. Last, 25 for the constrained sites, 26 for the
+/// equal ones." In the rounds the item count is told.
 fn rounds(loading: &mut Loading, rule: &Rule) -> Result<Kept, Refusal> {
     let mut constraints = loading.constraints.clone();
     let mut classes = loading.written();
@@ -260,7 +265,7 @@ fn rounds(loading: &mut Loading, rule: &Rule) -> Result<Kept, Refusal> {
         let mut children = Vec::new();
         for &member in &class {
             constraints.insert(member, constraint.clone());
-            children.push(loading.sites.add_children(member, &constraint)?);
+            children.push(loading.sites.add_children(member, &constraint, rule.items.len())?);
         }
         // "join each child of the lowest member with the others' like-numbered children"
         for others in &children[1..] {
@@ -269,8 +274,11 @@ fn rounds(loading: &mut Loading, rule: &Rule) -> Result<Kept, Refusal> {
             }
         }
     }
-    if constraints.len() > CONSTRAINED || classes.members() > EQUAL {
-        return refuse(7, &[]);
+    if constraints.len() > CONSTRAINED {
+        return refuse(25, &[constraints.len()]);
+    }
+    if classes.members() > EQUAL {
+        return refuse(26, &[classes.members()]);
     }
     Ok(Kept { place: rule.place, priority: rule.priority, constraints, classes })
 }

@@ -76,8 +76,11 @@ impl Reader {
         if self.flags.contains_key(&term) {
             return Err(9);
         }
-        if term as usize >= TERMS || self.flags.len() >= SETS {
-            return Err(7);
+        if self.flags.len() >= SETS {
+            return Err(27);
+        }
+        if term as usize >= TERMS {
+            return Err(28);
         }
         self.flags.insert(term, flags);
         self.open = Some(Set { term, flags, ..Set::default() });
@@ -95,7 +98,8 @@ impl Reader {
         if set.sites.number(&site).is_some() {
             return Err(9);
         }
-        set.sites.add(site.clone()).map_err(|refusal| refusal.number)?;
+        // a 1F shows the number alone, so the line need not be told
+        set.sites.add(site.clone(), 0).map_err(|refusal| refusal.number)?;
         if let Some(term) = site.term() {
             self.edges.insert((set.term as usize, term as usize));
         }

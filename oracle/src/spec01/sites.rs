@@ -302,28 +302,31 @@ impl Table {
         self.0.iter().position(|s| s == site)
     }
 
-    /// "Adding a site: 2, then 7 for sources or term; one already present gives its number, else it gets the next
-    /// (7 if none is left)."
-    pub fn add(&mut self, site: Site) -> Result<usize, Refusal> {
+    /// "Adding a site: 2, then 21 for sources and 28 for the term; one already present gives its number, else it gets
+    /// the next (20 if none is left)." `at` is the item or the line that asks.
+    pub fn add(&mut self, site: Site, at: usize) -> Result<usize, Refusal> {
         if let Some(&unknown) = site.sources().iter().find(|&&s| s >= self.0.len()) {
             return refuse(2, &[unknown]);
         }
-        if site.sources().len() > SOURCES || site.term().is_some_and(|t| t as usize >= TERMS) {
-            return refuse(7, &[]);
+        if site.sources().len() > SOURCES {
+            return refuse(21, &[site.sources().len(), at]);
+        }
+        if let Some(term) = site.term().filter(|&t| t as usize >= TERMS) {
+            return refuse(28, &[term as usize]);
         }
         if let Some(number) = self.number(&site) {
             return Ok(number);
         }
         if self.0.len() >= SITES {
-            return refuse(7, &[]);
+            return refuse(20, &[self.0.len() + 1, at]);
         }
         self.0.push(site);
         Ok(self.0.len() - 1)
     }
 
     /// Adds the children of a constrained site; their numbers, by field.
-    pub fn add_children(&mut self, site: usize, constraint: &Constraint) -> Result<Vec<usize>, Refusal> {
-        constraint.children(site).into_iter().map(|child| self.add(child)).collect()
+    pub fn add_children(&mut self, site: usize, constraint: &Constraint, at: usize) -> Result<Vec<usize>, Refusal> {
+        constraint.children(site).into_iter().map(|child| self.add(child, at)).collect()
     }
 
     /// The numbers of children that are there.

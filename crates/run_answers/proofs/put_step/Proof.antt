@@ -7,7 +7,7 @@ returns : tie.Need-returns
 returns c = check-put _ _ _ _ _ _ _ _ _ (c .before .before .before .before .enum-told .given .1) (c .before .before .put-text .ensures)
 
 returns-2 : tie.Need-returns-2
-returns-2 c = explain-put _ _ _ _ _ _ _ _ _ (c .before .before .before .before .enum-told2 .given .1) (c .before .before .put-all-explained .ensures)
+returns-2 c = explain-put _ _ _ _ _ _ _ _ _ (c .before .before .before .before .enum-told2 .given .1) (c .before .before .put-line-explained .ensures)
 
 returns-3 : tie.Need-returns-3
 returns-3 c = show-put _ _ _ _ _ _ _ _ _ (c .before .before .before .before .enum-told3 .given .1) (c .before .before .put-event .ensures)

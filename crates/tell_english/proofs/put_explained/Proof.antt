@@ -1,7 +1,7 @@
 use mathlib.Core.Path.{refl}
 use Rattle.tell_english.specs.Words.{overlap-two, overlap-more, mask-one, mask-more, empty-line}
 use Rattle.tell_english.proofs.LineLaws.{shape-words}
-use Rattle.tell_english.specs.declared.Shape.the-variants.{Refused, OverlapTwo, OverlapMore, MaskOne, MaskMore, Term, End, Stop, Empty, Unknown}
+use Rattle.tell_english.specs.declared.Shape.the-variants.{Refused, OverlapTwo, OverlapMore, MaskOne, MaskMore, Term, End, Stop, Empty, Unknown, Limit, StopLimit}
 use borrow.Author.Needs.{needs}
 use Rattle.tell_english.proofs.put_explained.Statement.{statement}
 use Rattle.tell_english.proofs.put_explained.Tie as tie
@@ -41,6 +41,12 @@ returns-9 c = shape-words _ _ _ _ Empty _ (c .before .before .before .before .be
 returns-10 : tie.Need-returns-10
 returns-10 c = shape-words _ _ _ _ Unknown _ (c .before .before .before .before .before .before .shape-of .ensures) (c .before .before .before .before .enum-told10 .given .1) (c .before .before .put-unknown .ensures)
 
+returns-11 : tie.Need-returns-11
+returns-11 c = shape-words _ _ _ _ Limit _ (c .before .before .before .before .before .before .shape-of .ensures) (c .before .before .before .before .enum-told11 .given .1) (c .before .before .put-limit .ensures)
+
+returns-12 : tie.Need-returns-12
+returns-12 c = shape-words _ _ _ _ StopLimit _ (c .before .before .before .before .before .before .shape-of .ensures) (c .before .before .before .before .enum-told12 .given .1) (c .before .before .put-stop-limit .ensures)
+
 pub put-explained-spec : {M : Type 1} → statement M
 put-explained-spec =
     tie.close
@@ -72,6 +78,10 @@ put-explained-spec =
     (λ c. search needs)
     (λ c κs. tt)
     (λ c. search needs)
+    (λ c κs. tt)
+    (λ c. search needs)
+    (λ c κs. tt)
+    (λ c. search needs)
     returns
     (λ c. search needs)
     returns-2
@@ -90,4 +100,8 @@ put-explained-spec =
     (λ c. search needs)
     returns-9
     (λ c. search needs)
-    returns-10)
+    returns-10
+    (λ c. search needs)
+    returns-11
+    (λ c. search needs)
+    returns-12)

@@ -1,22 +1,18 @@
 use mathlib.Core.Path.{refl}
-use Rattle.tell_english.specs.Words.{limit-of-a-rule, place-used, other-refusal}
-use Rattle.tell_english.proofs.LineLaws.{words-of, refused-7, refused-8, refused-other}
+use Rattle.tell_english.specs.Words.{place-used, other-refusal}
+use Rattle.tell_english.proofs.LineLaws.{words-of, refused-8, refused-other}
 use Rattle.tell_english.specs.Said.{refused-words}
 use borrow.Author.Needs.{needs}
 use Rattle.tell_english.proofs.put_refused_last.Statement.{statement}
 use Rattle.tell_english.proofs.put_refused_last.Tie as tie
 
 returns : tie.Need-returns
-unfolding limit-of-a-rule
-returns c = words-of _ _ _ refused-words limit-of-a-rule _ _ refl (refused-7 _ (c .before .before .before .before .before .if1 .taken)) (c .before .before .fill .ensures)
+unfolding place-used
+returns c = words-of _ _ _ refused-words place-used _ _ refl (refused-8 _ (c .before .before .before .before .before .if1 .taken)) (c .before .before .fill .ensures)
 
 returns-2 : tie.Need-returns-2
-unfolding place-used
-returns-2 c = words-of _ _ _ refused-words place-used _ _ refl (refused-8 _ (c .before .before .before .before .before .if2 .taken)) (c .before .before .fill2 .ensures)
-
-returns-3 : tie.Need-returns-3
 unfolding other-refusal
-returns-3 c = words-of _ _ _ refused-words other-refusal _ _ refl (refused-other _ (c .before .before .before .before .before .before .before .before .before .pre .0) (c .before .before .before .before .before .before .before .before .before .pre .1 .0) (c .before .before .before .before .before .before .before .before .before .pre .1 .1 .0) (c .before .before .before .before .before .before .before .before .before .pre .1 .1 .1) (c .before .before .before .before .before .before .if1 .left) (c .before .before .before .before .before .if2 .left)) (c .before .before .fill3 .ensures)
+returns-2 c = words-of _ _ _ refused-words other-refusal _ _ refl (refused-other _ (c .before .before .before .before .before .before .before .before .pre .0) (c .before .before .before .before .before .before .before .before .pre .1 .0) (c .before .before .before .before .before .before .before .before .pre .1 .1 .0) (c .before .before .before .before .before .before .before .before .pre .1 .1 .1) (c .before .before .before .before .before .if1 .left)) (c .before .before .fill2 .ensures)
 
 pub put-refused-last-spec : {M : Type 1} → statement M
 put-refused-last-spec =
@@ -29,8 +25,4 @@ put-refused-last-spec =
     (λ c. refl)
     (λ c κs. tt)
     (λ c. search needs)
-    returns-2
-    (λ c. refl)
-    (λ c κs. tt)
-    (λ c. search needs)
-    returns-3)
+    returns-2)

@@ -1,4 +1,4 @@
-use Rattle.tell_parts.proofs.PartLaws.{instead, is-four, is-first, is-places, is-two, is-second, is-plural, is-second-plural, is-number, is-kind, is-itself}
+use Rattle.tell_parts.proofs.PartLaws.{instead, is-four, is-first, is-places, is-two, is-second, is-plural, is-second-plural, is-number, is-kind, is-asked, is-asker, is-itself}
 use borrow.Author.Needs.{needs}
 use Rattle.tell_parts.proofs.put_part.Statement.{statement}
 use Rattle.tell_parts.proofs.put_part.Tie as tie
@@ -31,7 +31,13 @@ returns-9 : tie.Need-returns-9
 returns-9 c = instead _ _ _ _ (is-kind _ _ _ (c .before .before .before .before .before .if9 .taken) (c .before .before .before .byte-at2 .ensures .0)) (c .before .before .put-decimal6 .ensures)
 
 returns-10 : tie.Need-returns-10
-returns-10 c = instead _ _ _ _ (is-itself _ _ (c .before .before .before .before .before .before .before .before .before .before .before .before .if1 .left) (c .before .before .before .before .before .before .before .before .before .before .before .if2 .left) (c .before .before .before .before .before .before .before .before .before .before .if3 .left) (c .before .before .before .before .before .before .before .before .before .if4 .left) (c .before .before .before .before .before .before .before .before .if5 .left) (c .before .before .before .before .before .before .before .if6 .left) (c .before .before .before .before .before .before .if7 .left) (c .before .before .before .before .before .if8 .left) (c .before .before .before .before .if9 .left)) (c .before .before .put .ensures)
+returns-10 c = instead _ _ _ _ (is-asked _ _ _ (c .before .before .before .before .before .if10 .taken) (c .before .before .before .four-at3 .ensures .0)) (c .before .before .put-decimal7 .ensures)
+
+returns-11 : tie.Need-returns-11
+returns-11 c = instead _ _ _ _ (is-asker _ _ _ (c .before .before .before .before .before .if11 .taken) (c .before .before .before .four-at4 .ensures .0)) (c .before .before .put-decimal8 .ensures)
+
+returns-12 : tie.Need-returns-12
+returns-12 c = instead _ _ _ _ (is-itself _ _ (c .before .before .before .before .before .before .before .before .before .before .before .before .before .before .if1 .left) (c .before .before .before .before .before .before .before .before .before .before .before .before .before .if2 .left) (c .before .before .before .before .before .before .before .before .before .before .before .before .if3 .left) (c .before .before .before .before .before .before .before .before .before .before .before .if4 .left) (c .before .before .before .before .before .before .before .before .before .before .if5 .left) (c .before .before .before .before .before .before .before .before .before .if6 .left) (c .before .before .before .before .before .before .before .before .if7 .left) (c .before .before .before .before .before .before .before .if8 .left) (c .before .before .before .before .before .before .if9 .left) (c .before .before .before .before .before .if10 .left) (c .before .before .before .before .if11 .left)) (c .before .before .put .ensures)
 
 pub put-part-spec : {M : Type 1} → statement M
 put-part-spec =
@@ -72,6 +78,14 @@ put-part-spec =
     (λ c κs. tt)
     (λ c. search needs)
     returns-9
+    (λ c κs. search needs)
     (λ c κs. tt)
     (λ c. search needs)
-    returns-10)
+    returns-10
+    (λ c κs. search needs)
+    (λ c κs. tt)
+    (λ c. search needs)
+    returns-11
+    (λ c κs. tt)
+    (λ c. search needs)
+    returns-12)

@@ -1,0 +1,4 @@
+pub mod Before
+pub mod Renumbered
+pub mod Old
+pub mod Told
