@@ -9,7 +9,7 @@ use lib.Dec.{eqb, leb}
 use Rattle.paper.specs.declared.Refusal.{Refusal}
 use Rattle.paper.specs.declared.Refusal.the-variants.{Layout, Unknown, Itself, Unreachable, Hanging, Endless, TooManySites, TooManySources, TooManyFields, TooManyRules, TooManyItems, TooManyConstrained, TooManyEqual, TooManySets, TermTooHigh, UnfoldingTooLong, PlaceUsed, Repeated}
 use Rattle.paper.specs.Words.{if_then_else_, joined, two, four}
-use Rattle.paper.specs.Numbers.{number, told}
+use Rattle.paper.specs.Numbers.{number, told, Outcome, done, refused}
 use Rattle.paper.specs.Rules.{Listed, overlap, mask}
 use Rattle.paper.specs.Layout.{Lines, lines, hex}
 use Rattle.paper.specs.Sheets.{Ended, Reader, start, refusal-found, listed-found, term-found, end-found, stop-found, read-on, findings}
@@ -37,6 +37,20 @@ old-is (TermTooHigh asked) = refl
 old-is (UnfoldingTooLong asked) = refl
 old-is (PlaceUsed place) = refl
 old-is (Repeated line) = refl
+
+-- and so of every call: 0 and the answer, or a refusal. "the memory afterwards is the same": an outcome's memory does not speak of numbers.
+abbrev pub answered : {A : Type 0} → (A → List ℕ) → Outcome A → ℕ × List ℕ
+answered f (done a) = (0, f a)
+answered f (refused r) = (number r, told r)
+
+abbrev pub answered-before : {A : Type 0} → (A → List ℕ) → Outcome A → ℕ × List ℕ
+answered-before f (done a) = (0, f a)
+answered-before f (refused r) = (number-before r, told-before r)
+
+pub call-old : {A : Type 0} (f : A → List ℕ) (o : Outcome A) → old (answered f o) ≡ answered-before f o
+unfolding old
+call-old f (done a) = refl
+call-old f (refused r) = old-is r
 
 -- "No answer is 7."
 pub never-7 : (r : Refusal) → number r ≡ 7 → ⊥

@@ -295,3 +295,111 @@ rounds-tell (suc n) at s = go (take-class (s .classes) (s .constraints) (s .clas
     go : (o : Option (ℕ × Constraint)) → ((z : Solving) → Told-by at (rounds n at z)) → Told-by {A = Solving} at (elim o [ none ↦ done s | some p ↦ round s at (p .0) (p .1) >>= rounds n at ])
     go none h = tt
     go (some p) h = told-bind at (round s at (p .0) (p .1)) (rounds n at) (round-tells s at (p .0) (p .1)) h
+
+-- ---- "in 25 and 26 it is how many the rounds of 01 end with"
+
+abbrev pub Counts : Loading → ℕ → Refusal → Type 0
+Counts l n (Layout line) = Unit {0}
+Counts l n (Unknown site) = Unit {0}
+Counts l n (Itself site) = Unit {0}
+Counts l n (Unreachable site other) = Unit {0}
+Counts l n (Hanging site) = Unit {0}
+Counts l n (Endless site) = Unit {0}
+Counts l n (TooManySites asked at) = Unit {0}
+Counts l n (TooManySources asked at) = Unit {0}
+Counts l n (TooManyFields asked at) = Unit {0}
+Counts l n (TooManyRules asked) = Unit {0}
+Counts l n (TooManyItems asked) = Unit {0}
+Counts l n (TooManyConstrained asked) = (s : Solving) × (rounds most-rounds n (started l) ≡ done s) × (asked ≡ length (s .constraints))
+Counts l n (TooManyEqual asked) = (s : Solving) × (rounds most-rounds n (started l) ≡ done s) × (asked ≡ length (s .classes))
+Counts l n (TooManySets asked) = Unit {0}
+Counts l n (TermTooHigh asked) = Unit {0}
+Counts l n (UnfoldingTooLong asked) = Unit {0}
+Counts l n (PlaceUsed place) = Unit {0}
+Counts l n (Repeated line) = Unit {0}
+
+abbrev Counted : {A : Type 0} → Loading → ℕ → Outcome A → Type 0
+Counted l n (done a) = Unit {0}
+Counted l n (refused x) = Counts l n x
+
+-- the rounds refuse with what adding a site refuses: neither 25 nor 26
+module _ (l : Loading) (n : ℕ) where
+  count-demand : {A : Type 0} (b : Bool) (r : Refusal) (f : Unit {0} → Outcome A) → Counts l n r → Counted l n (f tt) → Counted l n (demand b r >>= f)
+  count-demand true r f h k = k
+  count-demand false r f h k = h
+
+  count-bind : {A B : Type 0} (o : Outcome A) (f : A → Outcome B) → Counted l n o → ((a : A) → o ≡ done a → Counted l n (f a)) → Counted l n (o >>= f)
+  count-bind (done a) f h k = k a refl
+  count-bind (refused x) f h k = h
+
+  count-missing : (o : Option ℕ) → Counted l n (missing-source o)
+  count-missing none = tt
+  count-missing (some m) = tt
+
+  count-term : (o : Option ℕ) → Counted l n (term-fits o)
+  count-term none = tt
+  count-term (some t) = go (leb t max-term)
+    where
+      go : (b : Bool) → Counted l n (demand b (TermTooHigh t))
+      go true = tt
+      go false = tt
+
+  count-next : (t : Sites) (at : ℕ) (s : Site) (o : Option ℕ) → Counted l n (or-next t at s o)
+  count-next t at s (some m) = tt
+  count-next t at s none = count-demand (ltb (length t) max-sites) (TooManySites (suc (length t)) at) _ tt tt
+
+  count-add : (t : Sites) (at : ℕ) (s : Site) → Counted l n (add t at s)
+  unfolding add
+  count-add t at s =
+      count-bind (missing-source (first (λ m. not (known t m)) (sources s))) _ (count-missing (first (λ m. not (known t m)) (sources s))) (λ _ _.
+      count-demand (leb (length (sources s)) max-sources) (TooManySources (length (sources s)) at) _ tt
+      (count-bind (term-fits (term-of s)) _ (count-term (term-of s)) (λ _ _. count-next t at s (number-of t s))))
+
+  count-all : (t : Sites) (at : ℕ) (ss : List Site) → Counted l n (add-all t at ss)
+  unfolding add-all
+  count-all t at [] = tt
+  count-all t at (s ∷ rest) = count-bind (add t at s) _ (count-add t at s) (λ a _. count-all (a .sites) at rest)
+
+  count-grow : (t : Sites) (at : ℕ) (ns : List ℕ) (c : Constraint) → Counted l n (grow-all t at ns c)
+  unfolding grow-all
+  count-grow t at [] c = tt
+  count-grow t at (m ∷ ns) c = count-bind (add-all t at (children m c)) _ (count-all t at (children m c)) (λ t′ _. count-grow t′ at ns c)
+
+  count-round : (s : Solving) (at low : ℕ) (c : Constraint) → Counted l n (round s at low c)
+  unfolding round
+  count-round s at low c = count-bind (grow-all (s .sites) at (members (s .classes) low) c) _ (count-grow (s .sites) at (members (s .classes) low) c) (λ t _. tt)
+
+  count-rounds : (k at : ℕ) (s : Solving) → Counted l n (rounds k at s)
+  unfolding rounds
+  count-rounds zero at s = tt
+  count-rounds (suc k) at s = go (take-class (s .classes) (s .constraints) (s .classes)) (count-rounds k at)
+    where
+      go : (o : Option (ℕ × Constraint)) → ((z : Solving) → Counted l n (rounds k at z)) → Counted {A = Solving} l n (elim o [ none ↦ done s | some p ↦ round s at (p .0) (p .1) >>= rounds k at ])
+      go none h = tt
+      go (some p) h = count-bind (round s at (p .0) (p .1)) (rounds k at) (count-round s at (p .0) (p .1)) (λ z _. h z)
+
+  count-hanging : (o : Option ℕ) → Counted l n (no-hanging o)
+  count-hanging none = tt
+  count-hanging (some m) = tt
+
+  count-endless : (o : Option ℕ) → Counted l n (no-endless o)
+  count-endless none = tt
+  count-endless (some m) = tt
+
+  count-4 : (k : Labels) (hs : List Holder) (o : Option Holder) → Counted l n (check-4 k hs o)
+  count-4 k hs none = tt
+  count-4 k hs (some h) = go (first-holder k hs (lowest k (h .site)))
+    where
+      go : (o : Option Holder) → Counted l n (told-4 (h .site) o)
+      go none = tt
+      go (some g) = tt
+
+  pub rounds-counted : Counted l n (normalise l n)
+  unfolding normalise
+  rounds-counted =
+      count-bind (no-hanging (hanging l)) _ (count-hanging (hanging l)) (λ _ _.
+      count-bind (check-4 (closure l) (holders l) (conflict (closure l) (holders l))) _ (count-4 (closure l) (holders l) (conflict (closure l) (holders l))) (λ _ _.
+      count-bind (no-endless (endless (steps (closure l) (holders l)))) _ (count-endless (endless (steps (closure l) (holders l)))) (λ _ _.
+      count-bind (rounds most-rounds n (started l)) _ (count-rounds most-rounds n (started l)) (λ s e.
+      count-demand (leb (length (s .constraints)) max-constrained) (TooManyConstrained (length (s .constraints))) _ (s, e, refl)
+      (count-demand (leb (length (s .classes)) max-equal) (TooManyEqual (length (s .classes))) _ (s, e, refl) tt)))))
