@@ -118,7 +118,7 @@ void lintel_classes_clear(uint16_t parents[LINTEL_PART(LINTEL_SITES)], uint8_t r
  * Changes nothing else. */
 uint32_t lintel_find(const uint16_t parents[LINTEL_PART(LINTEL_SITES)], uint16_t site, uint64_t *answer, size_t answer_length);
 
-/* answer: the representative, or LINTEL_NONE. In `parents` each site passed on the way goes under its parent's parent. */
+/* answer: the representative, or LINTEL_NONE. In `parents` every site passed on the way goes directly under the representative. */
 uint32_t lintel_find_mut(uint16_t parents[LINTEL_PART(LINTEL_SITES)], uint16_t site, uint64_t *answer, size_t answer_length);
 
 /* Joins the classes of two sites. answer: 1 where they were two, else 0. 3 where they are one site. */

@@ -179,9 +179,10 @@ impl Tally {
         if ours.lines().count() != rust.lines().count() {
             return self.differ(format!("answers\n{script}---- ours\n{ours}---- the Rust\n{rust}"));
         }
-        for (call, (a, b)) in script.lines().zip(ours.lines().zip(rust.lines())) {
-            let verb = call.split(' ').next().unwrap_or("");
-            match b.strip_suffix('?') {
+        let mut before = classes::Classes::default();
+        for (line, (a, b)) in script.lines().zip(ours.lines().zip(rust.lines())) {
+            let call = classes::Call::read(line);
+            match call {
                 _ if a == "bad" || b.starts_with("bad") => self.count("lines that are no call", 1),
                 _ if b.starts_with("refused 3") && a == b => {
                     self.left_out("A site joined with itself", "the Rust panics".to_string())
@@ -189,17 +190,29 @@ impl Tally {
                 _ if b.starts_with("refused 2") && a == b => {
                     self.left_out("Unknown sites", "the Rust's items have no bound".to_string())
                 }
-                Some(site) if a.starts_with(site) => {
-                    self.left_out("Links after a removal", "links vary with hash order".to_string())
-                }
-                None if a == b => {
-                    self.count(if verb == "merge" { "joins" } else { "other calls" }, 1);
-                    if verb == "find" && a != "none" {
-                        self.count("finds with their links", 1);
-                    }
-                }
-                _ => self.differ(format!("{call}: {a:?} here, {b:?} in the Rust\n{script}")),
+                Some(classes::Call::Find(x)) if a != "none" => self.found(line, &before, x, a, b),
+                Some(classes::Call::Merge(..)) if a == b => self.count("joins", 1),
+                _ if a == b => self.count("other calls", 1),
+                _ => self.differ(format!("{line}: {a:?} here, {b:?} in the Rust\n{script}")),
             }
+            call.iter().for_each(|call| drop(before.answer(call)));
+        }
+    }
+
+    /// A find that answers a site: the same on both sides. The links are not compared; on each side they stay within the bound.
+    fn found(&mut self, call: &str, before: &classes::Classes, x: usize, ours: &str, rust: &str) {
+        let most = before.most_links(x).unwrap_or(0);
+        // `?` stands for links of the Rust that vary with hash order
+        let within = |links: &str| links == "?" || links.parse::<usize>().is_ok_and(|links| links <= most);
+        match (ours.split_once(' '), rust.split_once(' ')) {
+            (Some((site, links)), Some((other, theirs))) if site == other && within(links) && within(theirs) => {
+                self.count("other calls", 1);
+                self.count("finds, links within the bound", 1);
+                if links != theirs {
+                    self.left_out("Links", "ours hangs every site passed under the representative".to_string());
+                }
+            }
+            _ => self.differ(format!("{call}: {ours:?} here, {rust:?} in the Rust, at most {most} links")),
         }
     }
 

@@ -10,7 +10,7 @@ use borrow.Author.Tests.{le-leb, lt-leb, eq-eqb, ne-eqb}
 use Rattle.paper.specs.declared.Refusal.{Refusal}
 use Rattle.paper.specs.Numbers.{max-sites, number, told, Outcome, done, refused}
 use Rattle.rule_words.specs.Stored.{base, stride}
-use Rattle.paper.specs.Classes.{Classes, classes, is-empty, Trail, Halved, Removed, merge, remove-set-of}
+use Rattle.paper.specs.Classes.{Classes, classes, is-empty, Trail, Flattened, Removed, merge, remove-set-of}
 use Rattle.paper.specs.Sites.{Added}
 use Rattle.classes.specs.Answers.{looked, sought-by, joined-by, joined, two-classes, same, taken-by, taken-if, taken}
 use Rattle.classes.specs.declared.Sought.{Sought}
@@ -29,7 +29,7 @@ use Rattle.term_table.specs.Table.{left, bare, added, no-marks, listed}
 use Rattle.box_answers.specs.declared.Said.{Said}
 use Rattle.box_answers.specs.Loads.{loaded-said}
 use Rattle.box_answers.specs.Telling.{one-told, two-told, tells}
-use Rattle.box_answers.specs.Border.{short, answer-words, said, said-by, left-by, has-room, both, has-rule, has-rules, answered, after, bit, trail-words, halved-words, removed-words, added-words, listed-in, looked-said, sought-said, joined-said, same-said, taken-said, numbered-said, unfolded-said, added-said}
+use Rattle.box_answers.specs.Border.{short, answer-words, said, said-by, left-by, has-room, both, has-rule, has-rules, answered, after, bit, trail-words, flattened-words, removed-words, added-words, listed-in, looked-said, sought-said, joined-said, same-said, taken-said, numbered-said, unfolded-said, added-said}
 
 -- ---- slices that are too short, and those that are not
 
@@ -113,7 +113,7 @@ unfolding looked-said said-by
 looked-is (done t) = refl
 looked-is (refused r) = refl
 
-pub sought-is : (c d : Classes) (s : Sought) (o : Outcome Halved) → (d, s) ≡ sought-by c o → (sought-said s ≡ said-by halved-words o) × (d ≡ left-by c (λ h. h .after) o)
+pub sought-is : (c d : Classes) (s : Sought) (o : Outcome Flattened) → (d, s) ≡ sought-by c o → (sought-said s ≡ said-by flattened-words o) × (d ≡ left-by c (λ h. h .after) o)
 unfolding sought-said said-by left-by
 sought-is c d s (done h) e = (ap (λ p. sought-said (p .1)) e, ap (λ p. p .0) e)
 sought-is c d s (refused r) e = (ap (λ p. sought-said (p .1)) e, ap (λ p. p .0) e)

@@ -10,7 +10,7 @@ use Rattle.paper.specs.declared.Overlap.{Overlap}
 use Rattle.paper.specs.declared.Overlap.the-variants.{No, Yes, Subset}
 use Rattle.paper.specs.declared.Refusal.{Refusal}
 use Rattle.paper.specs.Numbers.{max-sites, max-term, number, told, Outcome, done, refused}
-use Rattle.paper.specs.Classes.{Classes, Trail, Halved, Removed}
+use Rattle.paper.specs.Classes.{Classes, Trail, Flattened, Removed}
 use Rattle.paper.specs.Sites.{Added}
 use Rattle.rule_words.specs.Stored.{base, stride}
 use Rattle.classes.specs.declared.Looked.{Looked}
@@ -91,8 +91,8 @@ found-word Nothing = no-word
 abbrev pub trail-words : Trail → List ℕ
 trail-words t = found-word (t .found) ∷ t .links ∷ []
 
-abbrev pub halved-words : Halved → List ℕ
-halved-words h = found-word (h .found) ∷ []
+abbrev pub flattened-words : Flattened → List ℕ
+flattened-words h = found-word (h .found) ∷ []
 
 abbrev pub removed-words : Removed → List ℕ
 removed-words q = length (q .members) ∷ []

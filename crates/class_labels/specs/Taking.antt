@@ -15,7 +15,7 @@ use Rattle.paper.specs.declared.Found.{Found}
 use Rattle.paper.specs.declared.Found.the-variants.{At, Nothing}
 use Rattle.paper.specs.Words.{keep, below, look}
 use Rattle.paper.specs.Numbers.{max-sites, Outcome, done}
-use Rattle.paper.specs.Classes.{Classes, classes, up, find-in, is-at, Removed, halved, remove-at, remove-set-of}
+use Rattle.paper.specs.Classes.{Classes, classes, up, find-in, is-at, Removed, flattened, remove-at, remove-set-of}
 use Rattle.paper.specs.Loading.{Labels, lowest, members, dissolve}
 use Rattle.paper.proofs.Labels.{never}
 use Rattle.paper.proofs.Tables.{Fine, of-keep, in-keep, keep-rising, look-in, in-look, lowest-is, dissolved, undissolved, dissolve-fine}
@@ -167,7 +167,7 @@ module _ {p r : List ℕ} {n : ℕ} {k : Labels} (T : Tied p r n k) where
       unfolding sites-below
       removed-members = out .list ∙ sym (members-are max-sites (omega arith) (T .inside))
 
-    is-set : remove-set-of (classes p r n) low ≡ done (remove-at (halved (classes p r n) low .after) (halved (classes p r n) low .found))
+    is-set : remove-set-of (classes p r n) low ≡ done (remove-at (flattened (classes p r n) low .after) (flattened (classes p r n) low .found))
     unfolding remove-set-of
     is-set = simp (lt-ltb low max-sites (T .inside low low own))
 
@@ -184,7 +184,7 @@ pub record Takes (p r : List ℕ) (n : ℕ) (k : Labels) (low : ℕ) (m m′ : L
 -- at each removal, at the lowest member of a class, that is paper's and has room for the members
 module _ {p r : List ℕ} {n : ℕ} {k : Labels} (T : Tied p r n k) (low : ℕ) (own : look k low ≡ some low) (m : List ℕ) where
   abbrev whole : Removed
-  whole = remove-at (halved (classes p r n) low .after) (halved (classes p r n) low .found)
+  whole = remove-at (flattened (classes p r n) low .after) (flattened (classes p r n) low .found)
 
   same : whole .members ≡ members k low
   same = removed-members T low own whole (is-set T low own)

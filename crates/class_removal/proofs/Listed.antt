@@ -11,7 +11,7 @@ use Rattle.paper.specs.declared.Found.{Found}
 use Rattle.paper.specs.declared.Found.the-variants.{At, Nothing}
 use Rattle.paper.specs.declared.Refusal.the-variants.{Unknown}
 use Rattle.paper.specs.Numbers.{max-sites, done, _>>=_, demand}
-use Rattle.paper.specs.Classes.{Classes, up, halved, Swept, sweep, Removed, removed, remove-set-of}
+use Rattle.paper.specs.Classes.{Classes, up, flattened, Swept, sweep, Removed, removed, remove-set-of}
 use Rattle.class_removal.specs.Listed.{swept-on, sweep-of, remove-by, remove-with, remove-of}
 use Rattle.class_removal.proofs.Taking.{listed-within, remove-is-with}
 use Rattle.class_removal.proofs.Room.{sweep-idle, kept}
@@ -81,12 +81,12 @@ module _ (xs : List ℕ) (up-xs : Ascends xs) (p : List ℕ) (r : ℕ) (has : (z
               at (no q) = let z = g (x .0) (omega arith) (x .1) in let e = x .2 in omega arith
 
 -- two sweeps that agree take the same class apart
-remove-same : (w v : List ℕ → ℕ → Swept) (c : Classes) (x : ℕ) → ((r : ℕ) → w (halved c x .after .parents) r ≡ v (halved c x .after .parents) r) → remove-with w c x ≡ remove-with v c x
+remove-same : (w v : List ℕ → ℕ → Swept) (c : Classes) (x : ℕ) → ((r : ℕ) → w (flattened c x .after .parents) r ≡ v (flattened c x .after .parents) r) → remove-with w c x ≡ remove-with v c x
 unfolding remove-with
-remove-same w v c x e = ap (λ (q : Removed). demand (ltb x max-sites) (Unknown x) >>= λ _. done q) (go (halved c x .found))
+remove-same w v c x e = ap (λ (q : Removed). demand (ltb x max-sites) (Unknown x) >>= λ _. done q) (go (flattened c x .found))
   where
-    go : (f : Found) → remove-by w (halved c x .after) f ≡ remove-by v (halved c x .after) f
-    go (At r) = ap (removed (halved c x .after)) (e r)
+    go : (f : Found) → remove-by w (flattened c x .after) f ≡ remove-by v (flattened c x .after) f
+    go (At r) = ap (removed (flattened c x .after)) (e r)
     go Nothing = refl
 
 pub remove-listed : (c : Classes) (x : ℕ) (xs : List ℕ) → Ascends xs → ((i : ℕ) → i < length xs → getD xs i 0 < max-sites)
@@ -94,25 +94,25 @@ pub remove-listed : (c : Classes) (x : ℕ) (xs : List ℕ) → Ascends xs → (
     → remove-of xs c x ≡ remove-set-of c x
 remove-listed c x xs a b has = remove-same (sweep-of xs (length xs)) (sweep max-sites) c x same ∙ remove-is-with c x
   where
-    still : (z : ℕ) → z < max-sites → up (halved c x .after .parents) z < max-sites → Listed xs z
+    still : (z : ℕ) → z < max-sites → up (flattened c x .after .parents) z < max-sites → Listed xs z
     still z h u = go (decLt (up (c .parents) z) max-sites)
       where
         go : Dec (up (c .parents) z < max-sites) → Listed xs z
         go (yes o) = has z h o
         go (no o) = let k = kept c x z (omega arith) in absurd (omega arith)
 
-    same : (r : ℕ) → sweep-of xs (length xs) (halved c x .after .parents) r ≡ sweep max-sites (halved c x .after .parents) r
-    same r = sym (sweep-same xs a (halved c x .after .parents) r still max-sites (length xs) (omega arith) (omega arith) b (λ j o k. absurd (omega arith)))
+    same : (r : ℕ) → sweep-of xs (length xs) (flattened c x .after .parents) r ≡ sweep max-sites (flattened c x .after .parents) r
+    same r = sym (sweep-same xs a (flattened c x .after .parents) r still max-sites (length xs) (omega arith) (omega arith) b (λ j o k. absurd (omega arith)))
 
 -- no more are taken than are looked at
 pub remove-few : (xs : List ℕ) (c : Classes) (x : ℕ) (q : Removed) → remove-of xs c x ≡ done q → length (q .members) ≤ length xs
 unfolding remove-with
 remove-few xs c x q e = go (ltb x max-sites) refl
   where
-    by : (f : Found) → length (remove-by (sweep-of xs (length xs)) (halved c x .after) f .members) ≤ length xs
-    by (At r) = listed-within xs (length xs) (halved c x .after .parents) r .few
+    by : (f : Found) → length (remove-by (sweep-of xs (length xs)) (flattened c x .after) f .members) ≤ length xs
+    by (At r) = listed-within xs (length xs) (flattened c x .after .parents) r .few
     by Nothing = omega arith
 
     go : (b : Bool) → ltb x max-sites ≡ b → length (q .members) ≤ length xs
-    go true p = subst (λ (o : Removed). length (o .members) ≤ length xs) (same-done (simp p at e)) (by (halved c x .found))
+    go true p = subst (λ (o : Removed). length (o .members) ≤ length xs) (same-done (simp p at e)) (by (flattened c x .found))
     go false p = never (simp p at e)

@@ -7,7 +7,7 @@ use Rattle.paper.specs.declared.Found.{Found}
 use Rattle.paper.specs.declared.Found.the-variants.{At}
 use Rattle.paper.specs.Words.{if_then_else_}
 use Rattle.paper.specs.Numbers.{max-sites}
-use Rattle.paper.specs.Classes.{Classes, up, is-at, halved, Swept, sweep}
+use Rattle.paper.specs.Classes.{Classes, up, is-at, flattened, Swept, sweep}
 use Rattle.classes.proofs.Updating.{update-none, update-leaves}
 
 sweep-leaves : (j : ℕ) (p : List ℕ) (r z : ℕ) → max-sites ≤ up p z → up (sweep j p r .parents) z ≡ up p z
@@ -28,6 +28,6 @@ sweep-idle j p r h g =
     the u = record { parents = u .0; members = if is-at (u .1) (At r) then sweep j p r .members ++ (j ∷ []) else sweep j p r .members }
 
 -- the updating find leaves it so
-pub kept : (c : Classes) (x z : ℕ) → max-sites ≤ up (c .parents) z → max-sites ≤ up (halved c x .after .parents) z
-unfolding halved
+pub kept : (c : Classes) (x z : ℕ) → max-sites ≤ up (c .parents) z → max-sites ≤ up (flattened c x .after .parents) z
+unfolding flattened
 kept c x z g = subst⁻¹ (λ (w : ℕ). max-sites ≤ w) (update-leaves (c .parents) x z g) g

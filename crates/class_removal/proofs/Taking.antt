@@ -15,7 +15,7 @@ use Rattle.paper.specs.declared.Found.the-variants.{At, Nothing}
 use Rattle.paper.specs.declared.Refusal.the-variants.{Unknown}
 use Rattle.paper.specs.Words.{if_then_else_}
 use Rattle.paper.specs.Numbers.{max-sites, Outcome, done, _>>=_, demand}
-use Rattle.paper.specs.Classes.{Classes, classes, is-at, halve-in, halved, Swept, sweep, unjoin, Removed, remove-at, remove-set-of}
+use Rattle.paper.specs.Classes.{Classes, classes, is-at, flatten-in, flattened, Swept, sweep, unjoin, Removed, remove-at, remove-set-of}
 use Rattle.classes.specs.declared.Taken.{Taken}
 use Rattle.classes.specs.declared.Taken.the-variants as K
 use Rattle.classes.specs.Answers.{noted, over, Sweeps, taken, taken-by, taken-if}
@@ -59,7 +59,7 @@ pub record Within (s : Swept) (k : ℕ) : Type 0 where
   pub few : length (s .members) ≤ k
   pub sites : (i : ℕ) → i < length (s .members) → getD (s .members) i 0 < max-sites
 
-found-site : (p : List ℕ) (y r : ℕ) → is-at (halve-in p y .1) (At r) ≡ true → y < max-sites
+found-site : (p : List ℕ) (y r : ℕ) → is-at (flatten-in p y .1) (At r) ≡ true → y < max-sites
 found-site p y r e = go (decLt y max-sites)
   where
     go : Dec (y < max-sites) → y < max-sites
@@ -82,9 +82,9 @@ within-none : (p : List ℕ) → Within (record { parents = p; members = [] }) 0
 within-none p = record { few = omega arith; sites = λ i h. absurd (omega arith) }
 
 within-on : (s : Swept) (k y r : ℕ) → Within s k → Within (swept-on y r s) (suc k)
-within-on s k y r F = go (is-at (halve-in (s .parents) y .1) (At r)) (found-site (s .parents) y r)
+within-on s k y r F = go (is-at (flatten-in (s .parents) y .1) (At r)) (found-site (s .parents) y r)
   where
-    go : (b : Bool) → (b ≡ true → y < max-sites) → Within (record { parents = halve-in (s .parents) y .0; members = if b then s .members ++ (y ∷ []) else s .members }) (suc k)
+    go : (b : Bool) → (b ≡ true → y < max-sites) → Within (record { parents = flatten-in (s .parents) y .0; members = if b then s .members ++ (y ∷ []) else s .members }) (suc k)
     go true g = record { few = omega (arith, F .few, one-longer (s .members) y); sites = λ i h. one-more-site (s .members) y i (g refl) (F .sites i) h }
     go false g = record { few = omega (arith, F .few); sites = F .sites }
 
@@ -120,10 +120,10 @@ module _ {s : Swept} {m p′ m′ : List ℕ} {n : ℕ} (S : Sweeps s m p′ m�
     part-sites i = subst⁻¹ (λ (l : List ℕ). i < length l → getD l i 0 < max-sites) part-is (F .sites i)
 
     swept-turn : k < length m → (y r : ℕ) (q : List ℕ) (f : Found) (m″ : List ℕ) (n′ : ℕ)
-        → _≡_ {A = List ℕ × Found} (q, f) (halve-in p′ y) → _≡_ {A = List ℕ × ℕ} (m″, n′) (noted m′ n (is-at f (At r)) y)
+        → _≡_ {A = List ℕ × Found} (q, f) (flatten-in p′ y) → _≡_ {A = List ℕ × ℕ} (m″, n′) (noted m′ n (is-at f (At r)) y)
         → Sweeps (swept-on y r s) m q m″ n′
     swept-turn h y r q f m″ n′ e g =
-        let e′ : _≡_ {A = List ℕ × Found} (q, f) (halve-in (s .parents) y) = e ∙ ap (λ (z : List ℕ). halve-in z y) (S .parents) in
+        let e′ : _≡_ {A = List ℕ × Found} (q, f) (flatten-in (s .parents) y) = e ∙ ap (λ (z : List ℕ). flatten-in z y) (S .parents) in
         let H = noted-sweeps s m p′ m′ n y (is-at f (At r)) q S (omega (arith, F .few)) in
         rw (← e′) (rw (← g) at H)
 
@@ -137,13 +137,13 @@ listed-start xs p m r = record { parents = refl; members = refl; number = refl }
 
 module _ (k : ℕ) (p m p′ m′ : List ℕ) (r n : ℕ) (h : k < length m) (q : List ℕ) (f : Found) (m″ : List ℕ) (n′ : ℕ) where
   pub sweep-turn : Sweeps (sweep k p r) m p′ m′ n
-      → _≡_ {A = List ℕ × Found} (q, f) (halve-in p′ k) → _≡_ {A = List ℕ × ℕ} (m″, n′) (noted m′ n (is-at f (At r)) k)
+      → _≡_ {A = List ℕ × Found} (q, f) (flatten-in p′ k) → _≡_ {A = List ℕ × ℕ} (m″, n′) (noted m′ n (is-at f (At r)) k)
       → Sweeps (sweep (k + 1) p r) m q m″ n′
   unfolding sweep
   sweep-turn S e g = rw (add-one k) (swept-turn S (sweep-within k p r) h k r q f m″ n′ e g)
 
   pub listed-turn : (xs : List ℕ) → Sweeps (sweep-of xs k p r) m p′ m′ n
-      → _≡_ {A = List ℕ × Found} (q, f) (halve-in p′ (getD xs k 0)) → _≡_ {A = List ℕ × ℕ} (m″, n′) (noted m′ n (is-at f (At r)) (getD xs k 0))
+      → _≡_ {A = List ℕ × Found} (q, f) (flatten-in p′ (getD xs k 0)) → _≡_ {A = List ℕ × ℕ} (m″, n′) (noted m′ n (is-at f (At r)) (getD xs k 0))
       → Sweeps (sweep-of xs (k + 1) p r) m q m″ n′
   unfolding sweep-of
   listed-turn xs S e g = rw (add-one k) (swept-turn S (listed-within xs k p r) h (getD xs k 0) r q f m″ n′ e g)
@@ -165,12 +165,12 @@ module _ (w : List ℕ → ℕ → Swept) (c : Classes) (m : List ℕ) (x : ℕ)
   unfolding remove-with
   taken-out h = simp h
 
-  module _ (h : ltb x max-sites ≡ true) {q : List ℕ} {f : Found} (e : _≡_ {A = List ℕ × Found} (q, f) (halve-in (c .parents) x)) where
+  module _ (h : ltb x max-sites ≡ true) {q : List ℕ} {f : Found} (e : _≡_ {A = List ℕ × Found} (q, f) (flatten-in (c .parents) x)) where
     d : Classes
     d = classes q (c .ranks) (c .count)
 
     by : (g : Found) → f ≡ g → taken-by c m (done (remove-by w d g)) ≡ taken-by c m (remove-with w c x)
-    unfolding remove-with halved d
+    unfolding remove-with flattened d
     by g o = simp h (rw (← o) (ap (λ (u : List ℕ × Found). taken-by c m (done (remove-by w (classes (u .0) (c .ranks) (c .count)) (u .1)))) e))
 
     pub taken-none : f ≡ Nothing → _≡_ {A = Classes × List ℕ × Taken} (classes q (c .ranks) (c .count), m, K.Members 0) (taken-by c m (remove-with w c x))
@@ -189,9 +189,9 @@ module _ (w : List ℕ → ℕ → Swept) (c : Classes) (m : List ℕ) (x : ℕ)
 -- all sites, and the listed ones
 pub remove-is-with : (c : Classes) (x : ℕ) → remove-with (sweep max-sites) c x ≡ remove-set-of c x
 unfolding remove-with remove-set-of
-remove-is-with c x = ap (λ (q : Removed). demand (ltb x max-sites) (Unknown x) >>= λ _. done q) (go (halved c x .found))
+remove-is-with c x = ap (λ (q : Removed). demand (ltb x max-sites) (Unknown x) >>= λ _. done q) (go (flattened c x .found))
   where
-    go : (f : Found) → remove-by (sweep max-sites) (halved c x .after) f ≡ remove-at (halved c x .after) f
+    go : (f : Found) → remove-by (sweep max-sites) (flattened c x .after) f ≡ remove-at (flattened c x .after) f
     go (At r) = refl
     go Nothing = refl
 

@@ -9,14 +9,14 @@ use Rattle.paper.specs.declared.Found.the-variants.{At, Nothing}
 use Rattle.paper.specs.declared.Refusal.the-variants.{Unknown}
 use Rattle.paper.specs.Words.{if_then_else_}
 use Rattle.paper.specs.Numbers.{max-sites, Outcome, done, _>>=_, demand}
-use Rattle.paper.specs.Classes.{Classes, halve-in, halved, is-at, Swept, Removed, removed}
+use Rattle.paper.specs.Classes.{Classes, flatten-in, flattened, is-at, Swept, Removed, removed}
 use Rattle.classes.specs.declared.Taken.{Taken}
 use Rattle.classes.specs.Answers.{taken-if}
 
 -- the updating find on y, after those of s; y is listed where its root is r
 abbrev pub swept-on : ℕ → ℕ → Swept → Swept
 swept-on y r s =
-    let h = halve-in (s .parents) y in
+    let h = flatten-in (s .parents) y in
     record { parents = h .0; members = if is-at (h .1) (At r) then s .members ++ (y ∷ []) else s .members }
 
 -- on the first k of the listed sites, in their order
@@ -30,7 +30,7 @@ remove-by w c (At r) = removed c (w (c .parents) r)
 remove-by w c Nothing = record { after = c; members = [] }
 
 unfoldable pub remove-with : (List ℕ → ℕ → Swept) → Classes → ℕ → Outcome Removed
-remove-with w c x = demand (ltb x max-sites) (Unknown x) >>= λ _. (let h = halved c x in done (remove-by w (h .after) (h .found)))
+remove-with w c x = demand (ltb x max-sites) (Unknown x) >>= λ _. (let h = flattened c x in done (remove-by w (h .after) (h .found)))
 
 abbrev pub remove-of : List ℕ → Classes → ℕ → Outcome Removed
 remove-of xs c x = remove-with (sweep-of xs (length xs)) c x

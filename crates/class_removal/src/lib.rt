@@ -39,7 +39,7 @@ fn sweep(parents: &mut [u16; SITES], r: u16, members: &mut [u16]) -> usize
     let mut n: usize = 0;
     let mut y: u16 = 0;
     while y < NEVER {
-        let f = classes::halve_in(parents, y);
+        let f = classes::flatten_in(parents, y);
         n = note(members, n, f, r, y);
         y += 1;
     }
@@ -56,7 +56,7 @@ fn sweep_listed(parents: &mut [u16; SITES], r: u16, sites: &[u16], members: &mut
     let mut at: usize = 0;
     while at < sites.len() {
         let y = sites[at];
-        let f = classes::halve_in(parents, y);
+        let f = classes::flatten_in(parents, y);
         n = note(members, n, f, r, y);
         at += 1;
     }
@@ -111,7 +111,7 @@ pub fn remove_set_of_in(
     if SITES <= size16(x) {
         return Taken::Refused(Refusal::Unknown { site: x });
     }
-    let f = classes::halve_in(parents, x);
+    let f = classes::flatten_in(parents, x);
     let Found::At(r) = f else {
         return Taken::Members(0);
     };
@@ -140,7 +140,7 @@ pub fn remove_listed_in(
     if SITES <= size16(x) {
         return Taken::Refused(Refusal::Unknown { site: x });
     }
-    let f = classes::halve_in(parents, x);
+    let f = classes::flatten_in(parents, x);
     let Found::At(r) = f else {
         return Taken::Members(0);
     };

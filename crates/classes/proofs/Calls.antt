@@ -10,7 +10,7 @@ use Rattle.paper.specs.declared.Found.{Found}
 use Rattle.paper.specs.declared.Found.the-variants.{At, Nothing}
 use Rattle.paper.specs.declared.Refusal.the-variants.{Unknown, Itself}
 use Rattle.paper.specs.Numbers.{max-sites}
-use Rattle.paper.specs.Classes.{Classes, classes, Trail, trail, find-in, halve-in, halved, find, find-mut, one-more, most-rank, most-count, Rooted, rooted, enter, link, unite, merge, is-at, in-same-set}
+use Rattle.paper.specs.Classes.{Classes, classes, Trail, trail, find-in, passed, hung, flat-to, flat, flatten-in, flattened, find, find-mut, one-more, most-rank, most-count, Rooted, rooted, enter, link, unite, merge, is-at, in-same-set}
 use Rattle.classes.specs.declared.Trail as T
 use Rattle.classes.specs.declared.Looked.the-variants as L
 use Rattle.classes.specs.declared.Sought.{Sought}
@@ -19,7 +19,8 @@ use Rattle.classes.specs.declared.Joined.{Joined}
 use Rattle.classes.specs.declared.Joined.the-variants as J
 use Rattle.classes.specs.declared.Same.the-variants as E
 use Rattle.classes.specs.Answers.{root-in, or-self, rep, trail-of, looked, sought, two-classes, joined, same}
-use Rattle.classes.proofs.Updating.{update-lt}
+use Rattle.classes.specs.Well.{Leads}
+use Rattle.classes.proofs.Updating.{find-led, update-lt}
 
 module _ (x w : ℕ) (e : w ≡ x) where
   pub test-out : max-sites ≤ w → ltb x max-sites ≡ false
@@ -34,6 +35,24 @@ pub rep-at : (p : List ℕ) (x : ℕ) (t : T.Trail) (f : Found) → trail (t .fo
 unfolding rep
 rep-at p x t f q e = ap (or-self x) (sym e ∙ ap (λ (t : Trail). t .found) q)
 
+-- the updating find: t is the way to the root
+module _ (p : List ℕ) (x : ℕ) (t : T.Trail) (q : trail (t .found) (t .links) ≡ find-in p x) where
+  by-way : (f : Found) → t .found ≡ f → _≡_ {A = List ℕ × Found} (flat-to p x (t .links) f, f) (flatten-in p x)
+  unfolding flatten-in flat
+  by-way f e =
+      sym (ap (λ (f : Found). (flat-to p x (t .links) f, f)) e)
+      ∙ ap (λ (u : Trail). (flat-to p x (u .links) (u .found), u .found)) q
+
+  pub flatten-none : t .found ≡ Nothing → _≡_ {A = List ℕ × Found} (p, Nothing) (flatten-in p x)
+  flatten-none e = by-way Nothing e
+
+  pub flatten-led : (r : ℕ) → t .found ≡ At r → Leads (t .links) p x r
+  flatten-led r e =
+      subst⁻¹ (λ (k : ℕ). Leads k p x r) (ap (λ (u : Trail). u .links) q) (find-led p x r (sym (ap (λ (u : Trail). u .found) q) ∙ e))
+
+  pub flatten-at : (r : ℕ) (p′ : List ℕ) → t .found ≡ At r → p′ ≡ hung p (passed (t .links) p x) r → _≡_ {A = List ℕ × Found} (p′, At r) (flatten-in p x)
+  flatten-at r p′ e h = ap (λ (l : List ℕ). (l, At r)) h ∙ by-way (At r) e
+
 module _ (c : Classes) (x : ℕ) where
   pub looked-out : ltb x max-sites ≡ false → L.Refused (Unknown x) ≡ looked (find c x)
   unfolding find
@@ -47,19 +66,19 @@ module _ (c : Classes) (x : ℕ) where
   unfolding find-mut
   sought-out h = simp h
 
-  pub sought-in : ltb x max-sites ≡ true → {q : List ℕ} {f : Found} → _≡_ {A = List ℕ × Found} (q, f) (halve-in (c .parents) x)
+  pub sought-in : ltb x max-sites ≡ true → {q : List ℕ} {f : Found} → _≡_ {A = List ℕ × Found} (q, f) (flatten-in (c .parents) x)
       → _≡_ {A = Classes × Sought} (classes q (c .ranks) (c .count), S.Got f) (sought c x)
-  unfolding find-mut halved
+  unfolding find-mut flattened
   sought-in h e = simp h (ap (λ (g : List ℕ × Found). (classes (g .0) (c .ranks) (c .count), S.Got (g .1))) e)
 
 -- ---- joins
 
-module _ (c : Classes) (x : ℕ) {q : List ℕ} {f : Found} (e : _≡_ {A = List ℕ × Found} (q, f) (halve-in (c .parents) x)) where
+module _ (c : Classes) (x : ℕ) {q : List ℕ} {f : Found} (e : _≡_ {A = List ℕ × Found} (q, f) (flatten-in (c .parents) x)) where
   d : Classes
   d = classes q (c .ranks) (c .count)
 
   by : _≡_ {A = Rooted} (rooted d x f) (enter c x)
-  unfolding enter halved d
+  unfolding enter flattened d
   by = ap (λ (g : List ℕ × Found). rooted (classes (g .0) (c .ranks) (c .count)) x (g .1)) e
 
   pub entered : (r : ℕ) → f ≡ At r → root-in (classes q (c .ranks) (c .count)) r ≡ enter c x
@@ -93,10 +112,10 @@ module _ (c : Classes) (a b i j : ℕ) (e : i ≡ a) (f : j ≡ b) where
 
 -- a root that is entered is a site
 pub root-lt : (c : Classes) (x : ℕ) → x < max-sites → enter c x .root < max-sites
-unfolding enter halved
-root-lt c x h = go (halved c x .after) (halve-in (c .parents) x .1) refl
+unfolding enter flattened
+root-lt c x h = go (flattened c x .after) (flatten-in (c .parents) x .1) refl
   where
-    go : (d : Classes) (f : Found) → halve-in (c .parents) x .1 ≡ f → rooted d x f .root < max-sites
+    go : (d : Classes) (f : Found) → flatten-in (c .parents) x .1 ≡ f → rooted d x f .root < max-sites
     go d (At r) e = update-lt (c .parents) x e
     go d Nothing e = h
 

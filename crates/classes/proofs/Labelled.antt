@@ -9,7 +9,7 @@ use Rattle.paper.specs.declared.Found.{Found}
 use Rattle.paper.specs.declared.Found.the-variants.{At, Nothing}
 use Rattle.paper.specs.Words.{look}
 use Rattle.paper.specs.Numbers.{done}
-use Rattle.paper.specs.Classes.{Classes, no-classes, Halved, find-mut, merge, Removed, remove-set-of}
+use Rattle.paper.specs.Classes.{Classes, no-classes, Flattened, find-mut, merge, Removed, remove-set-of}
 use Rattle.paper.specs.Loading.{Labels, lowest, join}
 use Rattle.paper.proofs.Joins.{Lowest, join-at, join-keeps, join-joins, Pair, was, new, join-only, gen-same}
 use Rattle.paper.proofs.Labels.{Sound, lowest-joined}
@@ -46,7 +46,7 @@ merge-holds c W x y d e k S H =
 
 -- ---- an updating find
 
-pub find-mut-holds : (c : Classes) → WellMade c → (x : ℕ) (h : Halved) → find-mut c x ≡ done h → (f : ℕ → ℕ) → Holds (c .parents) f → Holds (h .after .parents) f
+pub find-mut-holds : (c : Classes) → WellMade c → (x : ℕ) (h : Flattened) → find-mut c x ≡ done h → (f : ℕ → ℕ) → Holds (c .parents) f → Holds (h .after .parents) f
 unfolding rep
 find-mut-holds c W x h e f H =
     let s = find-mut-keeps c W x h e .2 in

@@ -13,7 +13,7 @@ use Rattle.paper.specs.declared.Found.{Found}
 use Rattle.paper.specs.declared.Found.the-variants.{At, Nothing}
 use Rattle.paper.specs.Words.{any, has, keep, below}
 use Rattle.paper.specs.Numbers.{max-sites, Outcome, done, refused}
-use Rattle.paper.specs.Classes.{Classes, no-classes, up, Trail, find-in, is-at, Halved, halved, find, find-mut, enter, unite, merge, Removed, remove-at, remove-set-of}
+use Rattle.paper.specs.Classes.{Classes, no-classes, up, Trail, find-in, passed, flatten-in, is-at, Flattened, flattened, find, find-mut, enter, unite, merge, Removed, remove-at, remove-set-of}
 use Rattle.paper.proofs.Joins.{Gen, base, self, back, via, gen-map, gen-same}
 use Rattle.classes.specs.Answers.{rep, two-classes}
 use Rattle.classes.specs.Well.{log-sites, Leads, WellMade, members, has-up, in-class, cnt, rep-of, dropped}
@@ -21,7 +21,8 @@ use Rattle.classes.specs.Equal as Q
 use Rattle.classes.specs.Made as M
 use Rattle.classes.proofs.Counting.{cnt-ext, cnt-le}
 use Rattle.classes.proofs.Linked.{found-leads, links-log}
-use Rattle.classes.proofs.Halving.{halved-kept, halved-found}
+use Rattle.classes.proofs.Flattening.{flattened-kept, flattened-found}
+use Rattle.classes.proofs.Shortening.{links-fewer, passed-one}
 use Rattle.classes.proofs.Merging.{log-le, empty-well}
 use Rattle.classes.proofs.Uniting.{unites, root-x, root-y, rep-outside, rep-lone, is-joined, joined-has}
 use Rattle.classes.proofs.Removal.{takes-out}
@@ -71,20 +72,20 @@ find-is c x t e = go (ltb x max-sites) refl
     go true p = (ltb-true x max-sites p, sym (same-done (simp p at e)))
     go false p = never (simp p at e)
 
-pub find-mut-is : (c : Classes) (x : ℕ) (h : Halved) → find-mut c x ≡ done h → (x < max-sites) × (h ≡ halved c x)
+pub find-mut-is : (c : Classes) (x : ℕ) (h : Flattened) → find-mut c x ≡ done h → (x < max-sites) × (h ≡ flattened c x)
 unfolding find-mut
 find-mut-is c x h e = go (ltb x max-sites) refl
   where
-    go : (a : Bool) → ltb x max-sites ≡ a → (x < max-sites) × (h ≡ halved c x)
+    go : (a : Bool) → ltb x max-sites ≡ a → (x < max-sites) × (h ≡ flattened c x)
     go true p = (ltb-true x max-sites p, sym (same-done (simp p at e)))
     go false p = never (simp p at e)
 
 pub remove-is : (c : Classes) (x : ℕ) (q : Removed) → remove-set-of c x ≡ done q
-    → (x < max-sites) × (q ≡ remove-at (halved c x .after) (halved c x .found))
+    → (x < max-sites) × (q ≡ remove-at (flattened c x .after) (flattened c x .found))
 unfolding remove-set-of
 remove-is c x q e = go (ltb x max-sites) refl
   where
-    go : (a : Bool) → ltb x max-sites ≡ a → (x < max-sites) × (q ≡ remove-at (halved c x .after) (halved c x .found))
+    go : (a : Bool) → ltb x max-sites ≡ a → (x < max-sites) × (q ≡ remove-at (flattened c x .after) (flattened c x .found))
     go true p = (ltb-true x max-sites p, sym (same-done (simp p at e)))
     go false p = never (simp p at e)
 
@@ -102,21 +103,35 @@ module _ (c : Classes) (W : WellMade c) (x : ℕ) where
       let m : 2 ^ t .links ≤ members (c .parents) r = rw q (links-log (c .parents) (c .ranks) (c .count) W x r g) in
       (rw o (l .1), m, log-le (t .links) (le-trans m (cnt-le (in-class (c .parents) r) max-sites)))
 
-  halved-keeps : WellMade (halved c x .after) × (halved c x .found ≡ rep-of c x) × ((z : ℕ) → rep-of (halved c x .after) z ≡ rep-of c z)
-  unfolding halved
-  halved-keeps =
-      let K = halved-kept (c .parents) (c .ranks) (c .count) W x in
-      (K .well, halved-found (c .parents) (c .ranks) (c .count) W x, K .same)
+  flattened-keeps : WellMade (flattened c x .after) × (flattened c x .found ≡ rep-of c x) × ((z : ℕ) → rep-of (flattened c x .after) z ≡ rep-of c z)
+  unfolding flattened
+  flattened-keeps =
+      let K = flattened-kept (c .parents) (c .ranks) (c .count) W x in
+      (K .well, flattened-found (c .parents) (c .ranks) (c .count) W x, K .same)
 
   -- an updating find answers as the plain one does, and changes no representative
-  pub find-mut-keeps : (h : Halved) → find-mut c x ≡ done h
+  pub find-mut-keeps : (h : Flattened) → find-mut c x ≡ done h
       → WellMade (h .after) × (h .found ≡ rep-of c x) × ((z : ℕ) → rep-of (h .after) z ≡ rep-of c z)
   find-mut-keeps h e =
-      subst⁻¹ (λ (h : Halved). WellMade (h .after) × (h .found ≡ rep-of c x) × ((z : ℕ) → rep-of (h .after) z ≡ rep-of c z)) (find-mut-is c x h e .1) halved-keeps
+      subst⁻¹ (λ (h : Flattened). WellMade (h .after) × (h .found ≡ rep-of c x) × ((z : ℕ) → rep-of (h .after) z ≡ rep-of c z)) (find-mut-is c x h e .1) flattened-keeps
 
-  has-same : (z : ℕ) → z < max-sites → has-up (halved c x .after .parents) z ≡ has-up (c .parents) z
+  -- 02 [2]: it makes no way longer, and a site that it passed has at most one link
+  pub find-mut-links : (h : Flattened) → find-mut c x ≡ done h → (z : ℕ) → find-in (h .after .parents) z .links ≤ find-in (c .parents) z .links
+  unfolding flattened flatten-in
+  find-mut-links h e z =
+      subst⁻¹ (λ (h : Flattened). find-in (h .after .parents) z .links ≤ find-in (c .parents) z .links) (find-mut-is c x h e .1)
+      (links-fewer (c .parents) (c .ranks) (c .count) W x z)
+
+  pub find-mut-passed : (h : Flattened) (r : ℕ) → find-mut c x ≡ done h → rep-of c x ≡ At r
+      → (y : ℕ) → has (passed (find-in (c .parents) x .links) (c .parents) x) y ≡ true → find-in (h .after .parents) y .links ≤ 1
+  unfolding flattened flatten-in
+  find-mut-passed h r e f y o =
+      subst⁻¹ (λ (h : Flattened). find-in (h .after .parents) y .links ≤ 1) (find-mut-is c x h e .1)
+      (passed-one (c .parents) (c .ranks) (c .count) W x r f y o)
+
+  has-same : (z : ℕ) → z < max-sites → has-up (flattened c x .after .parents) z ≡ has-up (c .parents) z
   has-same z h =
-      joined-has (halved c x .after) (halved-keeps .0) z h ∙ (ap is-joined (halved-keeps .2 z) ∙ sym (joined-has c W z h))
+      joined-has (flattened c x .after) (flattened-keeps .0) z h ∙ (ap is-joined (flattened-keeps .2 z) ∙ sym (joined-has c W z h))
 
 -- ---- joins
 
@@ -159,23 +174,23 @@ pub record Leaves (c : Classes) (q : Removed) : Type 0 where
 
 module _ (c : Classes) (W : WellMade c) (x : ℕ) (q : Removed) (e : remove-set-of c x ≡ done q) where
   d : Classes
-  d = halved c x .after
+  d = flattened c x .after
 
   D : WellMade d
   unfolding d
-  D = halved-keeps c W x .0
+  D = flattened-keeps c W x .0
 
   same : (z : ℕ) → rep-of d z ≡ rep-of c z
   unfolding d
-  same = halved-keeps c W x .2
+  same = flattened-keeps c W x .2
 
   by : (f : Found) → rep-of c x ≡ f → q ≡ remove-at d f
   unfolding d
-  by f o = remove-is c x q e .1 ∙ ap (remove-at (halved c x .after)) (halved-keeps c W x .1 ∙ o)
+  by f o = remove-is c x q e .1 ∙ ap (remove-at (flattened c x .after)) (flattened-keeps c W x .1 ∙ o)
 
   same-list : (k r : ℕ) → Q.sites-below k (d .parents) r ≡ Q.sites-below k (c .parents) r
   unfolding Q.sites-below d
-  same-list k r = ap (λ (f : ℕ → Bool). keep f (below k (λ z. z))) (fun-ext (λ z. ap (λ (f : Found). is-at f (At r)) (halved-keeps c W x .2 z)))
+  same-list k r = ap (λ (f : ℕ → Bool). keep f (below k (λ z. z))) (fun-ext (λ z. ap (λ (f : Found). is-at f (At r)) (flattened-keeps c W x .2 z)))
 
   pub remove-takes : (r : ℕ) → rep-of c x ≡ At r → Q.TakesOut c r q
   unfolding d
@@ -190,6 +205,7 @@ module _ (c : Classes) (W : WellMade c) (x : ℕ) (q : Removed) (e : remove-set-
         found = λ z. T .found z ∙ ap (dropped r) (same z);
         list = T .list ∙ same-list max-sites r;
         size = T .size ∙ cnt-ext (in-class (d .parents) r) (in-class (c .parents) r) max-sites (λ z l. ap (λ (f : Found). is-at f (At r)) (same z));
+        direct = T .direct;
         leaves = λ z h. T .leaves z h ∙ ap (λ (b : Bool). b && not (has (remove-at d (At r) .members) z)) (has-same c W x z h);
       }
 
@@ -225,8 +241,8 @@ module _ where
   made-well (M.sought {c = c} {h = h} {j = j} x m e) =
       let i = made-well m in
       let k = find-mut-is c x h e .1 in
-      subst⁻¹ (λ (h : Halved). WellMade (h .after) × ((z : ℕ) → z < max-sites → has-up (h .after .parents) z ≡ j z)) k
-      (halved-keeps c (i .0) x .0, λ z l. has-same c (i .0) x z l ∙ i .1 z l)
+      subst⁻¹ (λ (h : Flattened). WellMade (h .after) × ((z : ℕ) → z < max-sites → has-up (h .after .parents) z ≡ j z)) k
+      (flattened-keeps c (i .0) x .0, λ z l. has-same c (i .0) x z l ∙ i .1 z l)
   made-well (M.taken {c = c} {q = q} x m e) =
       let i = made-well m in
       let t = remove-well c (i .0) x q e in

@@ -5,7 +5,8 @@ pub mod Calls
 pub mod Counting
 pub mod Leading
 pub mod Linked
-pub mod Halving
+pub mod Flattening
+pub mod Shortening
 pub mod Entering
 pub mod Linking
 pub mod Merging

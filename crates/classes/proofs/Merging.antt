@@ -13,12 +13,12 @@ use Rattle.paper.specs.declared.Found.{Found}
 use Rattle.paper.specs.declared.Found.the-variants.{At, Nothing}
 use Rattle.paper.specs.Words.{if_then_else_}
 use Rattle.paper.specs.Numbers.{max-sites}
-use Rattle.paper.specs.Classes.{up, Classes, classes, no-classes, halved, one-more, most-rank, alone, rooted, enter, link, under, raised}
+use Rattle.paper.specs.Classes.{up, Classes, classes, no-classes, flattened, one-more, most-rank, alone, rooted, enter, link, under, raised}
 use Rattle.classes.specs.Well.{log-sites, rank, members, in-class, turned, WellMade, rep-of, winner, loser, alone-as, has-up, cnt, bit}
 use Rattle.classes.proofs.Counting.{cnt-le}
 use Rattle.classes.proofs.Leading.{find-leads, is-root}
 use Rattle.classes.proofs.Linked.{Case, outside, lone, led, case, found-leads}
-use Rattle.classes.proofs.Halving.{Kept, halved-kept, halved-found}
+use Rattle.classes.proofs.Flattening.{Kept, flattened-kept, flattened-found}
 use Rattle.classes.proofs.Entering.{enter-well, found-x, found-off}
 use Rattle.classes.proofs.Linking.{link-well, found-after, members-a}
 
@@ -119,23 +119,23 @@ root-of c W x r e =
 
 module _ (c : Classes) (W : WellMade c) (x : ℕ) (hx : x < max-sites) where
   d : Classes
-  d = halved c x .after
+  d = flattened c x .after
 
   K : Kept (c .parents) (d .parents) (c .ranks) (c .count)
-  unfolding d halved
-  K = halved-kept (c .parents) (c .ranks) (c .count) W x
+  unfolding d flattened
+  K = flattened-kept (c .parents) (c .ranks) (c .count) W x
 
   -- the state after the find is well made, and has the old ranks and count
   D : WellMade d
-  unfolding d halved
+  unfolding d flattened
   D = K .well
 
   same : (z : ℕ) → rep-of d z ≡ rep-of c z
   same z = K .same z
 
-  answer : halved c x .found ≡ rep-of c x
-  unfolding halved
-  answer = halved-found (c .parents) (c .ranks) (c .count) W x
+  answer : flattened c x .found ≡ rep-of c x
+  unfolding flattened
+  answer = flattened-found (c .parents) (c .ranks) (c .count) W x
 
   at-root : (r : ℕ) → rep-of c x ≡ At r → Entered c d x r
   at-root r e = record { well = D; found = λ z. same z ∙ go z (rep-of c z) refl; mine = same x ∙ e }
@@ -174,9 +174,9 @@ module _ (c : Classes) (W : WellMade c) (x : ℕ) (hx : x < max-sites) where
 
   pub enter-entered : Entered c (enter c x .after) x (enter c x .root)
   unfolding enter d
-  enter-entered = go (halved c x .found) (sym answer)
+  enter-entered = go (flattened c x .found) (sym answer)
     where
-      go : (f : Found) → rep-of c x ≡ f → Entered c (rooted (halved c x .after) x f .after) x (rooted (halved c x .after) x f .root)
+      go : (f : Found) → rep-of c x ≡ f → Entered c (rooted (flattened c x .after) x f .after) x (rooted (flattened c x .after) x f .root)
       go (At r) e = at-root r e
       go Nothing e = at-none e
 

@@ -2,7 +2,7 @@
 use mathlib.Core.Path.{_≡_, refl, sym, _∙_, ap, subst⁻¹}
 use mathlib.Core.List.{List, [], _∷_, _++_}
 use mathlib.Core.Bool.{Bool, true, false, _&&_, _||_, not}
-use Prim.Native.Nat.{ℕ, zero, suc, _+_, _-_, _<_}
+use Prim.Native.Nat.{ℕ, zero, suc, _+_, _-_, _≤_, _<_}
 use native.Mathlib.Omega.{arith}
 use native.Mathlib.Decide.{ℕ-discrete, decLt}
 use lib.ListN.{length, set, length-set, length-append}
@@ -10,17 +10,24 @@ use lib.Seq.{getD-set-same, getD-set-other}
 use lib.Dec.{ltb, eqb}
 use borrow.Author.Tests.{lt-ltb, le-ltb, eq-eqb, ne-eqb}
 use Rattle.paper.specs.declared.Found.{Found}
-use Rattle.paper.specs.declared.Found.the-variants.{At}
+use Rattle.paper.specs.declared.Found.the-variants.{At, Nothing}
 use Rattle.paper.specs.Words.{if_then_else_, any, has, keep, below}
 use Rattle.paper.specs.Numbers.{max-sites}
-use Rattle.paper.specs.Classes.{Classes, classes, up, find-in, halve-in, is-at, Swept, sweep, unjoin, removed}
+use Rattle.paper.specs.Classes.{Classes, classes, up, find-in, flat, flatten-in, is-at, Swept, sweep, unjoin, removed}
 use Rattle.paper.proofs.Lists.{or-false}
 use Rattle.classes.specs.Well.{Well, WellMade, members, joined-in, has-up, in-class, cnt, bit, dropped}
 use Rattle.classes.specs.Equal.{sites-below, TakesOut}
 use Rattle.classes.proofs.Counting.{cnt-ext}
-use Rattle.classes.proofs.Halving.{Kept, kept, kept-by, halved-kept, halved-found}
+use Rattle.classes.proofs.Flattening.{Kept, kept, kept-by, flattened-kept, flattened-found}
+use Rattle.classes.proofs.Shortening.{Direct, own-direct, direct-stays}
 use Rattle.classes.proofs.Uniting.{is-joined, joined-has}
 use Rattle.classes.proofs.Removing.{found-after, fewer, remove-well}
+
+never-at : {A : Type 0} {r : ℕ} → Nothing ≡ At r → A
+never-at e = absurd (let z : _≡_ {A = ℕ} 0 1 = cc in omega arith)
+
+same-at : {a b : ℕ} → At a ≡ At b → a ≡ b
+same-at e = cc
 
 -- ---- the sweep
 
@@ -105,15 +112,27 @@ unfolding sweep
 sweep-kept zero p R n r W = kept p R n W
 sweep-kept (suc k) p R n r W =
     let K = sweep-kept k p R n r W in
-    kept-by p (sweep k p r .parents) _ R n (K .same) (halved-kept (sweep k p r .parents) R n (K .well) k)
+    kept-by p (sweep k p r .parents) _ R n K (flattened-kept (sweep k p r .parents) R n (K .well) k)
 
 sweep-lists : (k : ℕ) (p R : List ℕ) (n r : ℕ) → Well p R n → sweep k p r .members ≡ sites-below k p r
 unfolding sweep
 sweep-lists zero p R n r W = sym (sites-none p r)
 sweep-lists (suc k) p R n r W =
     let K = sweep-kept k p R n r W in
-    let e : halve-in (sweep k p r .parents) k .1 ≡ find-in p k .found = halved-found (sweep k p r .parents) R n (K .well) k ∙ K .same k in
+    let e : flatten-in (sweep k p r .parents) k .1 ≡ find-in p k .found = flattened-found (sweep k p r .parents) R n (K .well) k ∙ K .same k in
     rw (e, sweep-lists k p R n r W) (sym (sites-more k p r))
+
+-- every site below k hangs directly under its representative
+sweep-direct : (k : ℕ) (p R : List ℕ) (n r : ℕ) → Well p R n → k ≤ max-sites → (z : ℕ) → z < k → Direct (sweep k p r .parents) z
+unfolding sweep flatten-in
+sweep-direct zero p R n r W h z l = absurd (omega arith)
+sweep-direct (suc k) p R n r W h z l =
+    let K = sweep-kept k p R n r W in
+    go (ℕ-discrete z k) K (λ o. sweep-direct k p R n r W (omega arith) z o)
+  where
+    go : Dec (z ≡ k) → Kept p (sweep k p r .parents) R n → (z < k → Direct (sweep k p r .parents) z) → Direct (flat (sweep k p r .parents) k) z
+    go (yes e) K ih = subst⁻¹ (λ (y : ℕ). Direct (flat (sweep k p r .parents) k) y) e (own-direct (sweep k p r .parents) R n (K .well) k)
+    go (no d) K ih = direct-stays (sweep k p r .parents) R n (K .well) k z (omega arith) (ih (omega (arith, d)))
 
 -- ---- taking out
 
@@ -193,6 +212,26 @@ module _ (c : Classes) (W : WellMade c) (r : ℕ) where
       go true = le-ltb max-sites max-sites (omega arith) ∙ no-more (has-up (c .parents) z)
       go false = same ∙ still (has-up (c .parents) z)
 
+  direct : (z v : ℕ) → z < max-sites → find-in q z .found ≡ At v → up q z ≡ v
+  unfolding s
+  direct z v h e = go (find-in (s .parents) z .found) refl
+    where
+      D : Direct (s .parents) z
+      D = sweep-direct max-sites (c .parents) (c .ranks) (c .count) r W (omega arith) z h
+
+      from : (f : Found) → find-in (s .parents) z .found ≡ f → dropped r f ≡ At v
+      from f o = sym (found-after (s .parents) (c .ranks) (c .count) (K .well) r q lq uq z ∙ ap (dropped r) o) ∙ e
+
+      out : (w : ℕ) → find-in (s .parents) z .found ≡ At w → Dec (w ≡ r) → up q z ≡ v
+      out w o (yes i) = never-at (sym (simp (eq-eqb w r i)) ∙ from (At w) o)
+      out w o (no d) =
+          uq z h ∙ (ap (λ (f : Found). if is-at f (At r) then max-sites else up (s .parents) z) o
+          ∙ (simp (ne-eqb w r d) (D w o ∙ same-at (sym (simp (ne-eqb w r d)) ∙ from (At w) o))))
+
+      go : (f : Found) → find-in (s .parents) z .found ≡ f → up q z ≡ v
+      go (At w) o = out w o (ℕ-discrete w r)
+      go Nothing o = never-at (from Nothing o)
+
   pub takes-out : TakesOut c r (removed c (sweep max-sites (c .parents) r))
   unfolding s q
   takes-out = record {
@@ -201,4 +240,5 @@ module _ (c : Classes) (W : WellMade c) (r : ℕ) where
     list = L;
     size = size;
     leaves = left;
+    direct = λ z v h e. direct z v h e;
   }

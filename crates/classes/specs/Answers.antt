@@ -9,7 +9,7 @@ use Rattle.paper.specs.declared.Found.{Found}
 use Rattle.paper.specs.declared.Found.the-variants.{At, Nothing}
 use Rattle.paper.specs.Words.{if_then_else_}
 use Rattle.paper.specs.Numbers.{max-sites, Outcome, done, refused}
-use Rattle.paper.specs.Classes.{Classes, Trail, find-in, Halved, find-mut, Rooted, enter, merge, Swept, Removed, remove-set-of}
+use Rattle.paper.specs.Classes.{Classes, Trail, find-in, Flattened, find-mut, Rooted, enter, merge, Swept, Removed, remove-set-of}
 use Rattle.classes.specs.declared.Trail as T
 use Rattle.classes.specs.declared.Looked.{Looked}
 use Rattle.classes.specs.declared.Looked.the-variants as L
@@ -40,7 +40,7 @@ abbrev pub looked : Outcome Trail → Looked
 looked (done t) = L.Got (trail-of t)
 looked (refused e) = L.Refused e
 
-abbrev pub sought-by : Classes → Outcome Halved → Classes × Sought
+abbrev pub sought-by : Classes → Outcome Flattened → Classes × Sought
 sought-by c (done h) = (h .after, S.Got (h .found))
 sought-by c (refused e) = (c, S.Refused e)
 

@@ -7,7 +7,8 @@ use lib.Dec.{eqb}
 use lib.ListN.{length}
 use Rattle.paper.specs.Words.{if_then_else_, keep, below, has}
 use Rattle.paper.specs.Numbers.{max-sites}
-use Rattle.paper.specs.Classes.{Classes, Removed}
+use Rattle.paper.specs.declared.Found.the-variants.{At}
+use Rattle.paper.specs.Classes.{Classes, Removed, up}
 use Rattle.classes.specs.Answers.{rep}
 use Rattle.classes.specs.Well.{WellMade, cnt, has-up, in-class, members, rep-of, dropped}
 
@@ -42,6 +43,8 @@ pub record TakesOut (c : Classes) (r : ℕ) (q : Removed) : Type 0 where
   pub list : q .members ≡ sites-below max-sites (c .parents) r
   pub size : length (q .members) ≡ members (c .parents) r
   pub leaves : (z : ℕ) → z < max-sites → has-up (q .after .parents) z ≡ (has-up (c .parents) z && not (has (q .members) z))
+  -- 02 [2]: every site that is still joined hangs directly under its representative
+  pub direct : (z s : ℕ) → z < max-sites → rep-of (q .after) z ≡ At s → up (q .after .parents) z ≡ s
 
 -- The parts hold the classes that a function to a member gives: as paper's labels do, by their lowest members.
 pub record Holds (p : List ℕ) (f : ℕ → ℕ) : Type 0 where

@@ -6,13 +6,13 @@ use Prim.Native.Nat.{ℕ}
 use lib.Dec.{eqb}
 use Rattle.paper.specs.Words.{has}
 use Rattle.paper.specs.Numbers.{Outcome, done, _>>=_}
-use Rattle.paper.specs.Classes.{Classes, no-classes, Halved, find-mut, merge, Removed, remove-set-of}
+use Rattle.paper.specs.Classes.{Classes, no-classes, Flattened, find-mut, merge, Removed, remove-set-of}
 
 -- c was made by calls, and j tells which sites were joined since each was last removed. (A refused call, and a plain find, make nothing.)
 pub data Made : Classes → (ℕ → Bool) → Type 0 where
   begun : Made no-classes (λ z. false)
   joined : {c d : Classes} {j : ℕ → Bool} (x y : ℕ) → Made c j → merge c x y ≡ done d → Made d (λ z. j z || (eqb z x || eqb z y))
-  sought : {c : Classes} {h : Halved} {j : ℕ → Bool} (x : ℕ) → Made c j → find-mut c x ≡ done h → Made (h .after) j
+  sought : {c : Classes} {h : Flattened} {j : ℕ → Bool} (x : ℕ) → Made c j → find-mut c x ≡ done h → Made (h .after) j
   taken : {c : Classes} {q : Removed} {j : ℕ → Bool} (x : ℕ) → Made c j → remove-set-of c x ≡ done q → Made (q .after) (λ z. j z && not (has (q .members) z))
 
 -- a run of joins

@@ -6,6 +6,7 @@ ghost use mathlib.Core.List.{List};
 ghost use Prim.Native.Nat.{ℕ, _<_};
 ghost use Rattle.paper.specs.Numbers.{max-sites};
 ghost use Rattle.paper.specs.Classes as C;
+ghost use Rattle.classes.specs.Well.{Leads};
 ghost use Rattle.classes.specs.Answers.{root-in, rep, looked, sought, joined, same};
 use paper::Found;
 use paper::Refusal;
@@ -88,31 +89,34 @@ fn trail_in(parents: &[u16; SITES], x: u16) -> Trail
     }
 }
 
-// The same, with each site passed put under its parent's parent: the updating find, on any number.
-pub fn halve_in(parents: &mut [u16; SITES], x: u16) -> Found
-    ensures { λ r. ⌜ (now (parents .exit), r) ≡ C.halve-in (now (parents .entry)) x ⌝ }
+// Hangs the sites on the way from x, n links long, directly under the root r. The last of them hangs there already.
+fn hang(parents: &mut [u16; SITES], x: u16, r: u16, n: u16)
+    requires { ⌜ Leads n (now parents) x r ⌝ }
+    ensures { λ _. ⌜ (let before = now (parents .entry) in
+        now (parents .exit) ≡ C.hung before (C.passed n before x) r) ⌝ }
 {
     let mut at = x;
-    let mut steps: u16 = 0;
-    while steps < NEVER {
+    let mut left = n;
+    while 1 < left {
         let i = size16(at);
-        if SITES <= i {
-            return Found::Nothing;
-        }
         let up = parents[i];
-        if up == at {
-            return Found::At(at);
-        }
-        let j = size16(up);
-        if SITES <= j {
-            return Found::Nothing;
-        }
-        let over = parents[j];
-        parents[i] = over;
-        at = over;
-        steps += 1;
+        parents[i] = r;
+        at = up;
+        left -= 1;
     }
-    Found::Nothing
+}
+
+// The updating find, on any number: the root, with every site on the way hung directly under it.
+pub fn flatten_in(parents: &mut [u16; SITES], x: u16) -> Found
+    ensures { λ r. ⌜ (now (parents .exit), r) ≡ C.flatten-in (now (parents .entry)) x ⌝ }
+{
+    let t = trail_in(parents, x);
+    let f = t.found;
+    let Found::At(r) = f else {
+        return Found::Nothing;
+    };
+    hang(parents, x, r, t.links);
+    Found::At(r)
 }
 
 // The site that stands for x's class: its root, or x itself where x is in no class.
@@ -145,7 +149,7 @@ pub fn find_mut_in(parents: &mut [u16; SITES], x: u16) -> Sought
     if SITES <= size16(x) {
         return Sought::Refused(Refusal::Unknown { site: x });
     }
-    Sought::Got(halve_in(parents, x))
+    Sought::Got(flatten_in(parents, x))
 }
 
 fn more(n: u16) -> u16
@@ -167,7 +171,7 @@ fn enter(parents: &mut [u16; SITES], ranks: &mut [u8; SITES], count: &mut u16, x
         let after = C.classes (now (parents .exit)) (now (ranks .exit)) (now (count .exit)) in
         root-in after a ≡ C.enter before x) ⌝ }
 {
-    let f = halve_in(parents, x);
+    let f = flatten_in(parents, x);
     let Found::At(root) = f else {
         let i = size16(x);
         parents[i] = x;

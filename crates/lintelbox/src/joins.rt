@@ -5,7 +5,7 @@ ghost use Prim.Native.Nat.{ℕ};
 ghost use Rattle.paper.specs.Numbers.{max-sites};
 ghost use Rattle.paper.specs.Classes as C;
 ghost use Rattle.classes.specs.Answers.{two-classes};
-ghost use Rattle.box_answers.specs.Border.{answer-words, said-by, left-by, has-room, both, answered, after, bit, trail-words, halved-words, removed-words, listed-in};
+ghost use Rattle.box_answers.specs.Border.{answer-words, said-by, left-by, has-room, both, answered, after, bit, trail-words, flattened-words, removed-words, listed-in};
 use box_answers::ANSWER;
 use box_answers::SHORT;
 use box_answers::calls::joined_said;
@@ -39,12 +39,12 @@ pub extern "C" fn lintel_find(parents: &[u16; SITES], site: u16, answer: &mut [u
     say(answer, looked_said(l))
 }
 
-// The representative, or NONE; the sites passed on the way go under their parents' parents.
+// The representative, or NONE; every site passed on the way is hung directly under it.
 #[no_mangle]
 pub extern "C" fn lintel_find_mut(parents: &mut [u16; SITES], site: u16, answer: &mut [u64]) -> u32
     ensures { λ r. ⌜ ((R : List ℕ) (n : ℕ) →
         let c = C.classes (now (parents .entry)) R n in
-        (now (answer .exit), r) ≡ answered (has-room (now (answer .entry)) answer-words) (now (answer .entry)) (said-by halved-words (C.find-mut c site))) ⌝ }
+        (now (answer .exit), r) ≡ answered (has-room (now (answer .entry)) answer-words) (now (answer .entry)) (said-by flattened-words (C.find-mut c site))) ⌝ }
     ensures { λ _. ⌜ ((R : List ℕ) (n : ℕ) →
         let c = C.classes (now (parents .entry)) R n in
         C.classes (now (parents .exit)) R n ≡ after (has-room (now (answer .entry)) answer-words) c (left-by c (λ h. h .after) (C.find-mut c site))) ⌝ }

@@ -93,15 +93,21 @@ impl Classes {
         Some((at, links))
     }
 
-    /// Each second site passed is hung under its parent's parent.
+    /// 02 [2]: every site passed is hung directly under the representative.
     pub fn find_mut(&mut self, x: usize) -> Option<usize> {
+        let (root, _) = self.find(x)?;
         let mut at = x;
-        while self.parents[at]? != at {
-            let up = self.parents[at]?;
-            self.parents[at] = self.parents[up];
-            at = self.parents[at]?;
+        while at != root {
+            at = self.parents[at].replace(root)?;
         }
-        Some(at)
+        Some(root)
+    }
+
+    /// "never exceed log2 of the class's members, rounded down": the most links that a find of x may report.
+    pub fn most_links(&self, x: usize) -> Option<usize> {
+        let (root, _) = self.find(x)?;
+        let members = (0..SITES).filter(|&y| self.find(y).is_some_and(|found| found.0 == root)).count();
+        Some(members.ilog2() as usize)
     }
 
     fn root(&mut self, x: usize) -> usize {

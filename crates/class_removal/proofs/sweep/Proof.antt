@@ -20,7 +20,7 @@ note-requires : tie.Need-note-requires Inv-loop μ-loop
 note-requires c κs = swept-room (c .before .before .before .before .loop .inv .1) (sweep-within _ _ _) (omega arith)
 
 loop-again : tie.Need-loop-again Inv-loop μ-loop
-loop-again c = (omega arith, sweep-turn _ _ _ _ _ _ _ (omega arith) _ _ _ _ (c .before .before .before .before .before .before .before .loop .inv .1) (c .before .before .before .before .halve-in .ensures) (c .before .before .note .ensures))
+loop-again c = (omega arith, sweep-turn _ _ _ _ _ _ _ (omega arith) _ _ _ _ (c .before .before .before .before .before .before .before .loop .inv .1) (c .before .before .before .before .flatten-in .ensures) (c .before .before .note .ensures))
 
 returns : tie.Need-returns Inv-loop μ-loop
 returns c =
