@@ -80,7 +80,7 @@ extern "C" {
 
 /* The numbers. */
 #define LINTEL_DONE 0
-#define LINTEL_LAYOUT 1            /* a frame or a body is not as laid out; told: the line */
+#define LINTEL_LAYOUT 1            /* a frame or a body is not as laid out; told: the line. Of lintel_load: an item, counted from 0 */
 #define LINTEL_UNKNOWN 2           /* unknown site, or a source not lower; told: that number */
 #define LINTEL_ITSELF 3            /* a site joined with itself; told: the site */
 #define LINTEL_UNREACHABLE 4       /* told: two sites */
@@ -148,8 +148,8 @@ uint32_t lintel_is_empty(const uint16_t *count);
 uint32_t lintel_add_site(uint8_t *sites, size_t sites_length, uint16_t count, const uint8_t *body, size_t body_length, uint32_t line,
                          uint64_t *answer, size_t answer_length);
 
-/* Writes the unfolding of a site to the start of `room`, and leaves the rest of it alone. answer: how many bytes. 2; 29 where it has over
- * LINTEL_UNFOLDING bytes or `room` less. The call with the deepest stack: LINTEL_STACK_UNFOLD. */
+/* Writes the unfolding of a site to the start of `room`, and leaves the rest of it alone. answer: how many bytes. LINTEL_SHORT where `sites` ends before
+ * the last of the `count` slots; 2; 29 where it has over LINTEL_UNFOLDING bytes or `room` less. The call with the deepest stack: LINTEL_STACK_UNFOLD. */
 uint32_t lintel_unfold(const uint8_t *sites, size_t sites_length, uint16_t count, uint16_t site, uint8_t *room, size_t room_length,
                        uint64_t *answer, size_t answer_length);
 
@@ -162,11 +162,12 @@ uint32_t lintel_unfold(const uint8_t *sites, size_t sites_length, uint16_t count
 
 /* Loads a rule into the set of the first `count` sites and the first `kept` rules. answer: how many sites there are then, and `kept` is to grow by one.
  * The sites that are new stand in their slots, the rule in stride `kept`. `items` has LINTEL_ITEM words for each of the `many` items: of a constraint
- * the site and its three words as in a stride, of an equality 65536 + one site, then the other, 0, 0.
- * Looked for in this order: LINTEL_SHORT, where `items` ends before its last item; 23, where `kept` is LINTEL_RULES or more, or `words` ends before the
- * end of stride `kept`; 20 told `count`, where `count` is over LINTEL_SITES; 24, where `many` is over LINTEL_ITEMS; 8; then the items as written, each 2, 22,
- * 4, 20; then 5, 4, 6, in the rounds 20, and 25, 26 as 01 says; last 20, where `sites` is too short for the sites that there are then, told: its slots and
- * one, and `many`. */
+ * the site and its three words as in a stride, of an equality 65536 + one site, then the other, 0, 0. Each number is within its width (sites, types, names
+ * and variants two bytes, fields one, a bool 0 or 1), and a word that the kind does not use is 0: any other words are not as laid out.
+ * Looked for in this order: LINTEL_SHORT, where `items` ends before its last item; 1, told the first of the `many` items that is not as laid out; 23,
+ * where `kept` is LINTEL_RULES or more, or `words` ends before the end of stride `kept`; 20 told `count`, where `count` is over LINTEL_SITES; 24, where
+ * `many` is over LINTEL_ITEMS; 8; then the items as written, each 2, 22, 4, 20; then 5, 4, 6, in the rounds 20, and 25, 26 as 01 says; last 20, where
+ * `sites` is too short for the sites that there are then, told: its slots and one, and `many`. */
 uint32_t lintel_load(uint8_t *sites, size_t sites_length, uint16_t count, uint64_t *words, size_t words_length, uint32_t kept, uint32_t place,
                      int64_t priority, const uint64_t *items, size_t items_length, uint8_t many, uint64_t *answer, size_t answer_length);
 

@@ -58,6 +58,62 @@ static void slots(void) {
     so(marked(room, 6, sizeof room) == sizeof room, "the room past an unfolding is left alone");
     so(lintel_unfold(sites, sizeof sites, 2, 1, room, 5, answer, LINTEL_ANSWER) == LINTEL_UNFOLDING_TOO_LONG && answer[0] == 6 && answer[1] == 0, "no room for it: the room and one");
     so(lintel_unfold(sites, sizeof sites, 2, 0, room, 0, answer, LINTEL_ANSWER) == LINTEL_UNFOLDING_TOO_LONG && answer[0] == 1, "into no room: one");
+    memset(room, 0xA5, sizeof room);
+    answer[0] = answer[1] = 77;
+    so(lintel_unfold(sites, 2 * LINTEL_SLOT - 1, 2, 1, room, sizeof room, answer, LINTEL_ANSWER) == LINTEL_SHORT, "unfold: short where the slots end before it");
+    so(lintel_unfold(sites, LINTEL_SLOT, 2, 0, room, sizeof room, answer, LINTEL_ANSWER) == LINTEL_SHORT, "unfold: or before another of the set's");
+    so(lintel_unfold(sites, LINTEL_SLOT, 2, 900, room, sizeof room, answer, LINTEL_ANSWER) == LINTEL_SHORT, "unfold: and before 2");
+    so(answer[0] == 77 && answer[1] == 77 && marked(room, 0, sizeof room) == sizeof room, "unfold: which leaves the room and the answer alone");
+    so(lintel_unfold(sites, 2 * LINTEL_SLOT, 2, 1, room, sizeof room, answer, LINTEL_ANSWER) == LINTEL_DONE && answer[0] == 6, "unfold: slots for all are enough");
+}
+
+/* Words that no item packs to. */
+static const uint64_t strays[][LINTEL_ITEM] = {
+    {0, 65536 + 5, 3, 1},     /* a structure with a fourth word */
+    {0, 65536 + 5, 257, 0},   /* one of 257 fields */
+    {0, 5, 70000, 1},         /* a variant of more than two bytes */
+    {0, 5, 1, 257},           /* one of 257 fields */
+    {0, 2 * 65536 + 5, 2, 0}, /* a bool of 2 */
+    {0, 2 * 65536 + 5, 1, 1}, /* a bool with a fourth word */
+    {0, 4 * 65536 + 5, 1, 0}, /* a name with a third word */
+    {0, 5 * 65536 + 5, 0, 0}, /* Some with a type */
+    {0, 5 * 65536, 0, 1},     /* Some with a fourth word */
+    {0, 6 * 65536, 0, 0},     /* a kind that is none */
+    {0, UINT64_MAX, 0, 0},
+    {65536, 65536 + 2, 0, 0}, /* an equality with a site of more than two bytes */
+    {2 * 65536, 1, 0, 0},
+    {UINT64_MAX, 1, 0, 0},
+    {65536, 1, 1, 0},         /* one with a third word, and with a fourth */
+    {65536, 1, 0, 1},
+};
+
+/* Each of them is refused with 1, whatever else is wrong, told the first such item, and nothing is changed. */
+static void layouts(void) {
+    static uint64_t words_before[LINTEL_KEPT_ROOM], items_before[MANY * LINTEL_ITEM];
+    static uint8_t sites_before[LINTEL_SITES_ROOM];
+    static const uint64_t fine[] = {900, 3 * 65536 + 3, UINT64_MAX, 5};
+    const size_t all = LINTEL_KEPT_ROOM, three = 3 * LINTEL_ITEM;
+    memcpy(words_before, words, sizeof words);
+    memcpy(sites_before, sites, sizeof sites);
+    for (size_t i = 0; i < sizeof strays / sizeof *strays; i++) {
+        memset(items, 0, sizeof items);
+        memcpy(items, fine, sizeof fine);
+        memcpy(items + LINTEL_ITEM, strays[i], sizeof strays[i]);
+        memcpy(items + 2 * LINTEL_ITEM, strays[i], sizeof strays[i]);
+        memcpy(items_before, items, sizeof items);
+        so(load(2, all, 1, 9, three, 3) == LINTEL_LAYOUT && answer[0] == 1 && answer[1] == 0, "load: 1, told the first item that is not as laid out");
+        so(load(LINTEL_SITES + 1, 0, LINTEL_RULES, 7, three, 3) == LINTEL_LAYOUT && answer[0] == 1, "load: 1 before 20, 23 and 8");
+        so(load(2, all, 1, 9, three - 1, 3) == LINTEL_SHORT, "load: and short before 1");
+        so(load(2, all, 1, 9, LINTEL_ITEM, 1) == LINTEL_UNKNOWN && answer[0] == 900, "load: words past the items are not looked at");
+        memcpy(items, strays[i], sizeof strays[i]);
+        so(load(2, all, 1, 9, LINTEL_ITEM, 1) == LINTEL_LAYOUT && answer[0] == 0, "load: items count from 0");
+        memcpy(items, fine, sizeof fine);
+        so(!memcmp(items, items_before, sizeof items) && !memcmp(words, words_before, sizeof words) && !memcmp(sites, sites_before, sizeof sites),
+           "load: 1 changes nothing");
+    }
+    memset(items, 0, sizeof items);
+    memcpy(items + LINTEL_ITEMS * LINTEL_ITEM, strays[0], sizeof strays[0]);
+    so(load(2, all, 1, 9, sizeof items / 8, MANY) == LINTEL_LAYOUT && answer[0] == LINTEL_ITEMS, "load: 1 for an item past the most, before 24 for their count");
 }
 
 static void rules(void) {
@@ -128,7 +184,8 @@ int main(void) {
     classes();
     slots();
     rules();
+    layouts();
     sheets();
     printf("header: %d sentences tried, wrong: %d\n", tried, wrong);
-    return wrong || tried < 42;
+    return wrong || tried < 140;
 }

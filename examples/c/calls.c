@@ -72,6 +72,7 @@ static void set_of_sites(void) {
     show("unfold 3", lintel_unfold(sites, sizeof sites, n, 3, room, sizeof room, answer, LINTEL_ANSWER));
     site_count = n;
     show("unfold 2, room 3", lintel_unfold(sites, sizeof sites, n, 2, room, 3, answer, LINTEL_ANSWER));
+    show("unfold 2, two slots", lintel_unfold(sites, 2 * LINTEL_SLOT, n, 2, room, sizeof room, answer, LINTEL_ANSWER));
 }
 
 /* Loads a rule of `many` items; where it is kept, counts it. */
@@ -93,6 +94,7 @@ static void set_of_rules(void) {
     static const uint64_t five[] = {INTEGER(0, 5)}, six[] = {INTEGER(0, 6)}, five_six[] = {INTEGER(0, 5), INTEGER(1, 6)};
     static const uint64_t torn[] = {EQUAL(0, 1), INTEGER(0, 5), INTEGER(1, 6)}, round[] = {STRUCTURE(0, 1), EQUAL(0, 2)};
     static const uint64_t hanging[] = {INTEGER(2, 1)}, unknown[] = {INTEGER(900, 1)}, two[] = {EQUAL(0, 1), STRUCTURE(0, 2)};
+    static const uint64_t uncleared[] = {INTEGER(0, 5), 1, 65536 + 7, 2, 1};
     rule("load 10", 10, 1, 1, five);
     rule("load 20", 20, 0, 2, five_six);
     rule("load 30", 30, 0, 1, five);
@@ -103,6 +105,7 @@ static void set_of_rules(void) {
     rule("load 70, hanging", 70, 0, 1, hanging);
     rule("load 80, unknown", 80, 0, 1, unknown);
     rule("load 90, two fields", 90, 0, 2, two);
+    rule("load 95, a word uncleared", 95, 0, 2, uncleared);
     show("load, items torn", lintel_load(sites, sizeof sites, site_count, words, sizeof words / sizeof *words, kept, 95, 0, two, 7, 2, answer, LINTEL_ANSWER));
     show("total of 90", lintel_total_constraints(words, sizeof words / sizeof *words, kept - 1, answer, LINTEL_ANSWER));
     size_t length = 4 * LINTEL_STRIDE;

@@ -6,8 +6,9 @@ use Prim.Native.Nat.{ℕ, suc, _+_, _<_, _≤_, min}
 use native.Mathlib.Omega.{arith}
 use lib.ListN.{length, getD, set, take, drop}
 use lib.Dec.{ltb, leb}
-use borrow.Author.Tests.{le-leb, lt-leb, eq-eqb, ne-eqb}
+use borrow.Author.Tests.{le-leb, lt-leb, lt-ltb, le-ltb, eq-eqb, ne-eqb}
 use Rattle.paper.specs.declared.Refusal.{Refusal}
+use Rattle.paper.specs.declared.Refusal.the-variants.{Layout}
 use Rattle.paper.specs.Numbers.{max-sites, number, told, Outcome, done, refused}
 use Rattle.rule_words.specs.Stored.{base, stride}
 use Rattle.paper.specs.Classes.{Classes, classes, is-empty, Trail, Flattened, Removed, merge, remove-set-of}
@@ -21,13 +22,14 @@ use Rattle.paper.specs.Words.{if_then_else_}
 use Rattle.sites.specs.Slots.{numbered-as, unfolded-as}
 use Rattle.paper.specs.declared.Rule.{Rule}
 use Rattle.paper.specs.Loading.{Set}
+use Rattle.item_layout.specs.Layout.{stray}
 use Rattle.rule_load.specs.declared.Loaded.{Loaded}
 use Rattle.rule_load.specs.Whole.{load-in, loaded-as, sites-after, words-after}
 use Rattle.paper.specs.declared.Verdict.{Verdict as Edged}
 use Rattle.paper.specs.declared.Verdict.the-variants as A
 use Rattle.term_table.specs.Table.{left, bare, added, no-marks, listed}
 use Rattle.box_answers.specs.declared.Said.{Said}
-use Rattle.box_answers.specs.Loads.{loaded-said}
+use Rattle.box_answers.specs.Loads.{loaded-said, handed}
 use Rattle.box_answers.specs.Telling.{one-told, two-told, tells}
 use Rattle.box_answers.specs.Border.{short, answer-words, said, said-by, left-by, has-room, both, has-rule, has-rules, answered, after, bit, trail-words, flattened-words, removed-words, added-words, listed-in, looked-said, sought-said, joined-said, same-said, taken-said, numbered-said, unfolded-said, added-said}
 
@@ -190,6 +192,35 @@ load-sites m n ws k r q x p e = e ∙ ap (λ (y : Rule). sites-after m n (load-i
 pub load-words : (m : List ℕ) (n : ℕ) (ws : List ℕ) (k : ℕ) (r q : Rule) (x : List ℕ) → r ≡ q →
     x ≡ words-after ws k (load-in m n ws k r) → x ≡ words-after ws k (load-in m n ws k q)
 load-words m n ws k r q x p e = e ∙ ap (λ (y : Rule). words-after ws k (load-in m n ws k y)) p
+
+-- items that are not as laid out, and those that are
+module _ (ws : List ℕ) (many k : ℕ) (e : k ≡ stray ws many) where
+  strayed : {A : Type 0} (o : Outcome A) → k < many → handed ws many o ≡ refused (Layout k)
+  unfolding handed
+  strayed o h = rw (← e, lt-ltb k many h)
+
+  kept-straight : {A : Type 0} (o : Outcome A) → many ≤ k → handed ws many o ≡ o
+  unfolding handed
+  kept-straight o h = rw (← e, le-ltb k many h)
+
+  pub stray-said : (o : Outcome Set) (s : Said) → k < many → s ≡ said (number (Layout k)) (told (Layout k)) → s ≡ said-by (λ g. length (g .sites) ∷ []) (handed ws many o)
+  unfolding said-by
+  stray-said o s h p = p ∙ sym (ap (λ (x : Outcome Set). said-by (λ g. length (g .sites) ∷ []) x) (strayed o h))
+
+  pub stray-sites : (m : List ℕ) (n : ℕ) (o : Outcome Set) → k < many → m ≡ sites-after m n (handed ws many o)
+  stray-sites m n o h = sym (ap (sites-after m n) (strayed o h))
+
+  pub stray-words : (m : List ℕ) (n : ℕ) (o : Outcome Set) → k < many → m ≡ words-after m n (handed ws many o)
+  stray-words m n o h = sym (ap (words-after m n) (strayed o h))
+
+  pub straight-said : (o : Outcome Set) (s : Said) → many ≤ k → s ≡ said-by (λ g. length (g .sites) ∷ []) o → s ≡ said-by (λ g. length (g .sites) ∷ []) (handed ws many o)
+  straight-said o s h p = p ∙ sym (ap (λ (x : Outcome Set). said-by (λ g. length (g .sites) ∷ []) x) (kept-straight o h))
+
+  pub straight-sites : (m : List ℕ) (n : ℕ) (o : Outcome Set) (x : List ℕ) → many ≤ k → x ≡ sites-after m n o → x ≡ sites-after m n (handed ws many o)
+  straight-sites m n o x h p = p ∙ sym (ap (sites-after m n) (kept-straight o h))
+
+  pub straight-words : (m : List ℕ) (n : ℕ) (o : Outcome Set) (x : List ℕ) → many ≤ k → x ≡ words-after m n o → x ≡ words-after m n (handed ws many o)
+  straight-words m n o x h p = p ∙ sym (ap (words-after m n) (kept-straight o h))
 
 -- ---- the few that are left
 

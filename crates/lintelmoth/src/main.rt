@@ -1,7 +1,15 @@
 // The program: reads sheets, or a script of class calls, and writes what the library answers. Here are arguments, files and buffers alone.
 mod words;
 
+use item_words::ITEMS_ROOM;
+use paper::SITES;
 use run_answers::How;
+use run_script::LINE;
+use run_script::ROOM;
+use run_sheets::OUT;
+use sheet_read::KEPT_ROOM;
+use sheet_read::SITES_ROOM;
+use sheet_reader::STEP_ROOM;
 use words::Verb;
 
 fn usage(fd: i32) {
@@ -77,8 +85,52 @@ fn on_sheets(how: How, many: bool, i: usize) {
     if fd < 0 {
         return;
     }
-    run_sheets::run(fd, how, many);
+    answer_sheets(fd, how, many);
     libc::close(fd);
+}
+
+// The sheets of an open file, in memory that is made here.
+fn answer_sheets(fd: i32, how: How, many: bool) {
+    let mut m = [0u8; SITES_ROOM];
+    let mut words = [0u64; KEPT_ROOM];
+    let mut items = [0u64; ITEMS_ROOM];
+    let mut table = term_table::empty();
+    let mut room = [0u8; STEP_ROOM];
+    let mut out = [0u8; OUT];
+    let mut bytes = io::large_buffer();
+    run_sheets::run_in(
+        fd,
+        how,
+        many,
+        &mut m,
+        &mut words,
+        &mut items,
+        &mut table,
+        &mut room,
+        &mut out,
+        &mut bytes,
+    );
+}
+
+// A script of class calls of an open file, likewise.
+fn answer_script(fd: i32) {
+    let mut parents = [0u16; SITES];
+    let mut ranks = [0u8; SITES];
+    let mut count: u16 = 0;
+    let mut members = [0u16; SITES];
+    let mut line = [0u8; LINE];
+    let mut out = [0u8; ROOM];
+    let mut bytes = io::large_buffer();
+    run_script::run_in(
+        &mut parents,
+        &mut ranks,
+        &mut count,
+        &mut members,
+        &mut line,
+        &mut out,
+        &mut bytes,
+        fd,
+    );
 }
 
 fn on_script(i: usize) {
@@ -86,7 +138,7 @@ fn on_script(i: usize) {
     if fd < 0 {
         return;
     }
-    run_script::run(fd);
+    answer_script(fd);
     libc::close(fd);
 }
 

@@ -1,6 +1,29 @@
 // Replays stored sheets: the sample and every ruling, with the findings that `check` has to write for each.
+use item_words::ITEMS_ROOM;
 use run_answers::How;
+use run_sheets::OUT;
+use sheet_read::KEPT_ROOM;
+use sheet_read::SITES_ROOM;
+use sheet_reader::STEP_ROOM;
 
 fn main() {
-    run_sheets::run(libc::STDIN_FILENO, How::Check, true);
+    let mut m = [0u8; SITES_ROOM];
+    let mut words = [0u64; KEPT_ROOM];
+    let mut items = [0u64; ITEMS_ROOM];
+    let mut table = term_table::empty();
+    let mut room = [0u8; STEP_ROOM];
+    let mut out = [0u8; OUT];
+    let mut bytes = io::large_buffer();
+    run_sheets::run_in(
+        libc::STDIN_FILENO,
+        How::Check,
+        true,
+        &mut m,
+        &mut words,
+        &mut items,
+        &mut table,
+        &mut room,
+        &mut out,
+        &mut bytes,
+    );
 }

@@ -1,9 +1,10 @@
 // Runs a script of class calls from a file and writes one answer a line to standard output. A line that is no call is answered `bad` with its number, and
 // ends the script. What a line means is class_script, what it is answered tell_reply; here is reading and writing.
 ghost use mathlib.Core.Path.{_≡_};
+ghost use Prim.Native.Nat.{_<_};
 ghost use Rattle.paper.specs.Classes as C;
 ghost use Rattle.tell_text.specs.Written.{wrote};
-ghost use Rattle.run_script.specs.Said.{is-bad, replied, spared, Answered, kept-line, kept-used, Held, stand, Took, Fed, Read, Ran, unended-text};
+ghost use Rattle.run_script.specs.Said.{is-bad, replied, spared, InRange, line-text, Answered, kept-line, kept-used, Held, stand, Took, Fed, Read, Ran, unended-text, Whole};
 use class_script::Reply;
 use paper::SITES;
 use tell_reply::put_reply;
@@ -12,10 +13,10 @@ use tell_text::put_decimal;
 use tell_text::put_text;
 
 // A line of a script has at most this many bytes.
-const LINE: usize = 256;
+pub const LINE: usize = 256;
 
-// Room for answers, and where they are written out: one answer has at most 1,024 numbers of four digits.
-const ROOM: usize = 65536;
+// Room for answers, and where they are written out: one answer has at most 1,024 numbers of four digits, which what is left then holds (proofs/Fitting.antt).
+pub const ROOM: usize = 65536;
 
 const FULL: usize = 32768;
 
@@ -77,6 +78,15 @@ fn spare(out: &[u8], n: usize) -> usize
     n
 }
 
+// The answer and its LF, behind the first n bytes: how many are filled then. The types say how long its numbers can be.
+fn put_answer(out: &mut [u8], n: usize, members: &[u16], r: Reply, number: u64) -> usize
+    ensures { λ m. ⌜ (now (out .exit), m) ≡ wrote (now (out .entry), n) (line-text (now (members .entry)) number r) ⌝ }
+    ensures { λ _. ⌜ InRange r × (number < 18446744073709551616) ⌝ }
+{
+    let m = put_reply(out, n, members, r, number);
+    put(out, m, b'\n')
+}
+
 // A line has ended.
 fn end_line(
     parents: &mut [u16; SITES],
@@ -93,9 +103,8 @@ fn end_line(
 {
     let r = reply_to(parents, ranks, count, members, line, p.used);
     let number = p.line;
-    let n = put_reply(out, p.filled, members, r, number);
-    let m = put(out, n, b'\n');
-    let filled = spare(out, m);
+    let n = put_answer(out, p.filled, members, r, number);
+    let filled = spare(out, n);
     let bad = is_bad(r);
     Place {
         used: 0,
@@ -253,33 +262,29 @@ fn put_unended(out: &mut [u8], p: Place) -> usize
     put(out, m, b'\n')
 }
 
-// Answers the script that the open file fd has.
-pub fn run(fd: i32) {
-    let mut parents = [0u16; SITES];
-    let mut ranks = [0u8; SITES];
-    let mut count: u16 = 0;
-    classes::clear_in(&mut parents, &mut ranks, &mut count);
-    let mut members = [0u16; SITES];
-    let mut line = [0u8; LINE];
-    let mut out = [0u8; ROOM];
-    let mut bytes = io::large_buffer();
+// Answers the script that the open file fd has, in lent memory: `line` holds LINE bytes and `out` ROOM, so that no answer is cut.
+pub fn run_in(
+    parents: &mut [u16; SITES],
+    ranks: &mut [u8; SITES],
+    count: &mut u16,
+    members: &mut [u16],
+    line: &mut [u8],
+    out: &mut [u8],
+    bytes: &mut [u8],
+    fd: i32,
+)
+    ensures { λ _. ⌜ (let after = C.classes (now (parents .exit)) (now (ranks .exit)) (now (count .exit)) in
+        let lent = Whole (now (members .entry)) (now (line .entry)) (now (out .entry)) in
+        lent after (now (members .exit)) (now (line .exit)) (now (out .exit))) ⌝ }
+{
+    classes::clear_in(parents, ranks, count);
     let p = Place {
         used: 0,
         line: 1,
         filled: 0,
         goes: true,
     };
-    let q = run_all(
-        &mut parents,
-        &mut ranks,
-        &mut count,
-        &mut members,
-        &mut line,
-        &mut out,
-        &mut bytes,
-        p,
-        fd,
-    );
-    let n = put_unended(&mut out, q);
-    flush(&out, n);
+    let q = run_all(parents, ranks, count, members, line, out, bytes, p, fd);
+    let n = put_unended(out, q);
+    flush(out, n);
 }

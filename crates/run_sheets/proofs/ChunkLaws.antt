@@ -77,5 +77,5 @@ more-read how many p s t u g e h w c = record { chunks = w .chunks ++ (p ∷ [])
 pub all-read : (how : How) (many : Bool) (s u : Standing) (g h : Held) → g ≡ no-line → Read how many g s u h → Read how many no-line s u h
 all-read how many s u g h e w = subst (λ (z : Held). Read how many z s u h) e w
 
-pub ran-here : (how : How) (many : Bool) (m w i room out room′ out′ : List ℕ) (t : Square) (f : Flow) (u : Standing) (h : Held) (n : ℕ) → f ≡ fresh-flow 0 → t ≡ no-edges → Read how many no-line (stand f (lent m w i t) room out) u h → Closed how (u .flow .reader) (u .flow .marks) h (u .memory .table) (u .room) room′ (u .out) out′ n → Ran how many (lent m w i no-edges) room out room′ out′
-ran-here how many m w i room out room′ out′ t f u h n e g r c = record { last = u; held = h; filled = n; read = subst (λ (z : Flow). Read how many no-line (stand z (lent m w i no-edges) room out) u h) e (subst (λ (z : Square). Read how many no-line (stand f (lent m w i z) room out) u h) g r); closed = c }
+pub ran-here : (how : How) (many : Bool) (m w i room out room′ out′ : List ℕ) (t : Square) (f : Flow) (u : Standing) (h : Held) (n : ℕ) → f ≡ fresh-flow 0 → t ≡ no-edges → Read how many no-line (stand f (lent m w i t) room out) u h → Closed how (u .flow .reader) (u .flow .marks) h (u .memory .table) (u .room) room′ (u .out) out′ n → Ran how many (lent m w i no-edges) (u .memory) room out room′ out′
+ran-here how many m w i room out room′ out′ t f u h n e g r c = record { last = u; held = h; filled = n; read = subst (λ (z : Flow). Read how many no-line (stand z (lent m w i no-edges) room out) u h) e (subst (λ (z : Square). Read how many no-line (stand f (lent m w i z) room out) u h) g r); closed = c; memory = refl }

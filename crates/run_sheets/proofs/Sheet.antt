@@ -413,5 +413,5 @@ sheet-check ps k room out u h room′ out′ n roomy t a b c w x =
     ∙ (sym (lines-append (f .found) (ended (f .reading))) ∙ sym (findings-fed (joined ps)))))
 
 -- of a run: its chunks are a sheet, and this is all that it writes out
-pub run-check : (k : Lent) (room out room′ out′ : List ℕ) (x : Ran how.Check false k room out room′ out′) → Roomy k → k .table ≡ no-edges → step-room ≤ length room → length room ≤ need → need < length out → sent-all (x .read .chunks) no-line (stand (fresh-flow 0) k room out) (x .last) (x .held) (x .read .took) ++ (written-out (x .last .out) (x .last .flow .marks .filled) ++ take (x .filled) out′) ≡ findings (joined (x .read .chunks))
-run-check k room out room′ out′ x roomy t a b c = sheet-check (x .read .chunks) k room out (x .last) (x .held) room′ out′ (x .filled) roomy t a b c (x .read .took) (x .closed)
+pub run-check : (k k′ : Lent) (room out room′ out′ : List ℕ) (x : Ran how.Check false k k′ room out room′ out′) → Roomy k → k .table ≡ no-edges → step-room ≤ length room → length room ≤ need → need < length out → sent-all (x .read .chunks) no-line (stand (fresh-flow 0) k room out) (x .last) (x .held) (x .read .took) ++ (written-out (x .last .out) (x .last .flow .marks .filled) ++ take (x .filled) out′) ≡ findings (joined (x .read .chunks))
+run-check k k′ room out room′ out′ x roomy t a b c = sheet-check (x .read .chunks) k room out (x .last) (x .held) room′ out′ (x .filled) roomy t a b c (x .read .took) (x .closed)

@@ -41,10 +41,11 @@ pub record Read (how : How) (many : Bool) (g : Held) (s u : Standing) (h : Held)
   pub chunks : List (List ℕ)
   pub took : Took-all how many chunks g s u h
 
--- from the first byte to the last answer: the buffer's first `filled` bytes are still to be written out
-pub record Ran (how : How) (many : Bool) (k : Lent) (room out room′ out′ : List ℕ) : Type 0 where
+-- from the first byte to the last answer: the memory is that after the last line, and the buffer's first `filled` bytes are still to be written out
+pub record Ran (how : How) (many : Bool) (k k′ : Lent) (room out room′ out′ : List ℕ) : Type 0 where
   pub last : Standing
   pub held : Held
   pub filled : ℕ
   pub read : Read how many no-line (stand (fresh-flow 0) k room out) last held
   pub closed : Closed how (last .flow .reader) (last .flow .marks) held (last .memory .table) (last .room) room′ (last .out) out′ filled
+  pub memory : k′ ≡ last .memory

@@ -7,7 +7,6 @@ ghost use Rattle.sheet_lines.specs.Held.{no-line};
 ghost use Rattle.term_table.specs.Table.{no-edges};
 ghost use Rattle.sheet_reader.specs.State.{lent};
 ghost use Rattle.run_sheets.specs.Chunks.{stand, Took-lines, Read, Ran};
-use item_words::ITEMS_ROOM;
 use paper::TERMS;
 use run_answers::How;
 use run_lines::Flow;
@@ -19,13 +18,10 @@ use sheet_lines::cut_line;
 use sheet_lines::line_of;
 use sheet_lines::nothing;
 use sheet_lines::part;
-use sheet_read::KEPT_ROOM;
-use sheet_read::SITES_ROOM;
-use sheet_reader::STEP_ROOM;
 use term_table::WORDS;
 
 // Room for answers.
-const OUT: usize = 1048576;
+pub const OUT: usize = 1048576;
 
 // Where a chunk leaves off: what is held of its last line too.
 struct Left {
@@ -128,8 +124,8 @@ fn read_all(
     g
 }
 
-// From the first byte to the last answer, in lent memory.
-fn run_in(
+// Answers the sheets that the open file fd has, one sheet, or many with a line ---- between two, in lent memory: from the first byte to the last answer.
+pub fn run_in(
     fd: i32,
     how: How,
     many: bool,
@@ -143,7 +139,8 @@ fn run_in(
 )
     ensures { λ _.
         let before = lent (now (m .entry)) (now (words .entry)) (now (items .entry)) no-edges in
-        ⌜ Ran how many before (now (room .entry)) (now (out .entry)) (now (room .exit)) (now (out .exit)) ⌝ }
+        let after = lent (now (m .exit)) (now (words .exit)) (now (items .exit)) (now (table .exit)) in
+        ⌜ Ran how many before after (now (room .entry)) (now (out .entry)) (now (room .exit)) (now (out .exit)) ⌝ }
 {
     let f = fresh(table, 0);
     let g = read_all(fd, how, many, f, m, words, items, table, room, out, bytes);
@@ -153,31 +150,4 @@ fn run_in(
     let held = g.held;
     let n = end_sheet(how, reader, marks, held, table, room, out);
     io::write_all(libc::STDOUT_FILENO, part(out, 0, n));
-}
-
-fn answers() -> [u8; OUT] {
-    [0; OUT]
-}
-
-// Answers the sheets that the open file fd has: one sheet, or many with a line ---- between two.
-pub fn run(fd: i32, how: How, many: bool) {
-    let mut m = [0u8; SITES_ROOM];
-    let mut words = [0u64; KEPT_ROOM];
-    let mut items = [0u64; ITEMS_ROOM];
-    let mut table = term_table::empty();
-    let mut room = [0u8; STEP_ROOM];
-    let mut out = answers();
-    let mut bytes = io::large_buffer();
-    run_in(
-        fd,
-        how,
-        many,
-        &mut m,
-        &mut words,
-        &mut items,
-        &mut table,
-        &mut room,
-        &mut out,
-        &mut bytes,
-    );
 }

@@ -59,6 +59,7 @@ fn sites(calls: &mut Calls) -> Set {
     println!("{}", room[..calls.answer[0] as usize].iter().map(|b| format!("{b:02X}")).collect::<String>());
     calls.show("unfold 3", |a| unfold(&m, n, 3, &mut room, a));
     calls.show("unfold 2, room 3", |a| unfold(&m, n, 2, &mut room[..3], a));
+    calls.show("unfold 2, two slots", |a| unfold(&m[..2 * SLOT], n, 2, &mut room, a));
     Set { sites: m, words: vec![0; (RULES + 1) * STRIDE], count: n, kept: 0 }
 }
 
@@ -109,6 +110,7 @@ fn rules(calls: &mut Calls, set: &mut Set) {
     set.load(calls, "load 80, unknown", 80, 0, &[integer(900, 1)]);
     let two = [equal(0, 1), structure(0, 2)];
     set.load(calls, "load 90, two fields", 90, 0, &two);
+    set.load(calls, "load 95, a word uncleared", 95, 0, &[integer(0, 5), [1, 65536 + 7, 2, 1]]);
     calls.show("load, items torn", |a| {
         load(&mut set.sites, set.count, &mut set.words, set.kept, 95, 0, &two.as_flattened()[..7], 2, a)
     });

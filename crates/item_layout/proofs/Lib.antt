@@ -1,0 +1,2 @@
+-- Words as laid out.
+pub mod Laying
