@@ -4,10 +4,10 @@ use Rattle.run_answers.proofs.put_line_explained.Statement.{statement}
 use Rattle.run_answers.proofs.put_line_explained.Tie as tie
 
 returns : tie.Need-returns
-returns c = why-line _ _ _ _ _ (@why-of .ensures) (@v .given .1) (@put-why .ensures)
+returns c = why-line _ _ _ _ _ (c .before .before .before .before .before .before .before .why-of .ensures) (c .before .before .before .before .before .v .given .1) (c .before .before .put-why .ensures)
 
 returns-2 : tie.Need-returns-2
-returns-2 c = other-line _ _ _ _ _ (@why-of .ensures) (@v-left .given .1) (@put-all-explained .ensures)
+returns-2 c = other-line _ _ _ _ _ (c .before .before .before .before .before .before .why-of .ensures) (c .before .before .before .before .enum-told .given .1) (c .before .before .put-all-explained .ensures)
 
 pub put-line-explained-spec : {M : Type 1} → statement M
 put-line-explained-spec =
@@ -18,6 +18,7 @@ put-line-explained-spec =
     (λ c κs. search needs)
     (λ c. search needs)
     returns
+    (λ c. search needs)
     (λ c κs. search needs)
     (λ c. search needs)
     returns-2)
