@@ -47,15 +47,15 @@ keep-last f (x ∷ xs) y = go (f x) refl (f y) refl (keep-last f xs y)
     go false e true d i = rw (e, keep) i
     go false e false d i = rw (e, keep) i
 
-sites-more : (k : ℕ) (p : List ℕ) (r : ℕ) → sites-below (suc k) p r ≡ (if in-class p r k then sites-below k p r ++ (k ∷ []) else sites-below k p r)
+pub sites-more : (k : ℕ) (p : List ℕ) (r : ℕ) → sites-below (suc k) p r ≡ (if in-class p r k then sites-below k p r ++ (k ∷ []) else sites-below k p r)
 unfolding sites-below below
 sites-more k p r = keep-last (in-class p r) (below k (λ z. z)) k
 
-sites-none : (p : List ℕ) (r : ℕ) → sites-below 0 p r ≡ []
+pub sites-none : (p : List ℕ) (r : ℕ) → sites-below 0 p r ≡ []
 unfolding sites-below below keep
 sites-none p r = refl
 
-sites-count : (k : ℕ) (p : List ℕ) (r : ℕ) → length (sites-below k p r) ≡ cnt (in-class p r) k
+pub sites-count : (k : ℕ) (p : List ℕ) (r : ℕ) → length (sites-below k p r) ≡ cnt (in-class p r) k
 unfolding cnt
 sites-count zero p r = ap length (sites-none p r)
 sites-count (suc k) p r = ap length (sites-more k p r) ∙ go (in-class p r k) (sites-count k p r)
@@ -83,7 +83,7 @@ has-none : (z : ℕ) → has [] z ≡ false
 unfolding has any
 has-none z = refl
 
-sites-has : (k : ℕ) (p : List ℕ) (r z : ℕ) → has (sites-below k p r) z ≡ (ltb z k && in-class p r z)
+pub sites-has : (k : ℕ) (p : List ℕ) (r z : ℕ) → has (sites-below k p r) z ≡ (ltb z k && in-class p r z)
 sites-has zero p r z = ap (λ (l : List ℕ). has l z) (sites-none p r) ∙ (has-none z ∙ sym (ap (λ (b : Bool). b && in-class p r z) (le-ltb z 0 (omega arith))))
 sites-has (suc k) p r z = ap (λ (l : List ℕ). has l z) (sites-more k p r) ∙ go (in-class p r k) refl (sites-has k p r z) (ℕ-discrete z k)
   where
@@ -136,12 +136,12 @@ sweep-direct (suc k) p R n r W h z l =
 
 -- ---- taking out
 
-unjoin-length : (ms p : List ℕ) → length (unjoin p ms) ≡ length p
+pub unjoin-length : (ms p : List ℕ) → length (unjoin p ms) ≡ length p
 unfolding unjoin
 unjoin-length [] p = refl
 unjoin-length (y ∷ ms) p = unjoin-length ms (set p y max-sites) ∙ length-set p y max-sites
 
-unjoin-up : (ms p : List ℕ) (z : ℕ) → z < length p → up (unjoin p ms) z ≡ (if has ms z then max-sites else up p z)
+pub unjoin-up : (ms p : List ℕ) (z : ℕ) → z < length p → up (unjoin p ms) z ≡ (if has ms z then max-sites else up p z)
 unfolding unjoin has any
 unjoin-up [] p z h = refl
 unjoin-up (y ∷ ms) p z h =
