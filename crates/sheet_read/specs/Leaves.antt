@@ -19,6 +19,7 @@ use Rattle.sheet_ended.specs.Sets.{end-room, found-text, said-at, written-after
 use Rattle.sheet_reader.specs.State.{Lent, lent, step-room, sites-room, kept-room, items-room}
 use Rattle.sheet_reader.specs.Answers.{is-outside}
 use Rattle.sheet_reader.specs.Leaves.{After}
+use Rattle.sheet_reader.specs.declared.Stepped.{Stepped}
 use Rattle.sheet_step.specs.Leaves.{step-in}
 use Rattle.sheet_read.specs.declared.State.{State}
 use Rattle.sheet_read.specs.declared.Fed.{Fed}
@@ -43,9 +44,11 @@ fed-to s read to = record { state = s; read = read; to = to }
 abbrev pub line-text : Cut → List ℕ → ℕ → List ℕ
 line-text c piece from = line-from (part-of (c .held .bytes) 0 (c .held .length)) (part-of piece from (c .to))
 
+abbrev pub stepped-state : Stepped → State
+stepped-state a = record { reader = a .reader; held = no-line; stopped = is-stopped (a .event) }
+
 abbrev pub line-stepped : ℕ → After → Leaves Fed
-line-stepped end o =
-    leaves (fed-to (record { reader = o .answer .reader; held = no-line; stopped = is-stopped (o .answer .event) }) (end + 1) (o .answer .to)) (o .memory) (o .room)
+line-stepped end o = leaves (fed-to (stepped-state (o .answer)) (end + 1) (o .answer .to)) (o .memory) (o .room)
 
 -- else it is held
 abbrev pub line-cut : State → Lent → List ℕ → ℕ → List ℕ → ℕ → Cut → Leaves Fed

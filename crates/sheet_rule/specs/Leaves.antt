@@ -29,7 +29,7 @@ use Rattle.sheet_reader.specs.declared.Awaits.{Awaits}
 use Rattle.sheet_reader.specs.declared.Awaits.the-variants.{Rule, NoRule}
 use Rattle.sheet_rule.specs.Rules.{next-rule-of, minus-of, item-kept}
 
--- ---- a rule with all its items: it is loaded, and kept; or an 11, "11 place, number"
+-- ---- a rule with all its items: it is loaded, and kept; or an 11, "11 place, number (1)"
 abbrev pub one-rule-more : OpenSet → ℕ → OpenSet
 one-rule-more s n = record { term = s .term; flags = s .flags; sites = n; rules = next-rule-of (s .rules) }
 
@@ -49,7 +49,8 @@ load-of k s w = load-in (k .sites) (s .sites) (k .words) (s .rules) (handed.rule
 unfoldable pub read-in : Reader → Lent → List ℕ → ℕ → OpenSet → Awaited → After
 read-in r k room at s w = rule-loaded r (loaded-memory k s (load-of k s w)) room at s w (loaded-as (load-of k s w))
 
--- ---- "03 place, priority, count": 1 where no set is open or items are to come; without items the rule is read at once
+-- ---- "03 place (4), priority (8, two's complement), item count (1), then its items": 1 where no set is open or items are to come; a rule without items
+-- is read at once
 abbrev pub rule-where : Reader → Lent → List ℕ → ℕ → Awaited → Where → After
 rule-where r k room at w Not = stop-in r k room at (Layout (r .line))
 rule-where r k room at w (In s) =

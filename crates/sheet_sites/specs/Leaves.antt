@@ -36,7 +36,7 @@ begin-as r k room at t f v = if is-outside (r .stands) then begin-judged r k roo
 unfoldable pub begin-in : Reader → Lent → List ℕ → ℕ → ℕ → ℕ → After
 begin-in r k room at t f = begin-as r k room at t f (verdict-as (may-begin (r .ended) t (r .line)))
 
--- ---- "02 site": 1 where no set is before its first rule, 9 for a site that the set has, then 2 and 7
+-- ---- "02 kind, body": 1 where no set is before its first rule, 9 for a site that the set has, then 2 and 7
 abbrev pub one-site-more : OpenSet → OpenSet
 one-site-more s = record { term = s .term; flags = s .flags; sites = next-of (s .sites); rules = s .rules }
 

@@ -27,7 +27,7 @@ use Rattle.sheet_sites.specs.Leaves.{begin-in, site-line-in}
 use Rattle.sheet_rule.specs.Leaves.{rule-in, item-in}
 use Rattle.sheet_step.specs.Parts.{report-end, report-after}
 
--- ---- "06": 1 where no set is open or items are to come; the report, and the set's edges go to the term table
+-- ---- "06 ends the set": 1 where no set is open or items are to come; the report, and the set's edges go to the term table
 abbrev pub set-closed : Reader → Lent → List ℕ → ℕ → OpenSet → Stepped
 set-closed r k room at s =
     record {
