@@ -1,2 +1,3 @@
 -- The definitions that this crate's contracts cite.
 pub mod Sheet
+pub mod Leaves

@@ -9,6 +9,7 @@ ghost use Rattle.sheet_read.specs.Whole.{first-state};
 ghost use Rattle.box_answers.specs.Border.{both, after};
 ghost use Rattle.sheet_state.specs.State.{keeps, state-put, held-put};
 ghost use Rattle.box_sheet.specs.Sheet.{lends, writes, begun-number, FeedSays, EndSays, CheckSays, ended-said, checked-said};
+ghost use Rattle.box_sheet.specs.Leaves.{piece-left, piece-in, ending-left, ending-in, sheet-left, sheet-in};
 use box_answers::ANSWER;
 use box_answers::SHORT;
 use box_answers::Said;
@@ -116,6 +117,11 @@ pub fn feed_piece(
     answer: &mut [u64],
 ) -> u32
     ensures { λ r. ⌜ (
+        let old = lent (now (slots .entry)) (now (words .entry)) (now (items .entry)) (now (table .entry)) in
+        let new = lent (now (slots .exit)) (now (words .exit)) (now (items .exit)) (now (table .exit)) in
+        piece-left (now (state .exit)) (now (held .exit)) new (now (room .exit)) (now (answer .exit), r)
+        ≡ piece-in (now (state .entry)) (now (held .entry)) old (now (piece .entry)) (now (room .entry)) (now (answer .entry))) ⌝ }
+    ensures { λ r. ⌜ (
         let memory = lends (now (slots .entry)) (now (words .entry)) (now (items .entry)) in
         let fits = both (keeps (now (state .entry)) (now (held .entry))) (both memory (writes (now (room .entry)) step-room (now (answer .entry)))) in
         let old = lent (now (slots .entry)) (now (words .entry)) (now (items .entry)) (now (table .entry)) in
@@ -151,6 +157,8 @@ pub fn end_sheet(
     room: &mut [u8],
     answer: &mut [u64],
 ) -> u32
+    ensures { λ r. ⌜ ending-left (now (room .exit)) (now (answer .exit), r)
+        ≡ ending-in (now (state .entry)) (now (held .entry)) (now (table .entry)) (now (room .entry)) (now (answer .entry)) ⌝ }
     ensures { λ r. ⌜ (
         let fits = both (keeps (now (state .entry)) (now (held .entry))) (writes (now (room .entry)) end-room (now (answer .entry))) in
         EndSays fits (now (state .entry)) (now (held .entry)) (now (table .entry)) (now (room .entry)) (now (answer .entry))
@@ -179,6 +187,11 @@ pub fn check_sheet(
     room: &mut [u8],
     answer: &mut [u64],
 ) -> u32
+    ensures { λ r. ⌜ (
+        let old = lent (now (slots .entry)) (now (words .entry)) (now (items .entry)) (now (table .entry)) in
+        let new = lent (now (slots .exit)) (now (words .exit)) (now (items .exit)) (now (table .exit)) in
+        sheet-left new (now (room .exit)) (now (answer .exit), r)
+        ≡ sheet-in (now (sheet .entry)) old (now (room .entry)) (now (answer .entry))) ⌝ }
     ensures { λ r. ⌜ (
         let memory = lends (now (slots .entry)) (now (words .entry)) (now (items .entry)) in
         let fits = both memory (writes (now (room .entry)) step-room (now (answer .entry))) in

@@ -63,6 +63,7 @@ module _ (m : List ℕ) (off from to key : ℕ) where
     pub seek-found : (v : ℕ) → i < n → v ≡ four-at m (i * slot + off) → v ≡ key → Seeks m off from to key i
     seek-found v h e g = record {
       low = λ _. o .low;
+      over = λ g. let l = R .few in let b = o .low in absurd (omega arith);
       high = let l = R .few in omega arith;
       none = λ j l w _ u. o .none j l w u;
       inside = λ _. R .inside i h;
@@ -86,6 +87,7 @@ module _ (m : List ℕ) (off from to key : ℕ) where
     pub seek-none : n ≤ i → Seeks m off from to key to
     seek-none h = record {
       low = λ l. l;
+      over = λ _. refl;
       high = omega arith;
       none = λ j l w x u. go j l w x u (ltb j n) refl;
       inside = λ l. absurd (omega arith);

@@ -16,9 +16,11 @@ quad a b c d = a + 256 * b + 65536 * c + 16777216 * d
 unfoldable pub four-at : List ℕ → ℕ → ℕ
 four-at m at = quad (getD m at 0) (getD m (at + 1) 0) (getD m (at + 2) 0) (getD m (at + 3) 0)
 
--- r is the first slot, of those from `from` on and below `to`, that has the key at its byte `off`; or it is `to`, and none has
+-- r is the first slot, of those from `from` on and below `to`, that has the key at its byte `off`; or it is `to`, and none has. Of a stretch that ends
+-- before it begins it is `to`.
 pub record Seeks (m : List ℕ) (off from to key r : ℕ) : Type 0 where
   pub low : from ≤ to → from ≤ r
+  pub over : to < from → r ≡ to
   pub high : r ≤ to
   pub none : (i : ℕ) → from ≤ i → i < r → i * slot + off + 4 ≤ length m → four-at m (i * slot + off) ≡ key → ⊥
   pub inside : r < to → r * slot + off + 4 ≤ length m

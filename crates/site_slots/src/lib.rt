@@ -88,8 +88,8 @@ fn by_eight(m: &[u8], off: usize, from: usize, to: usize, key: u32) -> usize
     i
 }
 
-// The first slot, of those from `from` on and below `to`, that has the key's four bytes at its byte `off`; `to` where none has. A slot whose four bytes
-// are not all there has none.
+// The first slot, of those from `from` on and below `to`, that has the key's four bytes at its byte `off`; `to` where none has, or where `to` is below
+// `from`. A slot whose four bytes are not all there has none.
 pub fn seek(m: &[u8], off: u8, from: u16, to: u16, key: u32) -> u16
     ensures { λ r. ⌜ Seeks (now (m .entry)) off from to key r ⌝ }
 {
