@@ -1,0 +1,3 @@
+-- made sets are ready; the page
+pub mod Made
+pub mod Proposals
