@@ -8,6 +8,7 @@ ghost use Rattle.sheet_read.specs.Whole.{first-state};
 ghost use Rattle.box_answers.specs.Border.{both, after};
 ghost use Rattle.sheet_state.specs.State.{keeps, state-put, held-put};
 ghost use Rattle.box_sheet.specs.Sheet.{lends, writes, begun-number, FeedSays, EndSays, CheckSays};
+ghost use Rattle.box_sheet.specs.Leaves.{piece-left, piece-in, ending-left, ending-in, sheet-left, sheet-in};
 use paper::TERMS;
 use term_table::WORDS;
 
@@ -42,6 +43,11 @@ pub extern "C" fn lintel_sheet_feed(
     answer: &mut [u64],
 ) -> u32
     ensures { λ r. ⌜ (
+        let old = lent (now (slots .entry)) (now (words .entry)) (now (items .entry)) (now (table .entry)) in
+        let new = lent (now (slots .exit)) (now (words .exit)) (now (items .exit)) (now (table .exit)) in
+        piece-left (now (state .exit)) (now (held .exit)) new (now (room .exit)) (now (answer .exit), r)
+        ≡ piece-in (now (state .entry)) (now (held .entry)) old (now (piece .entry)) (now (room .entry)) (now (answer .entry))) ⌝ }
+    ensures { λ r. ⌜ (
         let memory = lends (now (slots .entry)) (now (words .entry)) (now (items .entry)) in
         let fits = both (keeps (now (state .entry)) (now (held .entry))) (both memory (writes (now (room .entry)) step-room (now (answer .entry)))) in
         let old = lent (now (slots .entry)) (now (words .entry)) (now (items .entry)) (now (table .entry)) in
@@ -61,6 +67,8 @@ pub extern "C" fn lintel_sheet_end(
     room: &mut [u8],
     answer: &mut [u64],
 ) -> u32
+    ensures { λ r. ⌜ ending-left (now (room .exit)) (now (answer .exit), r)
+        ≡ ending-in (now (state .entry)) (now (held .entry)) (now (table .entry)) (now (room .entry)) (now (answer .entry)) ⌝ }
     ensures { λ r. ⌜ (
         let fits = both (keeps (now (state .entry)) (now (held .entry))) (writes (now (room .entry)) end-room (now (answer .entry))) in
         EndSays fits (now (state .entry)) (now (held .entry)) (now (table .entry)) (now (room .entry)) (now (answer .entry))
@@ -80,6 +88,11 @@ pub extern "C" fn lintel_sheet_check(
     room: &mut [u8],
     answer: &mut [u64],
 ) -> u32
+    ensures { λ r. ⌜ (
+        let old = lent (now (slots .entry)) (now (words .entry)) (now (items .entry)) (now (table .entry)) in
+        let new = lent (now (slots .exit)) (now (words .exit)) (now (items .exit)) (now (table .exit)) in
+        sheet-left new (now (room .exit)) (now (answer .exit), r)
+        ≡ sheet-in (now (sheet .entry)) old (now (room .entry)) (now (answer .entry))) ⌝ }
     ensures { λ r. ⌜ (
         let memory = lends (now (slots .entry)) (now (words .entry)) (now (items .entry)) in
         let fits = both memory (writes (now (room .entry)) step-room (now (answer .entry))) in
