@@ -30,7 +30,7 @@ use Rattle.run_answers.specs.declared.How.the-variants as how
 
 -- what is told with a limit: the number that was asked for; the item or the line, where it is told
 abbrev pub asked-for : Refusal → ℕ
-asked-for (Layout line) = 0
+asked-for (Layout n) = 0
 asked-for (Unknown site) = 0
 asked-for (Itself site) = 0
 asked-for (Unreachable site other) = 0
@@ -47,10 +47,10 @@ asked-for (TooManySets asked) = asked
 asked-for (TermTooHigh asked) = asked
 asked-for (UnfoldingTooLong asked) = asked
 asked-for (PlaceUsed place) = 0
-asked-for (Repeated line) = 0
+asked-for (Repeated n) = 0
 
 abbrev pub asker : Refusal → ℕ
-asker (Layout line) = 0
+asker (Layout n) = 0
 asker (Unknown site) = 0
 asker (Itself site) = 0
 asker (Unreachable site other) = 0
@@ -67,7 +67,7 @@ asker (TooManySets asked) = 0
 asker (TermTooHigh asked) = 0
 asker (UnfoldingTooLong asked) = 0
 asker (PlaceUsed place) = 0
-asker (Repeated line) = 0
+asker (Repeated n) = 0
 
 abbrev pub byte-of : ℕ → ℕ → ℕ
 byte-of h l = digit h % 16 * 16 + digit l % 16
