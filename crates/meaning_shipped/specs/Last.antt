@@ -63,15 +63,25 @@ step-early {d = d} {at = at} {l = l} R = go (step-does d at l (reads-made R))
 end-last : (e : Ended) (at : ℕ) (o : Open) → Ending (sheet-ended e at o)
 unfolding end-found
 end-last e at outside =
-    record { before = map term-found (cyclic-findings (e .heads) (e .edges)); end = end-found e; is = refl; last = inl (_, refl)
-    ; earlier = λ f m. let k = map-from term-found (cyclic-findings (e .heads) (e .edges)) f m in let w = term-head (k .0) in rw (k .2) (omega arith) }
+    record {
+      before = map term-found (cyclic-findings (e .heads) (e .edges));
+      end = end-found e;
+      is = refl;
+      last = inl (_, refl);
+      earlier = λ f m. let k = map-from term-found (cyclic-findings (e .heads) (e .edges)) f m in let w = term-head (k .0) in rw (k .2) (omega arith);
+    }
 end-last e at (at-sites g) = stop-last at (Layout at)
 end-last e at (at-rules g) = stop-last at (Layout at)
 end-last e at (at-items g r n) = stop-last at (Layout at)
 
 behind : (fs gs : List (List ℕ)) → ((f : List ℕ) → List·Memᴰ f fs → Earlier f) → Ending gs → Ending (fs ++ gs)
-behind fs gs h E = record { before = fs ++ E .before; end = E .end; is = ap (λ (x : List (List ℕ)). fs ++ x) (E .is) ∙ sym (append-assoc fs (E .before) (E .end ∷ []))
-    ; last = E .last; earlier = λ f m. pick f (List·Memᴰ·append-cases fs m) }
+behind fs gs h E = record {
+  before = fs ++ E .before;
+  end = E .end;
+  is = ap (λ (x : List (List ℕ)). fs ++ x) (E .is) ∙ sym (append-assoc fs (E .before) (E .end ∷ []));
+  last = E .last;
+  earlier = λ f m. pick f (List·Memᴰ·append-cases fs m);
+}
   where
     pick : (f : List ℕ) → List·Memᴰ f fs ⊎ List·Memᴰ f (E .before) → Earlier f
     pick f (inl m) = h f m

@@ -15,4 +15,5 @@ pub mod Cycles
 pub mod Counts
 pub mod Last
 pub mod Memory
+pub mod Bytes
 pub mod Text

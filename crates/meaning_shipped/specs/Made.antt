@@ -77,7 +77,7 @@ unfolding set-in sites-in below kept-first run empty-set
 none-made m ws = begun 0 0
 
 -- the site that a body says
-the-site : (m : List ℕ) (n at : ℕ) (o : Option Site) (a : Added) → add-body m n at o ≡ done a → (s : Site) × (add (sites-in m n) at s ≡ done a)
+pub the-site : (m : List ℕ) (n at : ℕ) (o : Option Site) (a : Added) → add-body m n at o ≡ done a → (s : Site) × (add (sites-in m n) at s ≡ done a)
 the-site m n at none a e = absurd (not-refused e)
 the-site m n at (some s) a e =
     let d = bind-done (add (sites-in m n) at s) (held-by m at) a e in

@@ -30,7 +30,9 @@ use Rattle.rule_load.proofs.Ranging.{RuleFits}
 use Rattle.meaning.specs.RuleSites.{rule-sites, Four-or-six, Only-four-or-six, Refused-four-or-six, Same-on}
 use Rattle.meaning.specs.Demand3.{Unmatched, Holds-equal}
 use Rattle.meaning.specs.Overlaps as O
-use Rattle.meaning_shipped.specs.Words.{sites-now, rule-now, MadeIn, From, Asked, Closed, Read-whole, Stopped, found-in, Rule-of, Common, Overlaps, Pair, Chain, sets-in, rules-of, Closes-sheet}
+use Rattle.sheet_reader.specs.State.{Lent}
+use Rattle.sheet_read.specs.declared.State.{State}
+use Rattle.meaning_shipped.specs.Words.{sites-now, rule-now, MadeIn, FedTo, MadeAt, From, Asked, Closed, Read-whole, Stopped, found-in, Rule-of, Common, Overlaps, Pair, Chain, sets-in, rules-of, Closes-sheet}
 use Rattle.meaning_shipped.specs.Made.{made-in}
 use Rattle.meaning_shipped.specs.Lent as L
 use Rattle.meaning_shipped.specs.Origin.{made-from, from-same}
@@ -39,6 +41,7 @@ use Rattle.meaning_shipped.specs.Cycles.{cyclic-there}
 use Rattle.meaning_shipped.specs.Text.{same-text}
 use Rattle.meaning_shipped.specs.Counts as C
 use Rattle.meaning_shipped.specs.Last.{closed-last}
+use Rattle.meaning_shipped.specs.Bytes.{fed-made}
 
 -- ---- loading a rule into lent memory that the calls made
 module _ (m : List ℕ) (n : ℕ) (ws : List ℕ) (k : ℕ) (M : MadeIn m n ws k) (r : Rule) where
@@ -136,6 +139,12 @@ module _ (m : List ℕ) (n : ℕ) (ws : List ℕ) (k : ℕ) (M : MadeIn m n ws k
   -- If i masks j, j is never the rule that answers, for any input.
   pub masked-silent : masks (kept-in ws i) (kept-in ws j) ≡ true → (at : Given) → O.Answers (set-in m n ws k .kept) at (kept-in ws j) → ⊥
   masked-silent = O.masked-silent (set-in m n ws k .kept) (kept-in ws i) (kept-in ws j) (L.kept-there m n ws k i hi)
+
+-- ---- the bytes and words that the shipped reader was lent
+-- While a set is open they are `MadeIn`, with the counts of sites and rules that the reader's state holds, so that all of the above is true of them:
+-- after `sheet_read::begin`, whatever is lent, and any pieces fed with any room. `sheet_read::feed` leaves `feed-in`, its contract says.
+pub reader-bytes-made : (s : State) (k : Lent) → FedTo s k → MadeAt (k .sites) (k .words) (s .reader .stands)
+reader-bytes-made = fed-made
 
 -- ---- a sheet, any bytes. `found-in sheet` are its findings, each as its bytes, and known by the first of them: 17 is 11 in hexadecimal. `Asked sheet g r`: a
 -- line of it completes the rule r of the open set g. `Closed sheet g`: a line of it ends g. Every set that the reader holds is made (Reader.antt,

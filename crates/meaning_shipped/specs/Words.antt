@@ -22,6 +22,12 @@ use Rattle.paper.specs.Layout.{Lines, nothing, line, lines, a-rule, an-item, en
 use Rattle.meaning.specs.Demand3.{Keeps}
 use Rattle.paper.specs.declared.Item.{Item}
 use Rattle.paper.specs.declared.Refusal.the-variants.{Layout}
+use Rattle.sheet_reader.specs.State.{Lent}
+use Rattle.sheet_reader.specs.declared.Stands.{Stands}
+use Rattle.sheet_reader.specs.declared.Stands.the-variants as stood
+use Rattle.sheet_read.specs.declared.State.{State}
+use Rattle.sheet_read.specs.Whole.{first-state}
+use Rattle.sheet_read.specs.Leaves.{feed-in}
 
 -- ---- lent memory that calls made
 
@@ -61,6 +67,22 @@ pub record From (g : Set) (k : Kept) (r : Written) : Type 0 where
   pub place : k .place ≡ r .place
   pub priority : k .priority ≡ r .priority
   pub grew : Extends (after .sites) (g .sites)
+
+-- ---- the memory that the shipped reader was lent
+
+-- `sheet_read::begin`, whatever is lent, then `sheet_read::feed` again and again, with any pieces and any room: the last of them leaves the state s and the
+-- lent memory k.
+pub data FedTo : State → Lent → Type 0 where
+  from-begin : (k : Lent) → FedTo first-state k
+  then-fed : {s : State} {k : Lent} (room : List ℕ) (at : ℕ) (piece : List ℕ) → FedTo s k →
+      FedTo (feed-in s k room at piece .answer .state) (feed-in s k room at piece .memory)
+
+-- the bytes m and the words ws are as calls left them, with the counts of the open set; where none is open, nothing is said
+abbrev pub MadeAt : List ℕ → List ℕ → Stands → Type 0
+MadeAt m ws stood.Outside = Unit {0}
+MadeAt m ws (stood.Sites s) = MadeIn m (s .sites) ws (s .rules)
+MadeAt m ws (stood.Rules s) = MadeIn m (s .sites) ws (s .rules)
+MadeAt m ws (stood.Items s r left) = MadeIn m (s .sites) ws (s .rules)
 
 -- ---- reading a sheet
 

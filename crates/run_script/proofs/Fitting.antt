@@ -6,7 +6,7 @@ use Prim.Native.Nat.{ℕ, zero, suc, _+_, _*_, _/_, _%_, _≤_, _<_, min}
 use native.Mathlib.Omega.{arith}
 use lib.ListN.{length, getD, take, drop, length-append}
 use lib.Seq.{sets, length-sets}
-use lib.Dec.{eqb, ltb}
+use lib.Dec.{eqb, ltb, leb}
 use borrow.Author.Tests.{eqb-true, eqb-false, ltb-true, ltb-false}
 use Rattle.paper.specs.declared.Found.{Found}
 use Rattle.paper.specs.declared.Found.the-variants as found
@@ -15,8 +15,8 @@ use Rattle.paper.specs.declared.Refusal.the-variants.{Layout, Unknown, Itself, 
 use Rattle.paper.specs.Words.{if_then_else_}
 use Rattle.paper.specs.Text.{unended}
 use Rattle.paper.specs.Numbers.{max-sites, Outcome, done, refused, _>>=_, demand}
-use Rattle.paper.specs.Classes.{Classes, no-classes, is-at, halve-in, halved, find, in-same-set, sweep, Removed, remove-at, remove-below, len, is-empty}
-use Rattle.classes.specs.Answers.{over, looked, sought, joined, same, taken-by, taken}
+use Rattle.paper.specs.Classes.{Classes, no-classes, is-at, flatten-in, flattened, find, in-same-set, sweep, Removed, remove-at, remove-set-of, len, is-empty}
+use Rattle.classes.specs.Answers.{over, looked, sought, joined, same, taken-by, taken-if, taken}
 use Rattle.classes.specs.declared.Looked.{Looked}
 use Rattle.classes.specs.declared.Looked.the-variants as L
 use Rattle.classes.specs.declared.Sought.{Sought}
@@ -83,7 +83,7 @@ module _ (p : List ℕ) (r : ℕ) where
   swept-length : (k : ℕ) → length (sweep k p r .members) ≤ k
   unfolding sweep
   swept-length zero = omega arith
-  swept-length (suc y) = go (is-at (halve-in (sweep y p r .parents) y .1) (found.At r)) (swept-length y)
+  swept-length (suc y) = go (is-at (flatten-in (sweep y p r .parents) y .1) (found.At r)) (swept-length y)
     where
       go : (t : Bool) → length (sweep y p r .members) ≤ y → length (if t then sweep y p r .members ++ (y ∷ []) else sweep y p r .members) ≤ suc y
       go true h = rw length-append (omega arith)
@@ -92,7 +92,7 @@ module _ (p : List ℕ) (r : ℕ) where
   swept-low : (k i : ℕ) → getD (sweep k p r .members) i 0 ≤ k
   unfolding sweep
   swept-low zero i = omega arith
-  swept-low (suc y) i = go (is-at (halve-in (sweep y p r .parents) y .1) (found.At r)) (swept-low y i)
+  swept-low (suc y) i = go (is-at (flatten-in (sweep y p r .parents) y .1) (found.At r)) (swept-low y i)
     where
       go : (t : Bool) → getD (sweep y p r .members) i 0 ≤ y → getD (if t then sweep y p r .members ++ (y ∷ []) else sweep y p r .members) i 0 ≤ suc y
       go true h = last-low (sweep y p r .members) y i h
@@ -152,20 +152,24 @@ bool-most : (b : Bool) → length (bool-text b) ≤ 5
 bool-most true = omega arith
 bool-most false = omega arith
 
-removed-most : (k : ℕ) (c : Classes) (f : Found) (m : List ℕ) → k ≤ max-sites → let q = remove-at k c f in length (listed-text (over m (q .members)) (length (q .members))) ≤ 5 * max-sites
-removed-most k c (found.At r) m h =
-    let a = swept-length (c .parents) r k in
-    listed-most (sweep k (c .parents) r .members) m (omega arith) (λ i. let b = swept-low (c .parents) r k i in omega arith)
-removed-most k c found.Nothing m h = omega arith
+removed-most : (c : Classes) (f : Found) (m : List ℕ) → let q = remove-at c f in length (listed-text (over m (q .members)) (length (q .members))) ≤ 5 * max-sites
+removed-most c (found.At r) m =
+    listed-most (sweep max-sites (c .parents) r .members) m (swept-length (c .parents) r max-sites) (λ i. swept-low (c .parents) r max-sites i)
+removed-most c found.Nothing m = omega arith
 
 taken-most : (c : Classes) (m : List ℕ) (x : ℕ) (number : ℕ) → InRange (reply.Removed (taken c m x .2)) → length (reply-text (taken c m x .1) number (reply.Removed (taken c m x .2))) ≤ 5 * max-sites
-unfolding remove-below
-taken-most c m x number = go (ltb x max-sites)
+unfolding remove-set-of
+taken-most c m x number = by (leb max-sites (length m))
   where
-    go : (t : Bool) → let o = demand t (Unknown x) >>= (λ _. (let h = halved c x in done (remove-at (min (length m) max-sites) (h .after) (h .found)))) in
+    go : (t : Bool) → let o = demand t (Unknown x) >>= (λ _. (let h = flattened c x in done (remove-at (h .after) (h .found)))) in
         InRange (reply.Removed (taken-by c m o .2)) → length (reply-text (taken-by c m o .1) number (reply.Removed (taken-by c m o .2))) ≤ 5 * max-sites
-    go true r = removed-most (min (length m) max-sites) (halved c x .after) (halved c x .found) m (omega arith)
+    go true r = removed-most (flattened c x .after) (flattened c x .found) m
     go false r = let z = refusal-most (Unknown x) r in omega arith
+
+    by : (t : Bool) → let o = demand (ltb x max-sites) (Unknown x) >>= (λ _. (let h = flattened c x in done (remove-at (h .after) (h .found)))) in
+        InRange (reply.Removed (taken-if t c m o .2)) → length (reply-text (taken-if t c m o .1) number (reply.Removed (taken-if t c m o .2))) ≤ 5 * max-sites
+    by true r = go (ltb x max-sites) r
+    by false r = omega arith
 
 module _ (c : Classes) (ms : List ℕ) (number : ℕ) (n : number < 18446744073709551616) where
   abbrev Short : Classes × List ℕ × Reply → Type 0

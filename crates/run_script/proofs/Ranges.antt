@@ -71,6 +71,7 @@ in-same (E.Refused e) vs p = in-refusal e _ (p .1 .1 .1 .1 .0)
 
 in-taken : (t : Taken) (vs : List Val) → Is (row taken-type.the-type) t vs → InRange (reply.Removed t)
 in-taken (T.Members k) vs p = tt
+in-taken T.Short vs p = tt
 in-taken (T.Refused e) vs p = in-refusal e _ (p .1 .1 .1 .1 .0)
 
 pub in-range : (r : Reply) (vs : List Val) → Is (row the-type) r vs → InRange r

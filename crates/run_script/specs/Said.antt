@@ -95,6 +95,7 @@ InRange (reply.FoundMut (sought.Refused e)) = In-refusal e
 InRange (reply.Compared (same.Is b)) = Unit {0}
 InRange (reply.Compared (same.Refused e)) = In-refusal e
 InRange (reply.Removed (taken.Members k)) = Unit {0}
+InRange (reply.Removed taken.Short) = Unit {0}
 InRange (reply.Removed (taken.Refused e)) = In-refusal e
 InRange (reply.Length k) = k < 65536
 InRange (reply.Emptiness b) = Unit {0}
