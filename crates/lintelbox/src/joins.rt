@@ -44,7 +44,8 @@ pub extern "C" fn lintel_find(parents: &[u16; SITES], site: u16, answer: &mut [u
 pub extern "C" fn lintel_find_mut(parents: &mut [u16; SITES], site: u16, answer: &mut [u64]) -> u32
     ensures { λ r. ⌜ ((R : List ℕ) (n : ℕ) →
         let c = C.classes (now (parents .entry)) R n in
-        (now (answer .exit), r) ≡ answered (has-room (now (answer .entry)) answer-words) (now (answer .entry)) (said-by flattened-words (C.find-mut c site))) ⌝ }
+        (now (answer .exit), r) ≡ answered (has-room (now (answer .entry)) answer-words) (now (answer .entry))
+        (said-by flattened-words (C.find-mut c site))) ⌝ }
     ensures { λ _. ⌜ ((R : List ℕ) (n : ℕ) →
         let c = C.classes (now (parents .entry)) R n in
         C.classes (now (parents .exit)) R n ≡ after (has-room (now (answer .entry)) answer-words) c (left-by c (λ h. h .after) (C.find-mut c site))) ⌝ }

@@ -89,6 +89,11 @@ fn on_sheets(how: How, many: bool, i: usize) {
     libc::close(fd);
 }
 
+// Room for answers. Made apart: where an array of this length stands, a proof writes it out.
+fn answers() -> [u8; OUT] {
+    [0; OUT]
+}
+
 // The sheets of an open file, in memory that is made here.
 fn answer_sheets(fd: i32, how: How, many: bool) {
     let mut m = [0u8; SITES_ROOM];
@@ -96,7 +101,7 @@ fn answer_sheets(fd: i32, how: How, many: bool) {
     let mut items = [0u64; ITEMS_ROOM];
     let mut table = term_table::empty();
     let mut room = [0u8; STEP_ROOM];
-    let mut out = [0u8; OUT];
+    let mut out = answers();
     let mut bytes = io::large_buffer();
     run_sheets::run_in(
         fd,

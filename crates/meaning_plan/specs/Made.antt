@@ -26,7 +26,8 @@ made-few (rule-loaded {g = g} {h = h} r M e) = unfold load with-rule in (
     let L = load-done g r h e in
     let q = ap (λ (s : Set). length (s .kept)) (L .after) in
     let l = ltb-true (length (g .kept)) max-rules (a .0) in
-    let n = length-append (g .kept) (record { place = r .place; priority = r .priority; constraints = L .solved .constraints; equals = L .solved .classes } ∷ []) in
+    let n = length-append (g .kept)
+    (record { place = r .place; priority = r .priority; constraints = L .solved .constraints; equals = L .solved .classes } ∷ []) in
     omega arith)
 
 pub made-ready : {g : Set} → Made g → ((k : Kept) → List·Memᴰ k (g .kept) → k .priority < 2 ^ 64) → Ready g

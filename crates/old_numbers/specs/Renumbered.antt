@@ -33,7 +33,8 @@ renum φ (refused x) = refused x
 
 module _ (num : Refusal → ℕ) (φ : List ℕ → List ℕ) (F : Renumbers num φ) where
   -- what finds nothing is left alone
-  quiet-demand : (b : Bool) (r : Refusal) (f : Unit {0} → Outcome Stepped) → ((u : Unit {0}) → f u ≡ renum φ (f u)) → (demand b r >>= f) ≡ renum φ (demand b r >>= f)
+  quiet-demand : (b : Bool) (r : Refusal) (f : Unit {0} → Outcome Stepped) → ((u : Unit {0}) → f u ≡ renum φ (f u)) →
+      (demand b r >>= f) ≡ renum φ (demand b r >>= f)
   quiet-demand true r f h = h tt
   quiet-demand false r f h = refl
 

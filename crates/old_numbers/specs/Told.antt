@@ -67,7 +67,8 @@ past-term (some t) = go (leb t max-term) refl
 
 past-next : (t : Sites) (at : ℕ) (s : Site) (o : Option ℕ) → Passed (or-next t at s o)
 past-next t at s (some n) = tt
-past-next t at s none = past-demand (ltb (length t) max-sites) (TooManySites (suc (length t)) at) _ (λ e. let h = ltb-false (length t) max-sites e in omega arith) tt
+past-next t at s none = past-demand (ltb (length t) max-sites) (TooManySites (suc (length t)) at) _
+    (λ e. let h = ltb-false (length t) max-sites e in omega arith) tt
 
 pub add-past : (t : Sites) (at : ℕ) (s : Site) → Passed (add t at s)
 unfolding add
@@ -128,7 +129,8 @@ unfolding rounds
 rounds-past zero at s = tt
 rounds-past (suc n) at s = go (take-class (s .classes) (s .constraints) (s .classes)) (rounds-past n at)
   where
-    go : (o : Option (ℕ × Constraint)) → ((z : Solving) → Passed (rounds n at z)) → Passed {A = Solving} (elim o [ none ↦ done s | some p ↦ round s at (p .0) (p .1) >>= rounds n at ])
+    go : (o : Option (ℕ × Constraint)) → ((z : Solving) → Passed (rounds n at z)) →
+        Passed {A = Solving} (elim o [ none ↦ done s | some p ↦ round s at (p .0) (p .1) >>= rounds n at ])
     go none h = tt
     go (some p) h = past-bind (round s at (p .0) (p .1)) (rounds n at) (round-past s at (p .0) (p .1)) h
 
@@ -139,14 +141,16 @@ normal-past l count =
     past-bind (check-4 (closure l) (holders l) (conflict (closure l) (holders l))) _ (past-4 (closure l) (holders l) (conflict (closure l) (holders l))) (λ _.
     past-bind (no-endless (endless (steps (closure l) (holders l)))) _ (past-endless (endless (steps (closure l) (holders l)))) (λ _.
     past-bind (rounds most-rounds count (started l)) _ (rounds-past most-rounds count (started l)) (λ s.
-    past-demand (leb (length (s .constraints)) max-constrained) (TooManyConstrained (length (s .constraints))) _ (λ e. leb-false (length (s .constraints)) max-constrained e)
+    past-demand (leb (length (s .constraints)) max-constrained) (TooManyConstrained (length (s .constraints))) _
+    (λ e. leb-false (length (s .constraints)) max-constrained e)
     (past-demand (leb (length (s .classes)) max-equal) (TooManyEqual (length (s .classes))) _ (λ e. leb-false (length (s .classes)) max-equal e) tt)))))
 
 -- "The number told is above the limit"
 pub load-past : (g : Set) (r : Written) → Passed (load g r)
 unfolding load
 load-past g r =
-    past-demand (ltb (length (g .kept)) max-rules) (TooManyRules (suc (length (g .kept)))) _ (λ e. let h = ltb-false (length (g .kept)) max-rules e in omega arith)
+    past-demand (ltb (length (g .kept)) max-rules) (TooManyRules (suc (length (g .kept)))) _
+    (λ e. let h = ltb-false (length (g .kept)) max-rules e in omega arith)
     (past-demand (leb (r .count) max-items) (TooManyItems (r .count)) _ (λ e. leb-false (r .count) max-items e)
     (past-demand (not (used g (r .place))) (PlaceUsed (r .place)) _ (λ e. tt)
     (past-bind (load-items (no-items (g .sites)) 0 (r .items)) _ (items-past (no-items (g .sites)) 0 (r .items)) (λ l.
@@ -170,7 +174,8 @@ unfolding load-items
 first-here l at i rest x e = let n : at + 0 ≡ at = omega arith in
     record { before = []; item = i; after = rest; are = refl; taken = l; took = refl; refuses = ap (λ k. load-item l k i) n ∙ e }
 
-first-later : (l : Loading) (at : ℕ) (i : Item) (rest : List Item) (x : Refusal) (l′ : Loading) → load-item l at i ≡ done l′ → First l′ (suc at) rest x → First l at (i ∷ rest) x
+first-later : (l : Loading) (at : ℕ) (i : Item) (rest : List Item) (x : Refusal) (l′ : Loading) → load-item l at i ≡ done l′ → First l′ (suc at) rest x →
+    First l at (i ∷ rest) x
 unfolding load-items
 first-later l at i rest x l′ f F =
     let n : at + suc (length (F .before)) ≡ suc at + length (F .before) = omega arith in
@@ -292,7 +297,8 @@ unfolding rounds
 rounds-tell zero at s = tt
 rounds-tell (suc n) at s = go (take-class (s .classes) (s .constraints) (s .classes)) (rounds-tell n at)
   where
-    go : (o : Option (ℕ × Constraint)) → ((z : Solving) → Told-by at (rounds n at z)) → Told-by {A = Solving} at (elim o [ none ↦ done s | some p ↦ round s at (p .0) (p .1) >>= rounds n at ])
+    go : (o : Option (ℕ × Constraint)) → ((z : Solving) → Told-by at (rounds n at z)) →
+        Told-by {A = Solving} at (elim o [ none ↦ done s | some p ↦ round s at (p .0) (p .1) >>= rounds n at ])
     go none h = tt
     go (some p) h = told-bind at (round s at (p .0) (p .1)) (rounds n at) (round-tells s at (p .0) (p .1)) h
 
@@ -367,14 +373,16 @@ module _ (l : Loading) (n : ℕ) where
 
   count-round : (s : Solving) (at low : ℕ) (c : Constraint) → Counted l n (round s at low c)
   unfolding round
-  count-round s at low c = count-bind (grow-all (s .sites) at (members (s .classes) low) c) _ (count-grow (s .sites) at (members (s .classes) low) c) (λ t _. tt)
+  count-round s at low c = count-bind (grow-all (s .sites) at (members (s .classes) low) c) _ (count-grow (s .sites) at (members (s .classes) low) c)
+      (λ t _. tt)
 
   count-rounds : (k at : ℕ) (s : Solving) → Counted l n (rounds k at s)
   unfolding rounds
   count-rounds zero at s = tt
   count-rounds (suc k) at s = go (take-class (s .classes) (s .constraints) (s .classes)) (count-rounds k at)
     where
-      go : (o : Option (ℕ × Constraint)) → ((z : Solving) → Counted l n (rounds k at z)) → Counted {A = Solving} l n (elim o [ none ↦ done s | some p ↦ round s at (p .0) (p .1) >>= rounds k at ])
+      go : (o : Option (ℕ × Constraint)) → ((z : Solving) → Counted l n (rounds k at z)) →
+          Counted {A = Solving} l n (elim o [ none ↦ done s | some p ↦ round s at (p .0) (p .1) >>= rounds k at ])
       go none h = tt
       go (some p) h = count-bind (round s at (p .0) (p .1)) (rounds k at) (count-round s at (p .0) (p .1)) (λ z _. h z)
 
@@ -398,7 +406,8 @@ module _ (l : Loading) (n : ℕ) where
   unfolding normalise
   rounds-counted =
       count-bind (no-hanging (hanging l)) _ (count-hanging (hanging l)) (λ _ _.
-      count-bind (check-4 (closure l) (holders l) (conflict (closure l) (holders l))) _ (count-4 (closure l) (holders l) (conflict (closure l) (holders l))) (λ _ _.
+      count-bind (check-4 (closure l) (holders l) (conflict (closure l) (holders l))) _
+      (count-4 (closure l) (holders l) (conflict (closure l) (holders l))) (λ _ _.
       count-bind (no-endless (endless (steps (closure l) (holders l)))) _ (count-endless (endless (steps (closure l) (holders l)))) (λ _ _.
       count-bind (rounds most-rounds n (started l)) _ (count-rounds most-rounds n (started l)) (λ s e.
       count-demand (leb (length (s .constraints)) max-constrained) (TooManyConstrained (length (s .constraints))) _ (s, e, refl)

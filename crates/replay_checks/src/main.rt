@@ -6,13 +6,18 @@ use sheet_read::KEPT_ROOM;
 use sheet_read::SITES_ROOM;
 use sheet_reader::STEP_ROOM;
 
+// Room for answers. Made apart: where an array of this length stands, a proof writes it out.
+fn answers() -> [u8; OUT] {
+    [0; OUT]
+}
+
 fn main() {
     let mut m = [0u8; SITES_ROOM];
     let mut words = [0u64; KEPT_ROOM];
     let mut items = [0u64; ITEMS_ROOM];
     let mut table = term_table::empty();
     let mut room = [0u8; STEP_ROOM];
-    let mut out = [0u8; OUT];
+    let mut out = answers();
     let mut bytes = io::large_buffer();
     run_sheets::run_in(
         libc::STDIN_FILENO,

@@ -34,7 +34,8 @@ module _ (sites rows : List ℕ) (held s row : ℕ) (ss rs : List ℕ) (r : ℕ)
   same-row i (no h) = let e = same-count in P .past-rows i (omega arith) ∙ sym (Q .past-rows i (omega arith))
 
   pub one-put : (ss ≡ ss′) × (rs ≡ rs′) × (r ≡ r′)
-  one-put =
-      (ext-getD 0 ss ss′ (P .long-sites ∙ sym (Q .long-sites)) (λ i l. same-site i (decLt i r)),
-      ext-getD 0 rs rs′ (P .long-rows ∙ sym (Q .long-rows)) (λ i l. same-row i (decLt i r)),
-      same-count)
+  one-put = (
+    ext-getD 0 ss ss′ (P .long-sites ∙ sym (Q .long-sites)) (λ i l. same-site i (decLt i r)),
+    ext-getD 0 rs rs′ (P .long-rows ∙ sym (Q .long-rows)) (λ i l. same-row i (decLt i r)),
+    same-count,
+  )
