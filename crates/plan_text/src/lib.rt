@@ -1,12 +1,21 @@
 // A proposal's text (change request [11]), read back. A line is taken for its numbers, written anew, and compared: what differs is not as laid out.
 ghost use mathlib.Core.Path.{_≡_};
-ghost use mathlib.Core.List.{List, [], _∷_, _++_};
+ghost use mathlib.Core.Bool.{Bool, true, false};
+ghost use mathlib.Core.List.{List, [], _∷_, _++_, map};
 ghost use Prim.Native.Nat.{ℕ, _+_, _<_, _≤_};
-ghost use lib.ListN.{length};
+ghost use lib.ListN.{length, getD, set};
+ghost use lib.Seq.{sets};
+ghost use lib.Dec.{eqb};
 ghost use Rattle.paper.specs.Words.{same-list};
 ghost use Rattle.paper.specs.Text.{unended};
+ghost use Rattle.paper.specs.Layout.{lines};
 ghost use Rattle.tell_plan.specs.PlanText.{rule-line, two-places};
 ghost use Rattle.plan_text.specs.Lines.{set-line, digit-at, term-at, place-at, priority-at, line-of};
+ghost use Rattle.plan_text.specs.Proposal.{spoken, first-bad, Row};
+ghost use Rattle.plan_text.specs.Walk.{misplaced-by, marks-with, bad-by, laid, row-of, inside-after, rows-of, Begins};
+use sheet_lines::Ends;
+use sheet_lines::line_end;
+use sheet_lines::part;
 use tell_text::put_eight;
 use tell_text::put_four;
 use tell_text::put_text;
@@ -29,6 +38,9 @@ const TERM_FROM: usize = 4;
 const FIRST_FROM: usize = 5;
 
 const SECOND_FROM: usize = 14;
+
+// As many as 4 digits can say.
+const TERMS: usize = 65536;
 
 // ---- the numbers of a line
 
@@ -167,4 +179,107 @@ pub fn line_of(text: &[u8]) -> Spoken
         return Spoken::None;
     }
     Spoken::Bad
+}
+
+// ---- a proposal's text
+
+// Whether a text is as laid out, or its first line that is not, counted from 1.
+pub enum Laid {
+    Well,
+    BadAt { line: u64 },
+}
+
+// A line, and where the next one begins.
+struct Line {
+    to: usize,
+    said: Spoken,
+}
+
+// The line that begins at `from`. One that is not ended is bad.
+fn line_from(text: &[u8], from: usize) -> Line
+    requires { ⌜ from < length (now text) ⌝ }
+    ensures { λ r. ⌜ Begins (now (text .entry)) from (r .to) (r .said) ⌝ }
+{
+    let end = line_end(text, from);
+    match end {
+        Ends::At(e) => Line {
+            to: e + 1,
+            said: line_of(part(text, from, e + 1)),
+        },
+        Ends::Open => Line {
+            to: text.len(),
+            said: Spoken::Bad,
+        },
+    }
+}
+
+fn is_marked(marks: &[u8], term: u16) -> bool
+    ensures { λ r. ⌜ r ≡ eqb (getD (now (marks .entry)) term 0) 1 ⌝ }
+{
+    let i = term as usize;
+    if i < marks.len() {
+        return marks[i] == 1;
+    }
+    false
+}
+
+fn set_mark(marks: &mut [u8], term: u16)
+    ensures { λ _. ⌜ now (marks .exit) ≡ set (now (marks .entry)) term 1 ⌝ }
+{
+    let i = term as usize;
+    if i < marks.len() {
+        marks[i] = 1;
+    }
+}
+
+fn mark(marks: &mut [u8], said: Spoken)
+    ensures { λ _. ⌜ now (marks .exit) ≡ marks-with (now (marks .entry)) said ⌝ }
+{
+    match said {
+        Spoken::Set { term } => set_mark(marks, term),
+        Spoken::Rule { place, priority } => {}
+        Spoken::None => {}
+        Spoken::Bad => {}
+    }
+}
+
+// "not as laid out (also: no LF; a rule or none line before any set; a set named twice)"
+fn is_misplaced(marks: &[u8], any: bool, said: Spoken) -> bool
+    ensures { λ r. ⌜ r ≡ misplaced-by (now (marks .entry)) any said ⌝ }
+{
+    match said {
+        Spoken::Set { term } => is_marked(marks, term),
+        Spoken::Rule { place, priority } => !any,
+        Spoken::None => !any,
+        Spoken::Bad => true,
+    }
+}
+
+// Behind the first line that is well a set was named.
+fn scan(text: &[u8], marks: &mut [u8]) -> Laid
+    ensures { λ r. ⌜ r ≡ laid (bad-by (now (marks .entry)) false 1 (spoken (lines (now (text .entry))))) ⌝ }
+{
+    let mut from: usize = 0;
+    let mut line: u64 = 1;
+    let mut any = false;
+    while from < text.len() {
+        let n = line_from(text, from);
+        let said = n.said;
+        if is_misplaced(marks, any, said) {
+            return Laid::BadAt { line: line };
+        }
+        mark(marks, said);
+        any = true;
+        from = n.to;
+        line += 1;
+    }
+    Laid::Well
+}
+
+// "bad LINE: alone, before all else"
+pub fn first_bad(text: &[u8]) -> Laid
+    ensures { λ r. ⌜ r ≡ laid (first-bad (now (text .entry))) ⌝ }
+{
+    let mut marks = [0u8; TERMS];
+    scan(text, &mut marks)
 }
