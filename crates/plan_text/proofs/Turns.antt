@@ -1,5 +1,5 @@
 -- What the loops' proofs cite: a line of a text, and what one turn does.
-use mathlib.Core.Path.{_≡_, refl, sym, ap, _∙_}
+use mathlib.Core.Path.{_≡_, refl, sym, ap, subst, _∙_}
 use mathlib.Core.Bool.{Bool, true, false, not}
 use mathlib.Core.Option.{Option, none, some}
 use mathlib.Core.List.{List, [], _∷_, _++_, map}
@@ -7,7 +7,7 @@ use Prim.Native.Nat.{ℕ, zero, suc, _+_, _-_, _≤_, _<_}
 use native.Mathlib.Omega.{arith}
 use native.Mathlib.Numerals.{add-one}
 use lib.ListN.{length, getD, take, drop, set, length-drop, length-append, length-set, replicate}
-use lib.Seq.{take-suc, getD-at, drop-length, set-out, sets}
+use lib.Seq.{take-suc, getD-at, drop-length, set-out, sets, length-sets}
 use lib.Dec.{eqb}
 use Rattle.paper.specs.Layout.{Lines, nothing, unended, line, lines}
 use Rattle.paper.proofs.Lists.{drop-all}
@@ -119,7 +119,7 @@ column f m m' n xs ys F e g =
     ∙ (ap (λ k. sets (sets m n (map f xs)) (n + k) (map f ys)) (sym (map-long f xs))
     ∙ (sets-append m n (map f xs) (map f ys) ∙ (ap (λ z. sets m n z) (sym (map-append f xs ys)) ∙ g)))
 
-pub Kept-row : (p q l p' q' l' : List ℕ) (n n' : ℕ) (xs : List Row) → Type 0
+abbrev pub Kept-row : List ℕ → List ℕ → List ℕ → List ℕ → List ℕ → List ℕ → ℕ → ℕ → List Row → Type 0
 Kept-row p q l p' q' l' n n' xs = (n' ≡ n + length xs) × ((p' ≡ sets p n (map (λ (x : Row). x .place) xs)) × ((q' ≡ sets q n (map (λ (x : Row). x .priority) xs)) × (l' ≡ sets l n (map (λ (x : Row). x .line) xs))))
 
 row-short : (inside : Bool) (at : ℕ) (s : Spoken) → length (row-of inside at s) ≤ 1
@@ -160,8 +160,8 @@ module _ (every : List Row) (p₀ q₀ l₀ p q l p' q' l' text : List ℕ) (n n
         numbers = ap (λ i. sets l' i (map (λ (x : Row). x .line) later)) k ∙ column (λ (x : Row). x .line) l l' n row later _ (K .1 .1 .1) (ap (λ z. sets l n (map (λ (x : Row). x .line) z)) (sym split) ∙ R .numbers);
       }
 
-  pub turn-short : n ≤ from → n' ≤ to
-  turn-short h = let k = K .0 in let r = row-short inside at s in let o = B .onward in omega arith
+pub row-fits : (text : List ℕ) (n n' from to at : ℕ) (inside : Bool) (s : Spoken) → Begins text from to s → n' ≡ n + length (row-of inside at s) → n ≤ from → n' ≤ to
+row-fits text n n' from to at inside s B k h = let r = row-short inside at s in let o = B .onward in omega arith
 
 -- ---- marks
 get-past : (l : List ℕ) (i : ℕ) → length l ≤ i → getD l i 0 ≡ 0
@@ -198,3 +198,66 @@ first-so text marks r e f = f ∙ ap laid (bad-is text marks e)
 
 pub still-long : (text m after : List ℕ) (n from to : ℕ) (s : Spoken) → Begins text from to s → after ≡ marks-with m s → length m ≡ n → length after ≡ n
 still-long text m after n from to s B e f = ap length e ∙ (with-long m s ∙ f)
+
+-- ---- one line of a set
+row-set : (b : Bool) (at t : ℕ) → row-of b at (Set t) ≡ []
+row-set true at t = refl
+row-set false at t = refl
+
+row-none : (b : Bool) (at : ℕ) → row-of b at None ≡ []
+row-none true at = refl
+row-none false at = refl
+
+row-bad : (b : Bool) (at : ℕ) → row-of b at Bad ≡ []
+row-bad true at = refl
+row-bad false at = refl
+
+pub row-out : (b : Bool) (at p q : ℕ) → b ≡ false → row-of b at (Rule p q) ≡ []
+row-out b at p q e = ap (λ x. row-of x at (Rule p q)) e
+
+pub kept-same : (P Q L : List ℕ) (n at : ℕ) (b : Bool) (s r : Spoken) → s ≡ r → row-of b at r ≡ [] → Kept-row P Q L P Q L n n (row-of b at s)
+kept-same P Q L n at b s r e f = subst (λ (xs : List Row). Kept-row P Q L P Q L n n xs) (sym (ap (row-of b at) e ∙ f)) (omega arith, (refl, (refl, refl)))
+
+pub kept-one : (P Q L P' Q' L' : List ℕ) (n at p q : ℕ) (b : Bool) (s : Spoken) → s ≡ Rule p q → b ≡ true → P' ≡ set P n p → Q' ≡ set Q n q → L' ≡ set L n at → Kept-row P Q L P' Q' L' n (n + 1) (row-of b at s)
+kept-one P Q L P' Q' L' n at p q b s e i f g h =
+    subst (λ (xs : List Row). Kept-row P Q L P' Q' L' n (n + 1) xs) (sym (ap (row-of b at) e ∙ ap (λ x. row-of x at (Rule p q)) i)) (omega arith, (f, (g, h)))
+
+pub kept-set : (P Q L : List ℕ) (n at : ℕ) (b : Bool) (s : Spoken) (t : ℕ) → s ≡ Set t → Kept-row P Q L P Q L n n (row-of b at s)
+kept-set P Q L n at b s t e = kept-same P Q L n at b s (Set t) e (row-set b at t)
+
+pub kept-none : (P Q L : List ℕ) (n at : ℕ) (b : Bool) (s : Spoken) → s ≡ None → Kept-row P Q L P Q L n n (row-of b at s)
+kept-none P Q L n at b s e = kept-same P Q L n at b s None e (row-none b at)
+
+pub kept-bad : (P Q L : List ℕ) (n at : ℕ) (b : Bool) (s : Spoken) → s ≡ Bad → Kept-row P Q L P Q L n n (row-of b at s)
+kept-bad P Q L n at b s e = kept-same P Q L n at b s Bad e (row-bad b at)
+
+pub inside-as : (w t : ℕ) (b : Bool) (s : Spoken) → s ≡ Set t → eqb t w ≡ inside-after w b s
+inside-as w t b s e = ap (inside-after w b) (sym e)
+
+-- ---- all of them
+rows-none : (wanted at : ℕ) (b : Bool) (text : List ℕ) (from : ℕ) → length text ≤ from → rows-from wanted b at (Rest text from) ≡ []
+rows-none wanted at b text from h = ap (rows-from wanted b at) (rest-none text from h) ∙ empty
+  where
+    empty : rows-from wanted b at [] ≡ []
+    empty = unfold rows-from in refl
+
+pub reading-end : (every : List Row) (p₀ q₀ l₀ p q l text : List ℕ) (n from at wanted : ℕ) (b : Bool) → length text ≤ from → Reading every p₀ q₀ l₀ p q l n (rows-from wanted b at (Rest text from)) → (n ≡ length every) × ((p ≡ sets p₀ 0 (map (λ (x : Row). x .place) every)) × ((q ≡ sets q₀ 0 (map (λ (x : Row). x .priority) every)) × (l ≡ sets l₀ 0 (map (λ (x : Row). x .line) every))))
+reading-end every p₀ q₀ l₀ p q l text n from at wanted b h R = go (rows-from wanted b at (Rest text from)) (rows-none wanted at b text from h) R
+  where
+    go : (left : List Row) → left ≡ [] → Reading every p₀ q₀ l₀ p q l n left → (n ≡ length every) × ((p ≡ sets p₀ 0 (map (λ (x : Row). x .place) every)) × ((q ≡ sets q₀ 0 (map (λ (x : Row). x .priority) every)) × (l ≡ sets l₀ 0 (map (λ (x : Row). x .line) every))))
+    go [] e S = let c = S .counted in (omega arith, (S .places, (S .priorities, S .numbers)))
+    go (x ∷ left) e S = let z : _≡_ {A = ℕ} 1 0 = cc in absurd (omega arith)
+
+-- what is lent keeps its length
+kept-long : (m after xs : List ℕ) (i n : ℕ) → after ≡ sets m i xs → length m ≡ n → length after ≡ n
+kept-long m after xs i n e f = ap length e ∙ (length-sets m i xs ∙ f)
+
+module _ (p q l p' q' l' : List ℕ) (n n' at k : ℕ) (b : Bool) (s : Spoken) (K : Kept-row p q l p' q' l' n n' (row-of b at s)) where
+  pub places-long : length p ≡ k → length p' ≡ k
+  places-long e = kept-long p p' (map (λ (x : Row). x .place) (row-of b at s)) n k (K .1 .0) e
+
+  pub priorities-long : length q ≡ k → length q' ≡ k
+  priorities-long e = kept-long q q' (map (λ (x : Row). x .priority) (row-of b at s)) n k (K .1 .1 .0) e
+
+  pub numbers-long : length l ≡ k → length l' ≡ k
+  numbers-long e = kept-long l l' (map (λ (x : Row). x .line) (row-of b at s)) n k (K .1 .1 .1) e

@@ -15,7 +15,7 @@ use Rattle.paper.proofs.Lists.{no-way}
 use Rattle.plan_text.specs.declared.Spoken.{Spoken}
 use Rattle.plan_text.specs.declared.Spoken.the-variants.{Set, Rule, None, Bad}
 use Rattle.plan_text.specs.Lines.{terms, line-of}
-use Rattle.plan_text.specs.Proposal.{spoken, misplaced, with-set, bad-from, first-bad, Row, rows-here, sets-from, rows-in}
+use Rattle.plan_text.specs.Proposal.{spoken, misplaced, with-set, bad-from, first-bad, Row, rows-here, sets-from, rows-in, bad-at, sets, told, proposal}
 use Rattle.plan_text.specs.Walk.{misplaced-by, marks-with, bad-by, row-of, inside-after, rows-from, rows-of}
 use Rattle.plan_text.proofs.Laws.{says-exactly}
 
@@ -212,3 +212,12 @@ rows-same (Bad ∷ ss) at w named e = rows-same ss (suc at) w named (not-bad nam
 pub rows-are : (text : List ℕ) (wanted : ℕ) → first-bad text ≡ none → rows-of text wanted ≡ rows-in (sets-from 1 (spoken (lines text))) wanted
 unfolding first-bad rows-of
 rows-are text wanted e = rows-same (spoken (lines text)) 1 wanted [] e
+
+-- ---- what the two walks answer is the proposal
+pub proposal-bad : (text : List ℕ) (at : ℕ) → first-bad text ≡ some at → proposal text ≡ bad-at at
+unfolding proposal
+proposal-bad text at e = ap (λ o. told o (sets-from 1 (spoken (lines text)))) e
+
+pub proposal-well : (text : List ℕ) → first-bad text ≡ none → proposal text ≡ sets (sets-from 1 (spoken (lines text)))
+unfolding proposal
+proposal-well text e = ap (λ o. told o (sets-from 1 (spoken (lines text)))) e

@@ -283,3 +283,89 @@ pub fn first_bad(text: &[u8]) -> Laid
     let mut marks = [0u8; TERMS];
     scan(text, &mut marks)
 }
+
+// ---- the rule lines of one set
+
+fn store(out: &mut [u64], at: usize, v: u64)
+    ensures { λ _. ⌜ now (out .exit) ≡ set (now (out .entry)) at v ⌝ }
+{
+    if at < out.len() {
+        out[at] = v;
+    }
+}
+
+// A line of the wanted set: if it is a rule's, its place, priority and number go to n of what is lent. Answers where the next goes.
+fn keep_row(
+    places: &mut [u64],
+    priorities: &mut [u64],
+    numbers: &mut [u64],
+    n: usize,
+    line: u64,
+    inside: bool,
+    said: Spoken,
+) -> usize
+    requires { ⌜ n < 18446744073709551615 ⌝ }
+    ensures { λ r. let rows = row-of inside line said in
+        ⌜ (r ≡ n + length rows) ×
+        ((now (places .exit) ≡ sets (now (places .entry)) n (map (λ (x : Row). x .place) rows)) ×
+        ((now (priorities .exit) ≡ sets (now (priorities .entry)) n (map (λ (x : Row). x .priority) rows)) ×
+        (now (numbers .exit) ≡ sets (now (numbers .entry)) n (map (λ (x : Row). x .line) rows)))) ⌝ }
+{
+    match said {
+        Spoken::Set { term } => n,
+        Spoken::Rule { place, priority } => {
+            if inside {
+                store(places, n, place as u64);
+                store(priorities, n, priority);
+                store(numbers, n, line);
+                return n + 1;
+            }
+            n
+        }
+        Spoken::None => n,
+        Spoken::Bad => n,
+    }
+}
+
+// Whether the lines that follow are the wanted set's.
+fn is_inside(wanted: u16, inside: bool, said: Spoken) -> bool
+    ensures { λ r. ⌜ r ≡ inside-after wanted inside said ⌝ }
+{
+    match said {
+        Spoken::Set { term } => term == wanted,
+        Spoken::Rule { place, priority } => inside,
+        Spoken::None => inside,
+        Spoken::Bad => inside,
+    }
+}
+
+// The rule lines of one set: how many there are, and of as many as there is room for the places, the priorities and the lines' numbers.
+pub fn read_rows(
+    text: &[u8],
+    wanted: u16,
+    places: &mut [u64],
+    priorities: &mut [u64],
+    numbers: &mut [u64],
+) -> usize
+    ensures { λ r. let rows = rows-of (now (text .entry)) wanted in
+        ⌜ (r ≡ length rows) ×
+        ((now (places .exit) ≡ sets (now (places .entry)) 0 (map (λ (x : Row). x .place) rows)) ×
+        ((now (priorities .exit) ≡ sets (now (priorities .entry)) 0 (map (λ (x : Row). x .priority) rows)) ×
+        (now (numbers .exit) ≡ sets (now (numbers .entry)) 0 (map (λ (x : Row). x .line) rows)))) ⌝ }
+{
+    let mut from: usize = 0;
+    let mut line: u64 = 1;
+    let mut inside = false;
+    let mut n: usize = 0;
+    while from < text.len() {
+        let l = line_from(text, from);
+        let said = l.said;
+        let more = keep_row(places, priorities, numbers, n, line, inside, said);
+        n = more;
+        let still = is_inside(wanted, inside, said);
+        inside = still;
+        from = l.to;
+        line += 1;
+    }
+    n
+}
