@@ -1,0 +1,4 @@
+pub mod Laws
+pub mod Anew
+pub mod Walks
+pub mod Turns

@@ -1,0 +1,3 @@
+pub mod Lines
+pub mod Proposal
+pub mod Walk
