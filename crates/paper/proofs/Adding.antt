@@ -88,7 +88,7 @@ numbered (x ∷ t) s = go (same_site x s) refl (number_of t s) (numbered t s)
 
     go : (b : Bool) → same_site x s ≡ b → (o : Option ℕ) → Numbered t s o → Numbered (x ∷ t) s (elim b as (λ _. Option ℕ) [ true ↦ some 0 | false ↦ elim o as (λ _. Option ℕ) [ none ↦ none | some n ↦ some (suc n) ] ])
     go true e o q = here (ap some (same_site_true x s e))
-    go false e none (nowhere h) = nowhere (λ n. elim n [ zero ↦ λ q. apart e (let r : x ≡ s = cc in r) | suc m ↦ λ q. h m q ])
+    go false e none (nowhere h) = nowhere (λ n. elim n as (λ k. get_elem? (x ∷ t) k ≡ some s → ⊥) [ zero ↦ λ q. apart e (let r : x ≡ s = cc in r) | suc m ↦ λ q. h m q ])
     go false e (some n) (here q) = here q
 
 -- a child that is there has its number

@@ -53,6 +53,7 @@ of_pairs (x ∷ xs) p m = go (λ q. of_pairs xs p q) (mathlib.Core.List.Memᴰ.a
 
 pub in_pairs : {A : Type 0} (xs : List A) (a b : A) → Memᴰ a xs → Memᴰ b xs → (a ≡ b) ⊎ (Memᴰ (a, b) (pairs xs) ⊎ Memᴰ (b, a) (pairs xs))
 unfolding pairs
+in_pairs {A = A} [] a b x'' _ = elim x'' [ ]
 in_pairs (x ∷ xs) a b (mathlib.Core.List.Memᴰ.head e) (mathlib.Core.List.Memᴰ.head f) = inl (e ∙ sym f)
 in_pairs {A} (x ∷ xs) a b (mathlib.Core.List.Memᴰ.head e) (mathlib.Core.List.Memᴰ.tail n) = let t : Memᴰ {A = A × A} (a, b) (map (λ y. (x, y)) xs) = rw e (mathlib.Core.List.Memᴰ.map (λ y. (x, y)) n) in inr (inl (mathlib.Core.List.Memᴰ.append_left (pairs xs) t))
 in_pairs {A} (x ∷ xs) a b (mathlib.Core.List.Memᴰ.tail m) (mathlib.Core.List.Memᴰ.head f) = let t : Memᴰ {A = A × A} (b, a) (map (λ y. (x, y)) xs) = rw f (mathlib.Core.List.Memᴰ.map (λ y. (x, y)) m) in inr (inr (mathlib.Core.List.Memᴰ.append_left (pairs xs) t))
@@ -103,6 +104,7 @@ all_keeps (p ∷ ps) k S x y e = all_keeps ps (join k p.0 p.1) (join_sound k p.0
 
 all_joins : (ps : List (ℕ × ℕ)) (k : Labels) → Sound k → (p : ℕ × ℕ) → Memᴰ p ps → lowest (join_all k ps) p.0 ≡ lowest (join_all k ps) p.1
 unfolding join_all
+all_joins [] k S p x'' = elim x'' [ ]
 all_joins (q ∷ ps) k S p (mathlib.Core.List.Memᴰ.head e) = rw e (all_keeps ps (join k q.0 q.1) (join_sound k q.0 q.1 S) q.0 q.1 (joins k q.0 q.1 S))
 all_joins (q ∷ ps) k S p (mathlib.Core.List.Memᴰ.tail m) = all_joins ps (join k q.0 q.1) (join_sound k q.0 q.1 S) p m
 
@@ -206,6 +208,7 @@ turn_joins k p a b S f e m = rw (eq-eqb (lowest k p.0.site) (lowest k p.1.site) 
 
 pass_joins : (ps : List Like) (k : Labels) (p : Like) (a b : ℕ) → Sound k → Memᴰ p ps → p.0.shape ≡ p.1.shape → lowest k p.0.site ≡ lowest k p.1.site → Memᴰ (a, b) (zip p.0.kids p.1.kids) → lowest (pass k ps) a ≡ lowest (pass k ps) b
 unfolding pass
+pass_joins [] k p a b S x5 f e m = elim x5 [ ]
 pass_joins (q ∷ ps) k p a b S (mathlib.Core.List.Memᴰ.head w) f e m = rw (← w) (pass_keeps ps (turn k p) (turn_sound k p S) a b (turn_joins k p a b S f e m))
 pass_joins (q ∷ ps) k p a b S (mathlib.Core.List.Memᴰ.tail w) f e m = pass_joins ps (turn k q) p a b (turn_sound k q S) w f (turn_keeps k q S p.0.site p.1.site e) m
 

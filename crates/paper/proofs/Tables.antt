@@ -28,6 +28,7 @@ of_keep {A} f (y ∷ l) x m = go (f y) refl (λ q. of_keep f l x q) m
 
 pub in_keep : {A : Type 0} (f : A → Bool) (l : List A) (x : A) → Memᴰ x l → f x ≡ true → Memᴰ x (keep f l)
 unfolding keep
+in_keep {A = A} f [] x x4 e = elim x4 [ ]
 in_keep f (y ∷ l) x (Memᴰ.head q) e = rw (ap f (sym q) ∙ e, keep) (Memᴰ.head q)
 in_keep {A} f (y ∷ l) x (Memᴰ.tail q) e = go (f y) (in_keep f l x q e)
   where
@@ -81,10 +82,12 @@ look_in {A} ((m, b) ∷ t) n a e = go (eqb m n) refl (λ q. look_in t n a q) e
     go false p f q = Memᴰ.tail (f q)
 
 pub above : {A : Type 0} (n : ℕ) (t : Table A) (p : ℕ × A) → Rising n t → Memᴰ p t → n ≤ p.0
+above {A = A} n [] p r x'' = elim x'' [ ]
 above n (q ∷ t) p r (Memᴰ.head e) = let z = ap (λ x. x.0) e in let h = r.0 in omega arith
 above n (q ∷ t) p r (Memᴰ.tail m) = let z = above (suc q.0) t p r.1 m in let h = r.0 in omega arith
 
 pub in_look : {A : Type 0} (n : ℕ) (t : Table A) (p : ℕ × A) → Rising n t → Memᴰ p t → look t p.0 ≡ some p.1
+in_look {A = A} n [] p r x'' = elim x'' [ ]
 in_look n (q ∷ t) p r (Memᴰ.head e) = rw e (look_here q.0 q.1 t)
 in_look n (q ∷ t) p r (Memᴰ.tail m) = let z = above (suc q.0) t p r.1 m in look_past q.0 p.0 q.1 t (λ e. omega arith) ∙ in_look (suc q.0) t p r.1 m
 
