@@ -32,7 +32,7 @@ pub enum Call {
 }
 
 // What a line is answered. The members of a removed class stand in the lent memory.
-#[derive(Drop)]
+#[derive(Clone, Copy)]
 pub enum Reply {
     Merged(Joined),
     Found(Looked),

@@ -32,7 +32,7 @@ pub extern "C" fn lintel_load(
         let loaded = load_in slots.old count words.old kept (rule_in items.now place priority many) in
         let judged = handed items.now many loaded in
         slots.new ≡ after fits slots.old (sites_after slots.old count judged) }
-    ensures words_after { let fits = both (has_room items.now (item_words * many)) (has_room answer.old answer_words) in
+    ensures lent_words { let fits = both (has_room items.now (item_words * many)) (has_room answer.old answer_words) in
         let loaded = load_in slots.old count words.old kept (rule_in items.now place priority many) in
         let judged = handed items.now many loaded in
         words.new ≡ after fits words.old (words_after words.old kept judged) }

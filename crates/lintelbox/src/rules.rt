@@ -2,7 +2,7 @@
 ghost use Rattle.std.specs.Prelude.{◌≡◌, [], ◌∷◌, ◌+◌};
 ghost use Rattle.paper.specs.Rules.{may_overlap, total};
 ghost use Rattle.rule_words.specs.Stored.{kept_in};
-ghost use Rattle.report.specs.Lines.{report_room, reported, room-after};
+ghost use Rattle.report.specs.Lines.{report_room, reported, room_after};
 ghost use Rattle.box_answers.specs.Border.{answer_words, said, has_room, both, has_rule, has_rules, answered, after, overlap_word, reported_said};
 
 use box_answers::calls::{overlap_word, reported_said};
@@ -60,9 +60,9 @@ pub extern "C" fn lintel_report(
     ensures result_after { let writes = both (has_room room.old report_room) (has_room answer.old answer_words) in
         let fits = both (has_rules words.now count) writes in
         (answer.new, result) ≡ answered fits answer.old (reported_said (reported words.now count flags room.old)) }
-    ensures room_after { let writes = both (has_room room.old report_room) (has_room answer.old answer_words) in
+    ensures lent_room { let writes = both (has_room room.old report_room) (has_room answer.old answer_words) in
         let fits = both (has_rules words.now count) writes in
-        room.new ≡ after fits room.old (room-after words.now count flags room.old) }
+        room.new ≡ after fits room.old (room_after words.now count flags room.old) }
 {
     let end = start(count);
     if words.len() < end {

@@ -13,7 +13,7 @@ use sheet_lines::{Ends, line_end, part};
 use tell_text::{put_eight, put_four, put_text, put_two};
 
 // What a line says.
-#[derive(Drop)]
+#[derive(Clone, Copy)]
 pub enum Spoken {
     Set { term: u16 },
     Rule { place: u32, priority: u64 },

@@ -23,7 +23,7 @@ const PROPOSED: usize = 2 * RULES;
 // Room for any plan: a line for each rule, or for each pair.
 const PLAN_ROOM: usize = 28 * RULES * RULES;
 
-#[derive(Drop)]
+#[derive(Clone, Copy)]
 struct State {
     value: u64,
     a: u64,

@@ -16,7 +16,7 @@ const KEPT_ROOM: usize = RULES * STRIDE;
 
 const SHAPES_ROOM: usize = 3 * CONSTRAINED;
 
-#[derive(Drop)]
+#[derive(Clone, Copy)]
 struct State {
     value: u64,
     a: u64,

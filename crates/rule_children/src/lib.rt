@@ -30,7 +30,7 @@ pub struct Children {
 }
 
 // What the children of a site under a constraint have in common: the four bytes with which their slots begin, the word of the first, how many there are.
-#[derive(Drop)]
+#[derive(Clone, Copy)]
 pub struct Wanted {
     pub key: u32,
     pub first: u64,

@@ -355,7 +355,7 @@ fn keep(
 )
     requires { Keepable (length m.old) n tail.now sites.now rows.now shapes.now equal.now low.now s }
     ensures m_after { m.new ≡ store m.old n (new_sites tail.now s.tail) }
-    ensures words_after { words.new ≡ written words.old kept place priority (take s.held sites.now)
+    ensures lent_words { words.new ≡ written words.old kept place priority (take s.held sites.now)
         (gathered rows.now shapes.now (3 * s.held)) (take s.equal equal.now) (take s.equal low.now) }
 {
     let held = s.held;
@@ -519,7 +519,7 @@ pub fn load_handed(
     ensures value { result ≡ loaded_as (load_in m.old n words.old kept (rule_in items.now place priority count)) }
     ensures m_after { m.new ≡ sites_after m.old n
         (load_in m.old n words.old kept (rule_in items.now place priority count)) }
-    ensures words_after { words.new ≡ words_after words.old kept
+    ensures lent_words { words.new ≡ words_after words.old kept
         (load_in m.old n words.old kept (rule_in items.now place priority count)) }
 {
     let first = admit(n, words, kept, place, count);
@@ -574,7 +574,7 @@ fn hold(rule: Rule, out: &mut [u64])
 pub fn load(m: &mut [u8], n: u16, words: &mut [u64], kept: u32, rule: Rule) -> Loaded
     ensures value { result ≡ loaded_as (load_in m.old n words.old kept rule) }
     ensures m_after { m.new ≡ sites_after m.old n (load_in m.old n words.old kept rule) }
-    ensures words_after { words.new ≡ words_after words.old kept (load_in m.old n words.old kept rule) }
+    ensures lent_words { words.new ≡ words_after words.old kept (load_in m.old n words.old kept rule) }
 {
     let mut items = [0u64; ITEMS_ROOM];
     hold(rule, &mut items);

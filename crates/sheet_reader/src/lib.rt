@@ -34,7 +34,7 @@ pub struct Awaited {
 }
 
 // Where the reader stands: outside a set; in a set, before or after its first 03; among the items of a rule, with so many left.
-#[derive(Drop)]
+#[derive(Clone, Copy)]
 pub enum Stands {
     Outside,
     Sites(OpenSet),
