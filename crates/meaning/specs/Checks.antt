@@ -69,6 +69,7 @@ of_joined (ys ∷ xss) x m = go (mathlib.Core.List.Memᴰ.append_cases ys m) (λ
 
 pub in_joined : {A : Type 0} (xss : List (List A)) (xs : List A) (x : A) → Memᴰ xs xss → Memᴰ x xs → Memᴰ x (joined xss)
 unfolding joined
+in_joined {A = A} [] xs x x4 m = elim x4 [ ]
 in_joined (ys ∷ xss) xs x (mathlib.Core.List.Memᴰ.head e) m = mathlib.Core.List.Memᴰ.append_left (joined xss) (rw e at m)
 in_joined (ys ∷ xss) xs x (mathlib.Core.List.Memᴰ.tail k) m = mathlib.Core.List.Memᴰ.append_right ys (in_joined xss xs x k m)
 

@@ -96,6 +96,7 @@ pair_is_input (suc (suc (suc (suc (suc (suc n)))))) s e = absurd (never e)
 
 pub pair_matches : Matches pair_input pair_rule.items
 unfolding shape count
+pair_matches i (Memᴰ.tail (Memᴰ.tail x8)) = elim x8 [ ]
 pair_matches i (Memᴰ.head e) = rw e (record { value = one_two; one = refl; other = refl })
 pair_matches i (Memᴰ.tail (Memᴰ.head e)) = rw e (record { value = one_two; there = refl; shaped = refl })
 

@@ -19,6 +19,7 @@ of_any p (y ∷ xs) e = go (p y) refl e (λ q. of_any p xs q)
 
 pub in_any : {A : Type 0} (p : A → Bool) (xs : List A) (x : A) → Memᴰ x xs → p x ≡ true → any p xs ≡ true
 unfolding any
+in_any {A = A} p [] x x4 e = elim x4 [ ]
 in_any p (y ∷ xs) x (Memᴰ.head q) e = let z : p y ≡ true = ap p (sym q) ∙ e in rw z
 in_any p (y ∷ xs) x (Memᴰ.tail m) e = go (p y) (in_any p xs x m e)
   where
@@ -28,6 +29,7 @@ in_any p (y ∷ xs) x (Memᴰ.tail m) e = go (p y) (in_any p xs x m e)
 
 pub least_none : (xs : List ℕ) (x : ℕ) → least xs ≡ none → Memᴰ x xs → ⊥
 unfolding least
+least_none [] x e m = elim m [ ]
 least_none (y ∷ xs) x e m = go (least xs) e
   where
     go : (o : Option ℕ) → ◌≡◌ {A = Option ℕ} (elim o as (λ _. Option ℕ) [ none ↦ some y | some z ↦ some (min y z) ]) none → ⊥
@@ -60,6 +62,7 @@ first_some {A} p (y ∷ xs) x e = go (p y) refl e (λ q. first_some p xs x q)
 
 pub first_none : {A : Type 0} (p : A → Bool) (xs : List A) → first p xs ≡ none → (x : A) → Memᴰ x xs → p x ≡ false
 unfolding first
+first_none {A = A} p [] e x m = elim m [ ]
 first_none {A} p (y ∷ xs) e x m = go (p y) refl e m (λ q k. first_none p xs q x k)
   where
     go : (b : Bool) → p y ≡ b → ◌≡◌ {A = Option A} (elim b as (λ _. Option A) [ true ↦ some y | false ↦ first p xs ]) none → Memᴰ x (y ∷ xs) →

@@ -91,6 +91,7 @@ module _ (t : Sites) (S : Sound t) (k : Kept) (W : Stands t k) where
 
 every_is : {A : Type 0} (p : A → Bool) (xs : List A) → every p xs ≡ true → (x : A) → Memᴰ x xs → p x ≡ true
 unfolding every
+every_is {A = A} p [] e x x4 = elim x4 [ ]
 every_is p (y ∷ xs) e x (Memᴰ.head q) = rw q (and_both (p y) (every p xs) e).0
 every_is p (y ∷ xs) e x (Memᴰ.tail m) = every_is p xs (and_both (p y) (every p xs) e).1 x m
 

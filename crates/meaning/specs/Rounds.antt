@@ -61,6 +61,7 @@ children_joined t low c (n ∷ ns) k =
 in_all : (t : Sites) (low : ℕ) (c : Constraint) (ns : List ℕ) (n i : ℕ) → Memᴰ n ns → i < child_count c →
     Memᴰ (child_number t low c i, child_number t n c i) (all_pairs t low c ns)
 unfolding all_pairs like_children
+in_all t low c [] n i x'' h = elim x'' [ ]
 in_all t low c (m ∷ ns) n i (mathlib.Core.List.Memᴰ.head e) h =
     let q : Memᴰ (child_number t low c i, child_number t n c i) (like_children t low m c) =
     rw e (in_below (child_count c) (λ j. (child_number t low c j, child_number t m c j)) i h) in

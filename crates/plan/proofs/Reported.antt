@@ -88,6 +88,7 @@ module _ (key : Kept → ℕ) where
 
   pub in_sort : (l : List Kept) (y : Kept) → Memᴰ y l → Memᴰ y (sort_by key l)
   unfolding sort_by
+  in_sort [] y x' = elim x' [ ]
   in_sort (x ∷ l) y (Memᴰ.head q) = in_place x (sort_by key l) y (inl q)
   in_sort (x ∷ l) y (Memᴰ.tail q) = in_place x (sort_by key l) y (inr (in_sort l y q))
 
@@ -119,6 +120,7 @@ each_at (x ∷ l) d E (suc i) zero h k = absurd (omega arith)
 each_at (x ∷ l) d E (suc i) (suc j) h k = each_at l d E.1 i j (omega arith) (omega arith)
 
 index_of : (l : List Kept) (d y : Kept) → Memᴰ y l → (i : ℕ) × (i < length l) × (y ≡ get_or l i d)
+index_of [] d y x' = elim x' [ ]
 index_of (x ∷ l) d y (Memᴰ.head q) = (0, (omega arith), q)
 index_of (x ∷ l) d y (Memᴰ.tail m) = let w = index_of l d y m in let h = w.1 in (suc w.0, (omega arith), w.2)
 

@@ -152,6 +152,7 @@ keep_fewer f k (x ∷ l) h = go (either (f x)) (either (k x)) (keep_fewer f k l 
 
 -- and one more, if some element passes only the second
 pub keep_fewer_still : {A : Type 0} (f k : A → Bool) (l : List A) (y : A) → ((x : A) → f x ≡ true → k x ≡ true) → Memᴰ y l → f y ≡ false → k y ≡ true → length (keep f l) < length (keep k l)
+keep_fewer_still {A = A} f k [] y h x4 e g = elim x4 [ ]
 keep_fewer_still f k (x ∷ l) y h (Memᴰ.head q) e g =
     let p : f x ≡ false = rw (← q) e in
     let r : k x ≡ true = rw (← q) g in
@@ -176,6 +177,7 @@ same_test false b f k = sym (is_false b (λ e. apart (k e) refl))
 
 pub of_every : {A : Type 0} (f : A → Bool) (l : List A) → every f l ≡ true → (x : A) → Memᴰ x l → f x ≡ true
 unfolding every
+of_every {A = A} f [] e x x4 = elim x4 [ ]
 of_every f (y ∷ l) e x (Memᴰ.head q) = rw q (and_true (f y) (every f l) e).0
 of_every f (y ∷ l) e x (Memᴰ.tail m) = of_every f l (and_true (f y) (every f l) e).1 x m
 
@@ -197,6 +199,7 @@ of_any p (y ∷ xs) e = go (p y) refl e (λ q. of_any p xs q)
 
 pub in_any : {A : Type 0} (p : A → Bool) (xs : List A) (x : A) → Memᴰ x xs → p x ≡ true → any p xs ≡ true
 unfolding any
+in_any {A = A} p [] x x4 e = elim x4 [ ]
 in_any p (y ∷ xs) x (Memᴰ.head q) e = let z : p y ≡ true = ap p (sym q) ∙ e in rw z
 in_any p (y ∷ xs) x (Memᴰ.tail m) e = or_so (p y) (any p xs) (in_any p xs x m e)
 
@@ -211,6 +214,7 @@ of_joined (ys ∷ xss) x m = go (Memᴰ.append_cases ys m) (λ q. of_joined xss 
 
 pub in_joined : {A : Type 0} (xss : List (List A)) (xs : List A) (x : A) → Memᴰ xs xss → Memᴰ x xs → Memᴰ x (joined xss)
 unfolding joined
+in_joined {A = A} [] xs x x4 m = elim x4 [ ]
 in_joined (ys ∷ xss) xs x (Memᴰ.head e) m = Memᴰ.append_left (joined xss) (rw e at m)
 in_joined (ys ∷ xss) xs x (Memᴰ.tail k) m = Memᴰ.append_right ys (in_joined xss xs x k m)
 

@@ -30,6 +30,7 @@ use Rattle.rule_classes.proofs.Clashing.{labels, Agree, no_clash}
 
 in_joined : {A : Type 0} (xss : List (List A)) (xs : List A) (x : A) → Memᴰ xs xss → Memᴰ x xs → Memᴰ x (joined xss)
 unfolding joined
+in_joined {A = A} [] xs x x4 m = elim x4 [ ]
 in_joined (ys ∷ xss) xs x (Memᴰ.head e) m = Memᴰ.append_left (joined xss) (rw e at m)
 in_joined (ys ∷ xss) xs x (Memᴰ.tail l) m = Memᴰ.append_right ys (in_joined xss xs x l m)
 
@@ -49,6 +50,7 @@ keep_no P (x ∷ xs) h = rw (h x, keep) (keep_no P xs h)
 
 in_keep : (P : ℕ → Bool) (xs : List ℕ) (z : ℕ) → P z ≡ true → Memᴰ z xs → Memᴰ z (keep P xs)
 unfolding keep
+in_keep P [] z e x'' = elim x'' [ ]
 in_keep P (x ∷ xs) z e (Memᴰ.head q) = let w : P x ≡ true = rw q at e in rw (w, keep) (Memᴰ.head q)
 in_keep P (x ∷ xs) z e (Memᴰ.tail m) = go (P x) refl (in_keep P xs z e m)
   where

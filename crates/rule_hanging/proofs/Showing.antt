@@ -51,6 +51,7 @@ map_below g (suc n) f = map-append g (below n f) (f n ∷ []) ∙ ap (λ l. l ++
 
 put_cases : {A : Type 0} (s : ℕ) (a : A) (t : Table A) (p : ℕ × A) → Memᴰ p (put s a t) → (p ≡ (s, a)) ⊎ Memᴰ p t
 unfolding put
+put_cases {A = A} s a [] p (mathlib.Core.List.Memᴰ.tail x5) = elim x5 [ ]
 put_cases s a [] p (Memᴰ.head q) = inl q
 put_cases {A} s a (k ∷ t) p m = go (compare s k.0) refl (put_cases s a t p) m
   where

@@ -19,6 +19,7 @@ fits e = ltb e.0 terms && ltb e.1 terms
 
 fits_all : (es : Edges) → every fits es ≡ true → Between es
 unfolding every fits Between
+fits_all [] h a b m = elim m [ ]
 fits_all (e ∷ es) h a b m = go (ltb e.0 terms) refl (ltb e.1 terms) refl h m (λ q n. fits_all es q a b n)
   where
     go : (x : Bool) → ltb e.0 terms ≡ x → (y : Bool) → ltb e.1 terms ≡ y → ((x && y) && every fits es) ≡ true

@@ -39,6 +39,7 @@ keep_append p (x ∷ xs) ys = go (p x) refl (keep_append p xs ys)
     go false e h = keep_out p x (xs ++ ys) e ∙ h ∙ sym (ap (λ (l : List _). l ++ keep p ys) (keep_out p x xs e))
 
 pub mem_keep : {A : Type 0} (p : A → Bool) (x : A) (xs : List A) → Memᴰ x (keep p xs) ↔ (Memᴰ x xs × (p x ≡ true))
+to [] x3 h = elim x3 [ ]
 mem_keep p x xs = (of xs, λ h. to xs h.0 h.1)
   where
     of : (xs : List _) → Memᴰ x (keep p xs) → Memᴰ x xs × (p x ≡ true)
@@ -106,6 +107,7 @@ mem_numbers n a = (λ m. go (of_below n (λ b. b) a m), λ h. in_below n (λ b. 
 
 pub in_joined : {A : Type 0} (x : A) (l : List A) (ls : List (List A)) → Memᴰ l ls → Memᴰ x l → Memᴰ x (joined ls)
 unfolding joined
+in_joined {A = A} x l [] x3 m = elim x3 [ ]
 in_joined x l (k ∷ ls) (Memᴰ.head e) m = Memᴰ.append_left (joined ls) (rw e at m)
 in_joined x l (k ∷ ls) (Memᴰ.tail n) m = Memᴰ.append_right k (in_joined x l ls n m)
 
@@ -127,6 +129,7 @@ of_joined x (k ∷ ls) m = go (Memᴰ.append_cases k m) (of_joined x ls)
 -- ---- map
 
 pub in_map : {A B : Type 0} (f : A → B) (x : A) (xs : List A) → Memᴰ x xs → Memᴰ (f x) (map f xs)
+in_map {A = A} {B = B} f x [] x'' = elim x'' [ ]
 in_map f x (y ∷ ys) (Memᴰ.head e) = Memᴰ.head (ap f e)
 in_map f x (y ∷ ys) (Memᴰ.tail m) = Memᴰ.tail (in_map f x ys m)
 
