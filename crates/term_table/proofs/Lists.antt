@@ -39,7 +39,6 @@ keep_append p (x ∷ xs) ys = go (p x) refl (keep_append p xs ys)
     go false e h = keep_out p x (xs ++ ys) e ∙ h ∙ sym (ap (λ (l : List _). l ++ keep p ys) (keep_out p x xs e))
 
 pub mem_keep : {A : Type 0} (p : A → Bool) (x : A) (xs : List A) → Memᴰ x (keep p xs) ↔ (Memᴰ x xs × (p x ≡ true))
-to [] x3 h = elim x3 [ ]
 mem_keep p x xs = (of xs, λ h. to xs h.0 h.1)
   where
     of : (xs : List _) → Memᴰ x (keep p xs) → Memᴰ x xs × (p x ≡ true)
@@ -55,6 +54,7 @@ mem_keep p x xs = (of xs, λ h. to xs h.0 h.1)
         go false e r = let q = r (rw (keep_out p y ys e) at m) in (Memᴰ.tail q.0, q.1)
 
     to : (xs : List _) → Memᴰ x xs → p x ≡ true → Memᴰ x (keep p xs)
+    to [] x3 h = elim x3 [ ]
     to (y ∷ ys) (Memᴰ.head q) h = rw (keep_in p y ys (ap p (sym q) ∙ h)) (Memᴰ.head q)
     to (y ∷ ys) (Memᴰ.tail m) h = go (p y) refl (to ys m h)
       where
