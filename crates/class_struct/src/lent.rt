@@ -1,5 +1,5 @@
 // The struct lent by reference: "Joins and finds change the one set of classes where it stands". Its fields are lent on to the functions on parts,
-// and nothing is copied. What lends a struct is proved by a walk by hand; `in_turn` is above the four, and its callers need none.
+// and nothing is copied. `in_turn` makes the four calls one after the other, on one struct.
 ghost use Rattle.std.specs.Prelude.{◌≡◌};
 ghost use Rattle.paper.specs.Classes as C;
 ghost use Rattle.classes.specs.Answers.{looked, sought, joined, taken};

@@ -1,4 +1,6 @@
 // The classes as one struct, by value; `lent` has the same calls on the struct lent by reference. Each stands on the call over lent parts in `classes`.
+#![tactic(auto)]
+
 ghost use Rattle.std.specs.Prelude.{◌≡◌, replicate};
 ghost use Rattle.paper.specs.Numbers.{max_sites};
 ghost use Rattle.paper.specs.Classes as C;
