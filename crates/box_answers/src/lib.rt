@@ -20,7 +20,7 @@ pub const ANSWER: usize = 2;
 pub const NONE: u64 = 65535;
 
 // A number, and the two words that go with it.
-#[derive(Drop)]
+#[derive(Clone, Copy)]
 pub struct Said {
     pub number: u32,
     pub one: u64,

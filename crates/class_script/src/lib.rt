@@ -7,19 +7,19 @@ use classes::{Joined, Looked, Same, Sought, Taken};
 use paper::SITES;
 
 // A number of a line.
-#[derive(Drop)]
+#[derive(Clone, Copy)]
 pub enum Number {
     Is(u16),
     Not,
 }
 
-#[derive(Drop)]
+#[derive(Clone, Copy)]
 pub enum Numbers {
     Are(u16, u16),
     Not,
 }
 
-#[derive(Drop)]
+#[derive(Clone, Copy)]
 pub enum Call {
     Merge(u16, u16),
     Find(u16),

@@ -14,38 +14,38 @@ use widths::size16;
 pub const NEVER: u16 = SITES as u16;
 
 // A find with the links that it followed.
-#[derive(Drop)]
+#[derive(Clone, Copy)]
 pub struct Trail {
     pub found: Found,
     pub links: u16,
 }
 
 // The answers of the calls. A join is done, and tells whether it made one class of two; a removal tells how many members it listed.
-#[derive(Drop)]
+#[derive(Clone, Copy)]
 pub enum Looked {
     Got(Trail),
     Refused(Refusal),
 }
 
-#[derive(Drop)]
+#[derive(Clone, Copy)]
 pub enum Sought {
     Got(Found),
     Refused(Refusal),
 }
 
-#[derive(Drop)]
+#[derive(Clone, Copy)]
 pub enum Joined {
     Done(bool),
     Refused(Refusal),
 }
 
-#[derive(Drop)]
+#[derive(Clone, Copy)]
 pub enum Same {
     Is(bool),
     Refused(Refusal),
 }
 
-#[derive(Drop)]
+#[derive(Clone, Copy)]
 pub enum Taken {
     Members(usize),
     Refused(Refusal),

@@ -176,14 +176,14 @@ pub fn line_of(text: &[u8]) -> Spoken
 // ---- a proposal's text
 
 // Whether a text is as laid out, or its first line that is not, counted from 1.
-#[derive(Drop)]
+#[derive(Clone, Copy)]
 pub enum Laid {
     Well,
     BadAt { line: u64 },
 }
 
 // A line, and where the next one begins.
-#[derive(Drop)]
+#[derive(Clone, Copy)]
 struct Line {
     to: usize,
     said: Spoken,

@@ -16,14 +16,14 @@ use widths::{size16, word8, word16};
 const NONE: u16 = 65535;
 
 // The count of sites after the children were added.
-#[derive(Drop)]
+#[derive(Clone, Copy)]
 pub enum Given {
     To(u16),
     Refused(Refusal),
 }
 
 // And the children's numbers by field, 0 past them.
-#[derive(Drop)]
+#[derive(Clone, Copy)]
 pub struct Children {
     pub outcome: Given,
     pub numbers: [u16; FIELDS],
@@ -38,7 +38,7 @@ pub struct Wanted {
 }
 
 // The numbers of the children by field, NONE where it is missing, and how many are missing.
-#[derive(Drop)]
+#[derive(Clone, Copy)]
 pub struct Seen {
     pub numbers: [u16; FIELDS],
     pub missing: usize,

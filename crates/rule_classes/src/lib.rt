@@ -171,7 +171,7 @@ fn close(
 // ---- check 4
 
 // A holder's site, and the first holder of its class, from which it differs.
-#[derive(Drop)]
+#[derive(Clone, Copy)]
 enum Clash {
     At(u16, u16),
     Nothing,

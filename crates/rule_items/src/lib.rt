@@ -19,7 +19,7 @@ use rule_words::{Packed, word};
 use widths::size16;
 
 // How the rule fares; how many words the tail has, how many sites are constrained, how many numbers the equalities have.
-#[derive(Drop)]
+#[derive(Clone, Copy)]
 pub struct Progress {
     pub tail: u16,
     pub held: usize,

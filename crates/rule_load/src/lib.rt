@@ -39,14 +39,14 @@ const FEW_SITES: usize = 2 * CONSTRAINED;
 const FEW_JOINED: usize = FEW_SITES + 2 * FIELDS;
 
 // How many sites there are then, or why the rule is refused.
-#[derive(Drop)]
+#[derive(Clone, Copy)]
 pub enum Loaded {
     Kept(u16),
     Refused(Refusal),
 }
 
 // What came of a rule with lent lists.
-#[derive(Drop)]
+#[derive(Clone, Copy)]
 pub enum Tried {
     Done(Loaded),
     Short,

@@ -29,7 +29,7 @@ pub const SITE_WORDS: usize = 4;
 // An equal site, and the lowest member of its class.
 const EQUAL_WORDS: usize = 2;
 
-#[derive(Drop)]
+#[derive(Clone, Copy)]
 pub struct Packed {
     pub head: u64,
     pub second: u64,

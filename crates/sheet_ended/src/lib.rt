@@ -11,7 +11,7 @@ use sheet_findings::{Room, write_end, write_term};
 use term_table::{WORDS, add, flag, has_term};
 
 // The sets that were ended. It is the `Ended` of 01's definitions in few words.
-#[derive(Drop)]
+#[derive(Clone, Copy)]
 pub struct EndedSets {
     pub sets: u16,
     pub kept: u16,

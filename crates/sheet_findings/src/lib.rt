@@ -9,7 +9,7 @@ use paper::Refusal;
 use sheet_digits::write_byte;
 
 // Written up to here; or the room was too short, and nothing was written.
-#[derive(Drop)]
+#[derive(Clone, Copy)]
 pub enum Room {
     To(usize),
     Short,

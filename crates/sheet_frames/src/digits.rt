@@ -50,7 +50,7 @@ fn pair(values: &[u8; 23], h: u8, l: u8) -> u16
 }
 
 // Whether a line is digits, and how many bytes they write.
-#[derive(Drop)]
+#[derive(Clone, Copy)]
 pub(crate) struct Taken {
     pub right: bool,
     pub length: usize,

@@ -8,7 +8,7 @@ use site_body::{is_body, word_at};
 use widths::size8;
 
 // A constraint that bytes are, or none.
-#[derive(Drop)]
+#[derive(Clone, Copy)]
 pub enum Shape {
     Are(Constraint),
     NoShape,

@@ -11,7 +11,7 @@ use paper::Item;
 pub const BYTES: usize = paper::DIGITS / 2;
 
 // The bytes that digits write, and 0 from there on. Where they write none, `right` is false and every byte is 0.
-#[derive(Drop)]
+#[derive(Clone, Copy)]
 pub struct Bytes {
     pub right: bool,
     pub length: usize,
@@ -19,7 +19,7 @@ pub struct Bytes {
 }
 
 // What a line says. Of a site only that it is one: its body, the kind first, stays in the line's bytes, behind the first.
-#[derive(Drop)]
+#[derive(Clone, Copy)]
 pub enum Frame {
     Begin {
         term: u16,
@@ -37,7 +37,7 @@ pub enum Frame {
 }
 
 // A line that was read: its frame, and its bytes as in `Bytes`.
-#[derive(Drop)]
+#[derive(Clone, Copy)]
 pub struct Read {
     pub frame: Frame,
     pub length: usize,

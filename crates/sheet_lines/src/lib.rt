@@ -11,14 +11,14 @@ pub const LINE_FEED: u8 = 10;
 pub const HELD: usize = paper::DIGITS + 1;
 
 // Where a line ends: at its LF, or not in this piece.
-#[derive(Drop)]
+#[derive(Clone, Copy)]
 pub enum Ends {
     At(usize),
     Open,
 }
 
 // What came of a line in earlier pieces: its first HELD bytes.
-#[derive(Drop)]
+#[derive(Clone, Copy)]
 pub struct Held {
     pub length: usize,
     pub bytes: [u8; HELD],
@@ -104,7 +104,7 @@ fn with_rest(h: Held, rest: &[u8]) -> Held
 }
 
 // Where the line ends in its piece, or the piece does where it is unended; and what is held of it.
-#[derive(Drop)]
+#[derive(Clone, Copy)]
 pub struct Cut {
     pub unended: bool,
     pub to: usize,

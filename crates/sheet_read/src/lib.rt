@@ -24,7 +24,7 @@ pub const SITES_ROOM: usize = SITES * SLOT;
 pub const KEPT_ROOM: usize = RULES * STRIDE;
 
 // Where the reading stands: the reader, what is held of a line that goes on in the next piece, and whether the sheet stopped.
-#[derive(Drop)]
+#[derive(Clone, Copy)]
 pub struct State {
     pub reader: Reader,
     pub held: Held,
@@ -32,7 +32,7 @@ pub struct State {
 }
 
 // The state after a part of a piece: where the part ends, and the end of what was written.
-#[derive(Drop)]
+#[derive(Clone, Copy)]
 pub struct Fed {
     pub state: State,
     pub read: usize,
@@ -241,7 +241,7 @@ fn is_left(read: usize, all: usize, stopped: bool) -> bool
 
 // How many bytes of findings; or why there is no answer: the room was too short (what is in it then is the first part of the findings), or the
 // memory is less than SITES_ROOM, KEPT_ROOM, ITEMS_ROOM, and nothing was read.
-#[derive(Drop)]
+#[derive(Clone, Copy)]
 pub enum Checked {
     Done(usize),
     NoRoom,

@@ -17,7 +17,7 @@ pub const STEP_ROOM: usize = REPORT_ROOM;
 pub const LAST_LINE: u32 = 4294967294;
 
 // The open set: how many sites and how many kept rules of it lie in lent memory.
-#[derive(Drop)]
+#[derive(Clone, Copy)]
 pub struct OpenSet {
     pub term: u16,
     pub flags: u8,
@@ -26,7 +26,7 @@ pub struct OpenSet {
 }
 
 // A rule whose items are still to come.
-#[derive(Drop)]
+#[derive(Clone, Copy)]
 pub struct Awaited {
     pub place: u32,
     pub priority: u64,
@@ -47,7 +47,7 @@ pub enum Stands {
 }
 
 // The reader before the line of this number.
-#[derive(Drop)]
+#[derive(Clone, Copy)]
 pub struct Reader {
     pub line: u32,
     pub stands: Stands,
@@ -55,7 +55,7 @@ pub struct Reader {
 }
 
 // What a line was.
-#[derive(Drop)]
+#[derive(Clone, Copy)]
 pub enum Event {
     Begun,
     Site,
@@ -78,7 +78,7 @@ pub enum Event {
 }
 
 // The reader after a line, what the line was, and the end of what was written.
-#[derive(Drop)]
+#[derive(Clone, Copy)]
 pub struct Stepped {
     pub reader: Reader,
     pub event: Event,
@@ -86,14 +86,14 @@ pub struct Stepped {
 }
 
 // The set that a frame is for, if the reader stands where the frame may stand.
-#[derive(Drop)]
+#[derive(Clone, Copy)]
 pub enum Where {
     In(OpenSet),
     Not,
 }
 
 // The rule whose items are to come, if there is one.
-#[derive(Drop)]
+#[derive(Clone, Copy)]
 pub enum Awaits {
     Rule {
         set: OpenSet,

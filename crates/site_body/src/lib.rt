@@ -19,7 +19,7 @@ const WAYS: [u8; 14] = [0, 0, 0, 0, 1, 2, 1, 2, 1, 2, 1, 1, 1, 1];
 const TAILS: [u8; 14] = [0, 0, 0, 0, 0, 0, 0, 0, 3, 0, 1, 0, 0, 1];
 
 // A site that can be a child: its source, with its variant and its field.
-#[derive(Drop)]
+#[derive(Clone, Copy)]
 pub enum Link {
     Variant {
         source: u16,

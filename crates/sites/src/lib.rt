@@ -13,7 +13,7 @@ use widths::size8;
 
 pub const SLOT: usize = site_slots::SLOT;
 
-#[derive(Drop)]
+#[derive(Clone, Copy)]
 pub enum Numbered {
     // It was there.
     Known(u16),
@@ -22,14 +22,14 @@ pub enum Numbered {
     Refused(Refusal),
 }
 
-#[derive(Drop)]
+#[derive(Clone, Copy)]
 pub enum Wrote {
     // Written, up to here.
     To(usize),
     Full,
 }
 
-#[derive(Drop)]
+#[derive(Clone, Copy)]
 pub enum Unfolded {
     Bytes(usize),
     Refused(Refusal),

@@ -12,7 +12,7 @@ use sheet_findings::Room;
 use tell_parts::{byte_at, fill, two_at};
 
 // What a frame is, by its kind and its length.
-#[derive(Drop)]
+#[derive(Clone, Copy)]
 pub enum Shape {
     Refused,
     OverlapTwo,

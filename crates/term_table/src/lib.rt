@@ -11,14 +11,14 @@ use paper::{Refusal, TERMS, Verdict};
 pub const WORDS: usize = TERMS / 64;
 
 // What a question answers.
-#[derive(Drop)]
+#[derive(Clone, Copy)]
 pub enum Asked {
     Answer(bool),
     Refused(Refusal),
 }
 
 // Terms ascending: the first `count` of `terms`. The others are 0.
-#[derive(Drop)]
+#[derive(Clone, Copy)]
 pub struct Listed {
     pub count: u16,
     pub terms: [u16; TERMS],
