@@ -1,5 +1,7 @@
 // What crosses to C. Structs and enums do not, so that the result of a call is 01's number, and the answer, or what is told, stands as two words in a lent
 // slice.
+#![tactic(auto)]
+
 ghost use Rattle.std.specs.Prelude.{◌≡◌, [], ◌∷◌};
 ghost use Rattle.paper.specs.Numbers.{number, told};
 ghost use Rattle.box_answers.specs.Border.{short, answer_words, said, has_room, answered, found_word, bit};

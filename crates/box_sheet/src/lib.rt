@@ -1,5 +1,7 @@
 // The sheet calls, before they are exported. Between two pieces of a sheet all that is kept of it lies in lent memory: the state (words and the bytes of
 // a held line), the open set, the items of its open rule, the term table.
+#![tactic(auto)]
+
 ghost use Rattle.std.specs.Prelude.{◌≡◌};
 ghost use Rattle.paper.specs.Words.{if◌then◌else◌};
 ghost use Rattle.term_table.specs.Table.{no_edges};

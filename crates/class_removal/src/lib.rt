@@ -1,4 +1,6 @@
 // A class taken apart: its members listed, and taken out of every class. On the lent parts of `classes`, and total on any contents.
+#![tactic(auto)]
+
 ghost use Rattle.std.specs.Prelude.{◌≡◌, List, ℕ, ◌-◌, ◌<◌, ◌≤◌, length, get_or};
 ghost use Rattle.paper.specs.declared.Found.TheVariants.{At};
 ghost use Rattle.paper.specs.Numbers.{max_sites};

@@ -1,4 +1,6 @@
 // A script of class calls: a line is a call, and gets one answer. specs/Script.antt has the words.
+#![tactic(auto)]
+
 ghost use Rattle.std.specs.Prelude.{◌≡◌, ◌≤◌, length};
 ghost use Rattle.paper.specs.Classes as C;
 ghost use Rattle.class_script.specs.Script.{number_in, space_in, starts, pair_in, to_merge, to_same, to_find, to_find_mut, to_remove, call_in, stepped};

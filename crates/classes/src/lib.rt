@@ -1,6 +1,8 @@
 // Disjoint sets of sites (the Rust's disjointsets.rs), on lent parts: nothing is copied. A site's parent is SITES or more where it was never joined.
 // Every call is total on any contents: a chain is followed for at most SITES links. specs/Answers.antt ties their answers to paper's outcomes.
 // (`class_removal` takes classes apart. `class_struct` has the same calls on a struct, by value and lent by reference.)
+#![tactic(auto)]
+
 ghost use Rattle.std.specs.Prelude.{◌≡◌, List, ℕ, ◌<◌};
 ghost use Rattle.paper.specs.Numbers.{max_sites};
 ghost use Rattle.paper.specs.Classes as C;

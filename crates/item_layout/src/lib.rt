@@ -1,5 +1,7 @@
 // Items of a rule that are handed over as words: are they as laid out? `item_words` reads any words as some item; here is which words are an item's own, so
 // that memory which was not cleared is never taken for another rule.
+#![tactic(auto)]
+
 ghost use Rattle.std.specs.Prelude.{◌≡◌};
 ghost use Rattle.item_layout.specs.Layout.{shaped, paired, laid_out, stray};
 

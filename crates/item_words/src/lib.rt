@@ -1,4 +1,6 @@
 // A rule while its items come in, a line each: the items as words of lent memory, in which the rule is handed over when the last is there.
+#![tactic(auto)]
+
 ghost use Rattle.std.specs.Prelude.{◌≡◌, ℕ, ◌+◌, ◌*◌, ◌≤◌, ◌<◌, length, get_or, set};
 ghost use Rattle.rule_words.specs.Stored.{put_four};
 ghost use Rattle.rule_words.specs.Packing.{InRange};

@@ -1,4 +1,6 @@
 // The program: reads sheets, or a script of class calls, and writes what the library answers. Here are arguments, files and buffers alone.
+#![tactic(auto)]
+
 mod words;
 
 use item_words::ITEMS_ROOM;

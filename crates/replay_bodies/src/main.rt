@@ -1,4 +1,6 @@
 // Replays bodies from standard input, one a line in upper-case hexadecimal, against one set: what `add` answers, and a new site's unfolding.
+#![tactic(auto)]
+
 ghost use Rattle.std.specs.Prelude.{◌<◌};
 
 use libc::{STDIN_FILENO, STDOUT_FILENO};

@@ -1,4 +1,6 @@
 // Replays stored sheets: the sample and every ruling, with the findings that `check` has to write for each.
+#![tactic(auto)]
+
 use item_words::ITEMS_ROOM;
 use run_answers::How;
 use run_sheets::OUT;

@@ -1,5 +1,7 @@
 // Reads lines from standard input and writes what each is: the frame's number and its fields, or `bad`. The input is taken in small pieces,
 // so that most lines are held from one piece to the next.
+#![tactic(auto)]
+
 use paper::{Constraint, Item};
 use sheet_findings::Room;
 use sheet_frames::Frame;

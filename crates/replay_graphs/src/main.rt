@@ -4,6 +4,8 @@
 // Out: for each graph a line `cyclic T T ..`, its cyclic terms ascending, four digits each. An edge with a term over 255 is `refused 28`, and the graph
 // stays as it was.
 // Any other line is `bad LINE`, counted from 1, and so is a text that ends inside a line or a graph; nothing after it is read.
+#![tactic(auto)]
+
 use libc::{STDIN_FILENO, STDOUT_FILENO};
 use paper::{TERMS, Verdict};
 use term_table::{Listed, WORDS};

@@ -1,4 +1,6 @@
 // Replays a script of class calls from standard input.
+#![tactic(auto)]
+
 use paper::SITES;
 use run_script::{LINE, ROOM};
 

@@ -7,6 +7,8 @@
 //   priority a                  the next priority of a proposal
 //   flags v                     what the check says of the proposal; the next proposal begins
 //   n                           the next set begins
+#![tactic(auto)]
+
 use paper::{CONSTRAINED, EQUALS, RULES};
 use rule_words::STRIDE;
 use tell_plan::{put_check, put_plan};

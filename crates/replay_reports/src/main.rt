@@ -6,6 +6,8 @@
 //   i j o                       the comparison of two rules
 //   i t                         a rule's total
 //   flags p                     the report; the next set begins
+#![tactic(auto)]
+
 use paper::{CONSTRAINED, EQUALS, Overlap, RULES};
 use report::{REPORT_ROOM, Reported};
 use rule_words::STRIDE;

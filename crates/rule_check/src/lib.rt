@@ -1,5 +1,7 @@
 // The class check of a rule: the classes and check 4 are from `rule_classes`; here is check 6, walks from class to class that return, and the whole.
 // `rule_rows` says how the lent lists are read.
+#![tactic(auto)]
+
 ghost use Rattle.std.specs.Prelude.{◌≡◌, Bool, true, false, ◌++◌, ◌⊎◌, ℕ, ◌+◌, ◌≤◌, ◌<◌, length, get_or};
 ghost use Rattle.std.proofs.Math.Option.{none};
 ghost use Rattle.paper.specs.Numbers.{max_sites, done};

@@ -1,5 +1,7 @@
 // A set's table on its way through one rule: the sites in lent memory, and after them the children that the rule adds, each as one word of a tail.
 // The lent memory is only read, so that a refused rule leaves it as it was.
+#![tactic(auto)]
+
 ghost use Rattle.std.specs.Prelude.{◌≡◌, ◌++◌, map, ◌+◌, ◌-◌, ◌≤◌, ◌<◌, min, length};
 ghost use Rattle.std.proofs.lemmas.List.Edits.{sets};
 ghost use Rattle.paper.specs.Words.{any, or_else};

@@ -1,5 +1,7 @@
 // The classes of a rule: the written equalities are joined, then like-numbered children of sites of one class under equal constraints, until nothing
 // changes; then check 4. `rule_rows` says how the lent lists are read.
+#![tactic(auto)]
+
 ghost use Rattle.std.specs.Prelude.{◌≡◌, Bool, ◌&&◌, ℕ, ◌+◌, ◌≤◌, ◌<◌, get_or, replicate, eqb};
 ghost use Rattle.paper.specs.Numbers.{max_sites, max_fields};
 ghost use Rattle.paper.specs.Sites.{same_constraint};

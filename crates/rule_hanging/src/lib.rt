@@ -1,5 +1,7 @@
 // Check 5: the lowest site that items name and that is a child which its source is not constrained to have.
 // The constrained sites stand first in `sites`, `held` of them, each with its row in `rows`; row i has its constraint in the three words from 3 * i.
+#![tactic(auto)]
+
 ghost use Rattle.std.specs.Prelude.{◌≡◌, Bool, List, [], ◌∷◌, ℕ, ◌<◌, length};
 ghost use Rattle.paper.specs.Words.{keep, least};
 ghost use Rattle.paper.specs.Loading.{Loading, hangs};

@@ -1,6 +1,8 @@
 // The items of a rule, as written, and then check 5.
 // Row i belongs to item i: its constraint in three words from 3 * i, its children's numbers from 8 * i. The constrained sites stand ascending, each
 // with its row; the two sites of each equality stand one after the other.
+#![tactic(auto)]
+
 ghost use Rattle.std.specs.Prelude.{◌≡◌, true, List, ℕ, ◌+◌, ◌*◌, ◌≤◌, ◌<◌, min, length};
 ghost use Rattle.std.proofs.Math.Option.{none};
 ghost use Rattle.paper.specs.declared.Item.TheVariants.{Is, Equal};

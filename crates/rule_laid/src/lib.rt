@@ -1,5 +1,7 @@
 // Whether constrained sites are laid out as the rounds of 01, "Loading a rule", need them: ascending in `sites`, all known, each with its row in
 // `rows`; row i has its constraint in the words from 3 * i. What lies past the end of a list is 0.
+#![tactic(auto)]
+
 ghost use Rattle.std.specs.Prelude.{length};
 ghost use Rattle.rule_laid.specs.Laid.{GoodRow, Faults, Entry, Entries, Known};
 

@@ -1,5 +1,7 @@
 // Loading a rule into a set whose sites and kept rules lie in lent memory.
 // The lent table is only read until the rule is kept: new sites wait as words of a tail.
+#![tactic(auto)]
+
 ghost use Rattle.std.specs.Prelude.{◌≡◌, List, ◌∷◌, [], ℕ, ◌+◌, ◌*◌, ◌<◌, ◌≤◌, min, length, get_or, take};
 ghost use Rattle.paper.specs.Numbers.{max_sites, max_items, max_constrained, max_equal, done};
 ghost use Rattle.paper.specs.declared.Item.{Item};

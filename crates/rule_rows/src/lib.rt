@@ -1,6 +1,8 @@
 // The constrained sites of a rule as lent lists have them: holder h is the site sites[h] under row rows[h]. Row i has its constraint in the three words
 // from 3 * i and its children from kids[8 * i]. What lies past the end of a list is 0.
 // Nothing here knows of items, so that any number of constrained sites, of one rule or of two, can be read.
+#![tactic(auto)]
+
 ghost use Rattle.std.specs.Prelude.{◌≡◌, true, ℕ, ◌≤◌, ◌<◌, min, length, get_or};
 ghost use Rattle.paper.specs.Words.{or_else};
 ghost use Rattle.paper.specs.Numbers.{max_sites, max_fields};

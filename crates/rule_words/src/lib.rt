@@ -1,4 +1,6 @@
 // A kept rule as words of lent memory: how constraints are packed, where each number of a rule lies, and how a rule is written there.
+#![tactic(auto)]
+
 ghost use Rattle.std.specs.Prelude.{◌≡◌, ℕ, ◌+◌, ◌*◌, ◌≤◌, ◌<◌, length, get_or, set};
 ghost use Rattle.paper.specs.declared.Constraint.TheVariants.{Variant};
 ghost use Rattle.paper.specs.Numbers.{max_constrained, max_equal};

@@ -1,5 +1,7 @@
 // What a line of a sheet, and its end, are answered by `check`, `explain` and `kept`: bytes behind those that the room has. What a finding is in words, and
 // what is kept, is said by `tell_english` and `tell_kept`; here is which of it is said, and when. proofs/InWords.antt has what `explain` comes to.
+#![tactic(auto)]
+
 ghost use Rattle.std.specs.Prelude.{◌≡◌, Bool, ◌+◌, ◌-◌, ◌<◌, max, length};
 ghost use Rattle.paper.specs.Words.{four};
 ghost use Rattle.tell_text.specs.Written.{wrote};

@@ -1,5 +1,7 @@
 // Lines of sheets in the program's buffers: a line is a step of the reader, and its answer goes behind what the buffer has; a border ends one sheet and begins
 // the next. Where the buffer may be too short for an answer it is written out first. proofs/InOrder.antt has what the contracts come to.
+#![tactic(auto)]
+
 ghost use Rattle.std.specs.Prelude.{◌≡◌, Bool, ◌&&◌, ◌||◌, ◌+◌, length, ltb};
 ghost use Rattle.term_table.specs.Table.{no_edges};
 ghost use Rattle.sheet_reader.specs.State.{lent};

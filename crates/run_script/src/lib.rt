@@ -1,5 +1,7 @@
 // Runs a script of class calls from a file and writes one answer a line to standard output. A line that is no call is answered `bad` with its number, and
 // ends the script. What a line means is class_script, what it is answered tell_reply; here is reading and writing.
+#![tactic(auto)]
+
 ghost use Rattle.std.specs.Prelude.{◌≡◌, ◌<◌};
 ghost use Rattle.paper.specs.Classes as C;
 ghost use Rattle.tell_text.specs.Written.{wrote};

@@ -1,5 +1,7 @@
 // Sheets from an open file: chunks, and the lines in them, each taken as `run_lines` says, and the answers in large writes to standard output.
 // proofs/Sheet.antt has what the contracts come to: of one sheet `check` writes the findings.
+#![tactic(auto)]
+
 ghost use Rattle.std.specs.Prelude.{◌≡◌, Bool};
 ghost use Rattle.paper.specs.Layout.{lines};
 ghost use Rattle.sheet_lines.specs.Held.{no_line};

@@ -1,5 +1,7 @@
 // Bytes as upper-case hexadecimal digits, written into lent room: every line of findings and every text stands on these. Past the end of the room
 // nothing is stored.
+#![tactic(auto)]
+
 ghost use Rattle.std.specs.Prelude.{◌≡◌, List, [], ◌∷◌, ℕ, ◌+◌, ◌<◌, ◌/◌, ◌%◌, set};
 ghost use Rattle.std.proofs.lemmas.List.Edits.{sets};
 ghost use Rattle.paper.specs.Words.{two, four};

@@ -1,5 +1,7 @@
 // What later findings need of the sets that were ended: how many they are, their terms, which have rec, how many rules they kept; and, in a lent
 // term table, the edges between terms.
+#![tactic(auto)]
+
 ghost use Rattle.std.specs.Prelude.{◌≡◌, Bool, ◌&&◌, ℕ, ◌+◌, ◌*◌, ◌≤◌, ◌<◌, length, take};
 ghost use Rattle.term_table.specs.Table.{with_edges};
 ghost use Rattle.sites.specs.Slots.{site_of, sites_in};

@@ -1,4 +1,6 @@
 // Findings as lines of upper-case hexadecimal, in lent memory.
+#![tactic(auto)]
+
 ghost use Rattle.std.specs.Prelude.{◌≡◌, ◌+◌, ◌*◌, ◌≤◌, ◌<◌, length};
 ghost use Rattle.paper.specs.Numbers.{number};
 ghost use Rattle.paper.specs.Layout.{hex};

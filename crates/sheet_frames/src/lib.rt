@@ -1,4 +1,6 @@
 // A line of a sheet: its digits to bytes, and its bytes to a frame.
+#![tactic(auto)]
+
 ghost use Rattle.std.specs.Prelude.{◌≡◌, ◌≤◌};
 ghost use Rattle.sheet_frames.specs.Said.{max_bytes, reading_of};
 

@@ -1,4 +1,6 @@
 // Lines of a sheet that comes in pieces: where a line ends, what is held of one that goes on in the next piece, and a line cut out.
+#![tactic(auto)]
+
 ghost use Rattle.std.specs.Prelude.{◌≡◌, List, [], ◌++◌, ℕ, min, drop};
 ghost use Rattle.sheet_lines.specs.Cut.{part_of, held_rest, Fits, line_from, cut_at};
 ghost use Rattle.sheet_lines.specs.Ends.{line_end};

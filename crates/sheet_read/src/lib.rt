@@ -1,4 +1,6 @@
 // A sheet that comes in pieces of any size, read in constant memory: begin, feed, end. And a sheet that is there whole.
+#![tactic(auto)]
+
 ghost use Rattle.std.specs.Prelude.{◌≡◌, Bool, true, false, List, [], ◌⊎◌, ℕ, ◌+◌, ◌-◌, ◌≤◌, ◌<◌, length, take, drop};
 ghost use Rattle.sheet_reader.specs.State.{lent, step_room};
 ghost use Rattle.sheet_ended.specs.Sets.{end_room};

@@ -1,5 +1,7 @@
 // Where the reader of a sheet stands between two lines, and how a line is answered: the sheet stops, or it goes on. The reader is a small struct by value; the
 // open set, the items of its open rule and the term table lie in lent memory, and what a line finds is written to a lent room.
+#![tactic(auto)]
+
 ghost use Rattle.std.specs.Prelude.{◌≡◌, Bool};
 ghost use Rattle.sheet_reader.specs.State.{Lent};
 ghost use Rattle.sheet_reader.specs.Answers.{is_outside, site_set, rule_set, open_rule};

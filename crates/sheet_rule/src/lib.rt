@@ -1,4 +1,6 @@
 // A rule of a sheet: 03, its items, and the load once the last of them is there.
+#![tactic(auto)]
+
 ghost use Rattle.std.specs.Prelude.{◌≡◌, ℕ, ◌+◌, ◌≤◌, ◌<◌, length};
 ghost use Rattle.paper.specs.Numbers.{max_items};
 ghost use Rattle.paper.specs.Layout.{a_rule, an_item};

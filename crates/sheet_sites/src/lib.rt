@@ -1,4 +1,6 @@
 // A set up to its first rule: 01 begins it, 02 gives it a site.
+#![tactic(auto)]
+
 ghost use Rattle.std.specs.Prelude.{◌≡◌, List, ℕ, ◌-◌, length, take, drop};
 ghost use Rattle.std.proofs.Math.Option.{some};
 ghost use Rattle.paper.specs.Sites.{Site};

@@ -1,4 +1,6 @@
 // Where the reading of a sheet stands, as words and bytes of lent memory: between two pieces of a sheet nothing else is kept of it.
+#![tactic(auto)]
+
 ghost use Rattle.std.specs.Prelude.{◌≡◌, Bool, true, ◌++◌, ℕ, ◌%◌, ◌≤◌, length, get_or, take, drop};
 ghost use Rattle.std.proofs.lemmas.List.Edits.{sets};
 ghost use Rattle.paper.specs.Words.{if◌then◌else◌};

@@ -1,4 +1,6 @@
 // 01, "Sheets": a sheet is read a line at a time. Each line is a step of the reader, over lent memory.
+#![tactic(auto)]
+
 ghost use Rattle.std.specs.Prelude.{◌≡◌, List, ℕ, ◌+◌, ◌≤◌, ◌<◌, length};
 ghost use Rattle.paper.specs.Layout.{end_set};
 ghost use Rattle.paper.specs.Sheets as paper;

@@ -1,5 +1,7 @@
 // One body of a site, the kind byte first, as it stands in a sheet and in a slot: is it one, and what does it say? Bytes that are none are read as a site
 // that no table has (`no_site`), so every question has an answer. (The Rust's `Binding` and its `sources`.)
+#![tactic(auto)]
+
 ghost use Rattle.std.specs.Prelude.{◌≡◌, true, ◌+◌, ◌*◌, ◌≤◌, ◌<◌, length, get_or, drop};
 ghost use Rattle.std.proofs.Math.ListN.{get_elem?};
 ghost use Rattle.paper.specs.Layout.{whole, site_read};

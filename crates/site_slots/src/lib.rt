@@ -1,5 +1,7 @@
 // Looking through a table of slots of 32 bytes, a length byte and then a body: for a body, or for four bytes at one place of a slot. A search is mostly
 // passing over slots, so that goes by eight.
+#![tactic(auto)]
+
 ghost use Rattle.std.specs.Prelude.{◌≡◌, ℕ, ◌+◌, ◌-◌, ◌*◌, ◌≤◌, ◌<◌, length, ◌∷◌};
 ghost use Rattle.site_slots.specs.Seeking.{slot, quad, four_at, Finds, Same, Tells, Skips, Passed, Reach, Onward, Seeks};
 

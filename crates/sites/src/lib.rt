@@ -1,4 +1,6 @@
 // A set's sites in lent memory: slots of 32 bytes, a length byte and then the sheet body, kind byte first. (The Rust's `dedup_binding`.)
+#![tactic(auto)]
+
 ghost use Rattle.std.specs.Prelude.{◌≡◌, suc, ◌+◌, ◌*◌, ◌≤◌, ◌<◌, min, length, drop, ◌∷◌, map};
 ghost use Rattle.paper.specs.Words.{joined};
 ghost use Rattle.paper.specs.Numbers.{max_unfolding};

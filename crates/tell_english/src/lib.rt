@@ -1,5 +1,7 @@
 // A finding's frame in, English out: what is wrong, why it matters at the printer, and what to change. The words are in specs/Words.antt. Where a limit is
 // passed, eight bytes stand behind the frame: the number that was asked for, and the item or line that asked.
+#![tactic(auto)]
+
 ghost use Rattle.std.specs.Prelude.{◌≡◌, Bool, ℕ, ◌+◌, ◌*◌, ◌≤◌, ◌<◌, length, get_or};
 ghost use Rattle.tell_text.specs.Written.{wrote};
 ghost use Rattle.sheet_findings.specs.Written.{room_said};

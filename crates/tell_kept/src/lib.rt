@@ -1,4 +1,6 @@
 // The lines that show what the loader made of a sheet: sets, kept rules with their sites unfolded, refused rules, pairs, cyclic terms.
+#![tactic(auto)]
+
 ghost use Rattle.std.specs.Prelude.{◌≡◌, [], ◌∷◌, take};
 ghost use Rattle.paper.specs.Words.{flag};
 ghost use Rattle.paper.specs.Numbers.{told};

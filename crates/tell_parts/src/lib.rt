@@ -1,4 +1,6 @@
 // Words with parts of a finding's frame put in: numbers in decimal, lists of places, plurals. specs/Parts.antt says what each sign stands for.
+#![tactic(auto)]
+
 ghost use Rattle.std.specs.Prelude.{◌≡◌, ◌++◌, ℕ, ◌+◌, ◌*◌, ◌≤◌, ◌<◌, length, get_or};
 ghost use Rattle.tell_text.specs.Written.{wrote};
 ghost use Rattle.tell_text.specs.Decimal.{decimal};

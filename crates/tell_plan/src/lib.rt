@@ -1,4 +1,6 @@
 // The texts of `plan` and of `check-plan` (change request [11]): what the planner proposes for a set, and what the check says of a proposal.
+#![tactic(auto)]
+
 ghost use Rattle.std.specs.Prelude.{◌≡◌, List, [], ◌∷◌, ◌++◌, ℕ, ◌+◌, ◌<◌, ◌≤◌, length, get_or};
 ghost use Rattle.paper.specs.Words.{below, joined};
 ghost use Rattle.paper.specs.Numbers.{max_rules};

@@ -1,4 +1,6 @@
 // What a line of a script of class calls is answered, in lent room, without the LF that ends it. specs/Replies.antt has the words.
+#![tactic(auto)]
+
 ghost use Rattle.std.specs.Prelude.{◌≡◌, min, length};
 ghost use Rattle.tell_text.specs.Written.{wrote};
 ghost use Rattle.tell_reply.specs.Replies.{bool_text, refusal_text, joined_text, trail_text, looked_text, found_text, sought_text, same_text, member_text, members_text, taken_text, reply_text};

@@ -1,4 +1,6 @@
 // Words, decimal and hexadecimal numbers into lent room. What passes the end of the room is left out; each call answers where the next one goes on.
+#![tactic(auto)]
+
 ghost use Rattle.std.specs.Prelude.{◌≡◌, List, [], ◌∷◌};
 ghost use Rattle.paper.specs.Words.{two, four, eight};
 ghost use Rattle.sheet_digits.specs.Digits.{digits_of};

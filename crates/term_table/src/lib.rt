@@ -1,6 +1,8 @@
 // 01, "Terms": the edges between terms, who reaches whom, and the cyclic terms. The Rust's recursion.rs.
 //
 // A term table is `[[u64; WORDS]; TERMS]`: row a has a mark for each term that an edge from a runs to.
+#![tactic(auto)]
+
 ghost use Rattle.std.specs.Prelude.{◌≡◌, false, ◌+◌, ◌<◌};
 ghost use Rattle.term_table.specs.Table.{terms, in_row, has_term, marked, no_edges, with_edge, with_term, has_edge, is_cyclic, left, bare, Closure, cyclic_terms, unflagged, added, asked, listed};
 ghost use Rattle.term_table.specs.Loops.{both_of, has_some, Unmarked, join_at, join_by, join_to, widen, pass, on_diagonal, list_to};

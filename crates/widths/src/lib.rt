@@ -1,5 +1,7 @@
 // A number in a wider type: it stays the number that it is. A proof then asks nothing of the cast. The name says what comes out (`size` a usize, `half` a
 // u32, `word` a u64) and how many bits go in.
+#![tactic(auto)]
+
 ghost use Rattle.std.specs.Prelude.{◌≡◌};
 
 pub fn size8(x: u8) -> usize
