@@ -1,0 +1,6 @@
+use borrow.Author.Rules.{rules}
+use Rattle.term_table.proofs.Turns.{read_row}
+use Rattle.term_table.proofs.in_row.Goals as goal
+
+pub returns : goal.returns
+returns c = read_row _ _
