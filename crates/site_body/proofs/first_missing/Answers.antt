@@ -14,7 +14,7 @@ pub returns-then-count-s : goal.returns-then-count-s
 returns-then-count-s c = ap found_as (sym (missing_here c.args.b.now c.args.count c.loop-left.left c.loop-left.at c.word_at-s.result c.loop-left-test.true c.loop-left.invariant.0 c.word_at-s.ensures c.if-count-s.true) ∙ c.loop-left.invariant.1)
 
 pub overflow_add-at : goal.overflow_add-at
-overflow_add-at c = omega (arith, c.type_inv.)
+overflow_add-at c = omega (arith, c.type_inv)
 
 pub overflow_sub-left : goal.overflow_sub-left
 overflow_sub-left c = omega arith

@@ -21,7 +21,7 @@ pub returns-then-holds : goal.returns-then-holds
 returns-then-holds c = find_here c.args.m.now c.args.b.now c.args.count c.whole_slots-n.result c.whole_slots-n.ensures.0 c.loop-i.i c.loop-i.invariant.1 _ c.loop-i-test.true c.holds.ensures c.if-holds.true
 
 pub overflow_add-i : goal.overflow_add-i
-overflow_add-i c = omega (arith, c.whole_slots-n.ensures.0, c.loop-i-test.true, c.ranges.)
+overflow_add-i c = omega (arith, c.whole_slots-n.ensures.0, c.loop-i-test.true, c.ranges)
 
 pub candidate-i-requires-in-loop-i : goal.candidate-i-requires-in-loop-i
 candidate-i-requires-in-loop-i c = (omega (arith, c.loop-i-test.true), c.whole_slots-n.ensures.1, c.if-b-ge-SLOT.false)
