@@ -118,7 +118,7 @@ mem_right (x ∷ s) t m = Memᴰ.tail (mem_right s t m)
 terms_snoc : (r ts : List ℕ) (x : ℕ) → with_terms r (ts ++ (x ∷ [])) ≡ marked_by (with_terms r ts) x
 unfolding with_terms
 terms_snoc r [] x = refl
-terms_snoc r (y ∷ ts) x = terms_snoc r ts x
+terms_snoc r (y ∷ ts) x = terms_snoc (left r (with_term r y)) ts x
 
 recs_yes : (r : List ℕ) (g : Set) → is_rec (head_of g) ≡ true → recs_with r g.term g.flags ≡ marked_by r g.term
 unfolding recs_with is_rec head_of
