@@ -40,6 +40,6 @@ pub held_is : (h : Held) (s : List ℕ) (k j : ℕ) (out : List ℕ) → h.lengt
 unfolding held_more
 held_is h s k j out l f g p = rw (p, g, f, le-leb h.length max_held l)
 
--- what is made is what holds; the array of a value has its length (`map` is how its bytes stand in memory)
-pub holding : {A : Type 0} (h r : Held) (s : List ℕ) (f : ℕ → A) → length (map f h.bytes) ≡ max_held → r ≡ held_more h s → (r ≡ held_more h s) × Holds r (held_in h ++ s)
-holding h r s f e q = (q, rw q (more_holds h s (sym (length-map h.bytes f) ∙ e)))
+-- what is made is what holds
+pub holding : (h r : Held) (s : List ℕ) → length h.bytes ≡ max_held → r ≡ held_more h s → (r ≡ held_more h s) × Holds r (held_in h ++ s)
+holding h r s e q = (q, rw q (more_holds h s e))

@@ -9,7 +9,7 @@ use Rattle.sheet_lines.proofs.Scan.{one_stored, held_full, held_is, holding}
 use Rattle.sheet_lines.proofs.hold.Goals as goal
 
 pub returns-then-h-gt-HELD : goal.returns-then-h-gt-HELD
-returns-then-h-gt-HELD c = holding c.args.h _ c.args.s.now _ c.well_formed.0.1.1.1.0.1.0.1 (held_full c.args.h c.args.s.now c.if-h-gt-HELD.true)
+returns-then-h-gt-HELD c = holding c.args.h _ c.args.s.now (search rules) (held_full c.args.h c.args.s.now c.if-h-gt-HELD.true)
 
 pub overflow_sub-n : goal.overflow_sub-n
 overflow_sub-n c = omega arith
@@ -40,4 +40,4 @@ pub overflow_add-result : goal.overflow_add-result
 overflow_add-result c = omega arith
 
 pub returns : goal.returns
-returns c = holding c.args.h _ c.args.s.now _ c.well_formed.0.1.1.1.0.1.0.1 (held_is c.args.h c.args.s.now c.least-k.result c.loop-j.j c.loop-j.bytes (omega arith) c.least-k.ensures (omega arith) c.loop-j.invariant.1)
+returns c = holding c.args.h _ c.args.s.now (search rules) (held_is c.args.h c.args.s.now c.least-k.result c.loop-j.j c.loop-j.bytes (omega arith) c.least-k.ensures (omega arith) c.loop-j.invariant.1)
