@@ -5,6 +5,7 @@ use Rattle.term_table.specs.Table.{terms}
 use Rattle.term_table.specs.Loops.{on_diagonal, list_to}
 use Rattle.term_table.proofs.Lists.{Listing, listing_none, listing_turn, listing_done}
 use Rattle.term_table.proofs.list.Goals as goal
+use Rattle.term_table.proofs.list.Goals.{then-listable, else-listable}
 
 pub loop-i-init : goal.loop-i-init
 loop-i-init c = listing_none _
@@ -32,7 +33,7 @@ loop-i-smaller c = omega arith
 
 pub loop-i-preserved : goal.loop-i-preserved
 loop-i-preserved c = listing_turn _ _ _ _ c.loop-i.invariant (omega arith) c.listable.ensures
-    (⊎_elim (λ w. inl (w.0.taken, w.1, w.2)) (λ w. inr (w.0.left, w.1, w.2)) c.if-listable.branch)
+    (elim c.if-listable.branch [ then-listable w ↦ inl (w.if-listable.true, w.found-is, w.n-is) | else-listable w ↦ inr (w.if-listable.false, w.found-is, w.n-is) ])
 
 pub overflow_cast-result : goal.overflow_cast-result
 overflow_cast-result c = omega arith
