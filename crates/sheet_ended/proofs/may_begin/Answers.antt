@@ -1,0 +1,16 @@
+use native.Mathlib.Omega.{arith}
+use Rattle.sheet_ended.proofs.Laws.{begins_used, begins_many, begins_high, begins_fine}
+use borrow.Author.Rules.{rules}
+use Rattle.sheet_ended.proofs.may_begin.Goals as goal
+
+pub returns-then-has_term : goal.returns-then-has_term
+returns-then-has_term c = begins_used c.args.e _ _ _ c.has_term.ensures c.if-has_term.true
+
+pub returns-then-sets-ge-SETS : goal.returns-then-sets-ge-SETS
+returns-then-sets-ge-SETS c = begins_many c.args.e _ _ _ c.has_term.ensures c.if-has_term.false _ (omega arith) c.if-sets-ge-SETS.true
+
+pub returns-then-term-ge-TERMS : goal.returns-then-term-ge-TERMS
+returns-then-term-ge-TERMS c = begins_high c.args.e _ _ _ c.has_term.ensures c.if-has_term.false c.if-sets-ge-SETS.false c.if-term-ge-TERMS.true
+
+pub returns : goal.returns
+returns c = begins_fine c.args.e _ _ _ c.has_term.ensures c.if-has_term.false c.if-sets-ge-SETS.false c.if-term-ge-TERMS.false
