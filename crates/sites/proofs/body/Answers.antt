@@ -1,0 +1,16 @@
+use mathlib.Core.Path.{refl, sym}
+use Prim.Native.Nat.{◌*◌}
+use native.Mathlib.Omega.{arith}
+use Rattle.sites.proofs.Held.{slot_cut, slot_over}
+use Rattle.sites.proofs.Places.{slot_part}
+use borrow.Author.Rules.{rules}
+use Rattle.sites.proofs.body.Goals as goal
+
+pub returns-then-m-at : goal.returns-then-m-at
+returns-then-m-at c = sym (slot_cut c.args.m.now c.args.i c.if-m-at.true)
+
+pub returns-then-n-ge-SLOT : goal.returns-then-n-ge-SLOT
+returns-then-n-ge-SLOT c = sym (slot_over c.args.m.now c.args.i (omega (arith, c.if-m-at.false)) (omega (arith, c.if-n-ge-SLOT.true, c.size8-n.ensures)))
+
+pub returns : goal.returns
+returns c = slot_part c.args.m.now c.args.i c.size8-n.result (c.args.i * 32) refl (omega (arith, c.if-m-at.false)) c.size8-n.ensures (omega (arith, c.if-n-ge-SLOT.false))
