@@ -186,7 +186,7 @@ climbs_none H m = record {
 
 -- one holder more; w and v are its site, widened
 pub climbs_step : (sites rows words kids : List ℕ) (m next h s w i v : ℕ) (t : Bool) → ClimbsTo (held sites rows words kids) m next h → h < m → s ≡ get_or sites h 0 → w ≡ s → next ≤ w → i ≡ get_or rows h 0
-    → (t ≡ true → (f : ℕ) → f < kid_count words i → s < kid_in kids i f) → not t ≡ false → v ≡ s → ClimbsTo (held sites rows words kids) m (v + 1) (h + 1)
+    → (t ≡ true → (f : ℕ) → f < kid_count words i → s < kid_in kids i f) → t ≡ true → v ≡ s → ClimbsTo (held sites rows words kids) m (v + 1) (h + 1)
 climbs_step sites rows words kids m next h s w i v t T hm es ew l ei K et ev = record {
   within = omega arith;
   climb = record { ascend = λ f g a b. up f g (ℕ_discrete g h) a b; higher = λ g f a b. kid g f (ℕ_discrete g h) a b };
@@ -196,12 +196,8 @@ climbs_step sites rows words kids m next h s w i v t T hm es ew l ei K et ev = r
     H : Held
     H = held sites rows words kids
 
-    true_of : (t : Bool) → not t ≡ false → t ≡ true
-    true_of true e = refl
-    true_of false e = let z : ◌≡◌ {A = ℕ} 0 1 = cc in absurd (omega arith)
-
     here : (f : ℕ) → f < count_of H h → s < kid_of H h f
-    here = rw ei at (K (true_of t et))
+    here = rw ei at (K et)
 
     up : (f g : ℕ) → Dec (g ≡ h) → f < g → g < h + 1 → get_or sites f 0 < get_or sites g 0
     up f g (yes e) a b = let u = T.past f (omega arith) in rw (e, ← es) (omega arith)

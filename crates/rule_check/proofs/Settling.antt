@@ -34,15 +34,11 @@ over_told boss turned z e _ o = no_way (sym e ∙ ap not (eq-eqb (get_or turned 
 
 -- ---- ready
 
-pub ready_step : (boss turned p kids : List ℕ) (i f k w z : ℕ) (t : Bool) → k ≡ kid_in kids i f → w ≡ rep p k → z ≡ w → (t ≡ true → Over boss turned z) → not t ≡ false
+pub ready_step : (boss turned p kids : List ℕ) (i f k w z : ℕ) (t : Bool) → k ≡ kid_in kids i f → w ≡ rep p k → z ≡ w → (t ≡ true → Over boss turned z) → t ≡ true
     → Over boss turned (rep p (kid_in kids i f))
 ready_step boss turned p kids i f k w z t ek ew ez h e =
     let q : z ≡ rep p (kid_in kids i f) = ez ∙ (ew ∙ ap (rep p) ek) in
-    rw q at (h (go t e))
-  where
-    go : (t : Bool) → not t ≡ false → t ≡ true
-    go true e = refl
-    go false e = no_way e
+    rw q at (h e)
 
 -- ---- a turn
 
