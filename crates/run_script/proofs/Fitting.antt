@@ -1,5 +1,5 @@
 -- One answer takes at most `most` bytes, so that half the buffer is always enough for it, and nothing is cut.
-use Rattle.std.proofs.Common.{◌≡◌, ℕ, zero, suc, ◌+◌, ◌*◌, ◌/◌, ◌%◌, ◌<◌, ◌≤◌, min, Bool, true, false, eqb, ltb, leb, List, [], ◌∷◌, ◌++◌, length, get_or, take, drop, sym, refl, ap, ◌∙◌, subst, arith, length-append, ltb-false, ltb-true, eqb-true}
+use Rattle.std.proofs.Common.{◌≡◌, ℕ, zero, suc, ◌+◌, ◌*◌, ◌/◌, ◌<◌, ◌≤◌, min, Bool, true, false, eqb, ltb, leb, List, [], ◌∷◌, ◌++◌, length, get_or, take, drop, refl, ap, ◌∙◌, subst, arith, length-append, ltb-false, ltb-true, eqb-true}
 use mathlib.Core.Path.{subst⁻¹}
 use lib.Seq.{sets, length-sets}
 use borrow.Author.Tests.{eqb-false}
@@ -8,9 +8,8 @@ use Rattle.paper.specs.declared.Found.TheVariants as found
 use Rattle.paper.specs.declared.Refusal.{Refusal}
 use Rattle.paper.specs.declared.Refusal.TheVariants.{Layout, Unknown, Itself, Unreachable, Hanging, Endless, TooManySites, TooManySources, TooManyFields, TooManyRules, TooManyItems, TooManyConstrained, TooManyEqual, TooManySets, TermTooHigh, UnfoldingTooLong, PlaceUsed, Repeated}
 use Rattle.paper.specs.Words.{if◌then◌else◌}
-use Rattle.paper.specs.Text.{unended}
-use Rattle.paper.specs.Numbers.{max_sites, Outcome, done, refused, ◌>>=◌, demand}
-use Rattle.paper.specs.Classes.{Classes, no_classes, is_at, flatten_in, flattened, find, in_same_set, sweep, Removed, remove_at, remove_set_of, len, is_empty}
+use Rattle.paper.specs.Numbers.{max_sites, done, ◌>>=◌, demand}
+use Rattle.paper.specs.Classes.{Classes, no_classes, is_at, flatten_in, flattened, find, in_same_set, sweep, remove_at, remove_set_of, len, is_empty}
 use Rattle.classes.specs.Answers.{over, looked, sought, joined, same, taken_by, taken_if, taken}
 use Rattle.classes.specs.declared.Looked.{Looked}
 use Rattle.classes.specs.declared.Looked.TheVariants as L
@@ -29,7 +28,7 @@ use Rattle.tell_text.specs.Decimal.{decimal, one_digit, more_digits}
 use Rattle.tell_text.specs.Written.{wrote, fits}
 use Rattle.tell_reply.specs.Replies.{bool_text, found_text, linked, joined_text, looked_text, sought_text, same_text, members_text, member_text, listed_text, refusal_text, reply_text}
 use Rattle.run_script.specs.declared.Place.{Place}
-use Rattle.run_script.specs.Said.{lf, most, room, full, spared, InRefusal, InFound, InRange, line_text, replied, Answered, Held, Standing, Took, IsFedTo, Fed, Read, ended, fed, ReadTo, Ran, unended_text, stand, first_place, Whole}
+use Rattle.run_script.specs.Said.{lf, most, room, full, spared, InRefusal, InFound, InRange, line_text, replied, Answered, Held, Standing, Took, IsFedTo, Read, ended, fed, ReadTo, Ran, unended_text, stand, first_place, Whole}
 
 -- ---- a number
 -- under a 1 with k + 1 zeros: so many digits

@@ -2,3 +2,4 @@
 pub mod Saying
 pub mod Fitting
 pub mod Ranges
+pub mod Stopping

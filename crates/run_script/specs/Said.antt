@@ -156,6 +156,12 @@ pub record Fed (bytes : List ℕ) (s u : Standing) : Type 0 where
   pub to : IsFedTo bytes many s u
   pub all : u.place.goes ≡ true → many ≡ length bytes
 
+-- the first of them, up to a write that failed
+pub record FedSome (bytes : List ℕ) (s u : Standing) : Type 0 where
+  pub many : ℕ
+  pub within : many ≤ length bytes
+  pub to : IsFedTo bytes many s u
+
 -- ---- chunks
 -- at the end of the input the script ends
 abbrev pub at_end : Place → Place
@@ -179,6 +185,15 @@ pub record Ran (s u : Standing) : Type 0 where
   pub many : ℕ
   pub to : ReadTo many s u
   pub all : u.place.goes ≡ true → many ≡ turns_all
+
+-- up to a read or a write that failed: whole chunks, and the first bytes of the next one, if it came
+pub record Stopped (s u : Standing) : Type 0 where
+  pub many : ℕ
+  pub last : Standing
+  pub to : ReadTo many s last
+  pub goes : last.place.goes ≡ true
+  pub chunk : List ℕ
+  pub fed : FedSome chunk last u
 
 -- a last line without LF is answered `bad` with its number
 unfoldable pub unended_text : ℕ → ℕ → List ℕ

@@ -1,14 +1,16 @@
-// Runs a script of class calls from a file and writes one answer a line to standard output. A line that is no call is answered `bad` with its number, and
+// Runs a script of class calls from a file and writes one answer a line. A line that is no call is answered `bad` with its number, and
 // ends the script. What a line means is class_script, what it is answered tell_reply; here is reading and writing.
 #![tactic(auto)]
 
-ghost use Rattle.std.specs.Prelude.{◌≡◌, ◌<◌};
+ghost use Rattle.std.specs.Prelude.{◌≡◌, ◌⊎◌, ◌<◌, ℕ, List, IfOk, OnOk, OnErr};
+ghost use Rattle.run_script.specs.declared.Place.{Place};
 ghost use Rattle.paper.specs.Classes as C;
 ghost use Rattle.tell_text.specs.Written.{wrote};
-ghost use Rattle.run_script.specs.Said.{is_bad, replied, spared, InRange, line_text, Answered, kept_line, kept_used, Held, stand, Took, Fed, Read, Ran, unended_text, Whole};
+ghost use Rattle.run_script.specs.Said.{is_bad, replied, spared, InRange, line_text, Answered, kept_line, kept_used, Held, stand, first_place, Took, Fed, FedSome, Read, Ran, Stopped, unended_text, Whole};
 
 use class_script::Reply;
 use paper::SITES;
+use std::io;
 use tell_reply::put_reply;
 use tell_text::{put, put_decimal, put_text};
 
@@ -29,10 +31,11 @@ struct Place {
     goes: bool,
 }
 
-fn flush(out: &[u8], n: usize) {
-    if n <= out.len() {
-        io::write_all(libc::STDOUT_FILENO, &out[..n]);
+fn flush<W: io::Write>(output: &mut W, out: &[u8], n: usize) -> io::Result<()> {
+    if out.len() < n {
+        return Ok(());
     }
+    output.write_all(&out[..n])
 }
 
 fn is_bad(r: Reply) -> bool
@@ -69,14 +72,14 @@ fn reply_to(
 }
 
 // Writes the buffer out where it is half full: how much of it is filled then.
-fn spare(out: &[u8], n: usize) -> usize
-    ensures { result ≡ spared n }
+fn spare<W: io::Write>(output: &mut W, out: &[u8], n: usize) -> io::Result<usize>
+    ensures { IfOk result (λ filled. filled ≡ spared n) }
 {
     if FULL < n {
-        flush(out, n);
-        return 0;
+        flush(output, out, n)?;
+        return Ok(0);
     }
-    n
+    Ok(n)
 }
 
 // The answer and its LF, behind the first n bytes: how many are filled then. The types say how long its numbers can be.
@@ -88,8 +91,9 @@ fn put_answer(out: &mut [u8], n: usize, members: &[u16], r: Reply, number: u64) 
     put(out, m, b'\n')
 }
 
-// A line has ended.
-fn end_line(
+// A line has ended. A write that failed comes after the call: the memory is as with one that did not.
+fn end_line<W: io::Write>(
+    output: &mut W,
     parents: &mut [u16; SITES],
     ranks: &mut [u8; SITES],
     count: &mut u16,
@@ -97,22 +101,28 @@ fn end_line(
     line: &[u8],
     out: &mut [u8],
     p: Place,
-) -> Place
-    ensures { let before = C.classes parents.old ranks.old count.old in
+) -> io::Result<Place>
+    ensures answered { let before = C.classes parents.old ranks.old count.old in
         let after = C.classes parents.new ranks.new count.new in
-        Answered before after members.old members.new line.now out.old out.new p result }
+        let answered = Answered before after members.old members.new line.now out.old out.new p in
+        IfOk result (λ q. answered q) }
+    ensures unwritten { let before = C.classes parents.old ranks.old count.old in
+        let after = C.classes parents.new ranks.new count.new in
+        let answered = Answered before after members.old members.new line.now out.old out.new p in
+        OnErr result ((q : Place) × answered q) }
 {
     let r = reply_to(parents, ranks, count, members, line, p.used);
     let number = p.line;
     let n = put_answer(out, p.filled, members, r, number);
-    let filled = spare(out, n);
     let bad = is_bad(r);
-    Place {
+    let next = number.wrapping_add(1);
+    let filled = spare(output, out, n)?;
+    Ok(Place {
         used: 0,
-        line: std::num::wrapping_add_u64(number, 1),
+        line: next,
         filled,
         goes: !bad,
-    }
+    })
 }
 
 // Keeps a byte of the open line after the `used` that are kept: how many are then. What passes LINE is not kept.
@@ -139,7 +149,8 @@ fn hold(line: &mut [u8], p: Place, b: u8) -> Place
     }
 }
 
-fn take(
+fn take<W: io::Write>(
+    output: &mut W,
     parents: &mut [u16; SITES],
     ranks: &mut [u8; SITES],
     count: &mut u16,
@@ -148,20 +159,27 @@ fn take(
     out: &mut [u8],
     p: Place,
     b: u8,
-) -> Place
-    ensures { let before = C.classes parents.old ranks.old count.old in
+) -> io::Result<Place>
+    ensures took { let before = C.classes parents.old ranks.old count.old in
         let after = C.classes parents.new ranks.new count.new in
         let from = stand before members.old line.old out.old p in
-        let to = stand after members.new line.new out.new result in
-        Took b from to }
+        let to = stand after members.new line.new out.new in
+        IfOk result (λ q. Took b from (to q)) }
+    ensures unwritten { let before = C.classes parents.old ranks.old count.old in
+        let after = C.classes parents.new ranks.new count.new in
+        let from = stand before members.old line.old out.old p in
+        let to = stand after members.new line.new out.new in
+        OnErr result ((q : Place) × Took b from (to q)) }
 {
     if b == b'\n' {
-        return end_line(parents, ranks, count, members, line, out, p);
+        return end_line(output, parents, ranks, count, members, line, out, p);
     }
-    hold(line, p, b)
+    Ok(hold(line, p, b))
 }
 
-fn feed(
+// The bytes that came, up to a line that is no call.
+fn feed<W: io::Write>(
+    output: &mut W,
     parents: &mut [u16; SITES],
     ranks: &mut [u8; SITES],
     count: &mut u16,
@@ -170,28 +188,36 @@ fn feed(
     out: &mut [u8],
     p: Place,
     bytes: &[u8],
-) -> Place
-    ensures { let before = C.classes parents.old ranks.old count.old in
+) -> io::Result<Place>
+    ensures fed { let before = C.classes parents.old ranks.old count.old in
         let after = C.classes parents.new ranks.new count.new in
         let from = stand before members.old line.old out.old p in
-        let to = stand after members.new line.new out.new result in
-        Fed bytes.now from to }
+        let to = stand after members.new line.new out.new in
+        IfOk result (λ q. Fed bytes.now from (to q)) }
+    ensures unwritten { let before = C.classes parents.old ranks.old count.old in
+        let after = C.classes parents.new ranks.new count.new in
+        let from = stand before members.old line.old out.old p in
+        let to = stand after members.new line.new out.new in
+        OnErr result ((q : Place) × FedSome bytes.now from (to q)) }
 {
     let mut q = p;
     let mut i: usize = 0;
     while i < bytes.len() {
         if !q.goes {
-            return q;
+            return Ok(q);
         }
-        let next = take(parents, ranks, count, members, line, out, q, bytes[i]);
-        q = next;
+        q = take(
+            output, parents, ranks, count, members, line, out, q, bytes[i],
+        )?;
         i += 1;
     }
-    q
+    Ok(q)
 }
 
 // Reads once, and takes what came. At the end of the input the script ends too.
-fn read_some(
+fn read_some<R: io::Read, W: io::Write>(
+    input: &mut R,
+    output: &mut W,
     parents: &mut [u16; SITES],
     ranks: &mut [u8; SITES],
     count: &mut u16,
@@ -200,28 +226,44 @@ fn read_some(
     out: &mut [u8],
     bytes: &mut [u8],
     p: Place,
-    fd: i32,
-) -> Place
-    ensures { let before = C.classes parents.old ranks.old count.old in
+) -> io::Result<Place>
+    ensures read { let before = C.classes parents.old ranks.old count.old in
         let after = C.classes parents.new ranks.new count.new in
         let from = stand before members.old line.old out.old p in
-        let to = stand after members.new line.new out.new result in
-        Read from to }
+        let to = stand after members.new line.new out.new in
+        IfOk result (λ q. Read from (to q)) }
+    ensures stopped { let before = C.classes parents.old ranks.old count.old in
+        let after = C.classes parents.new ranks.new count.new in
+        let from = stand before members.old line.old out.old p in
+        let to = stand after members.new line.new out.new in
+        OnErr result ((q : Place) × (chunk : List ℕ) × FedSome chunk from (to q)) }
 {
-    let n = io::read_full(fd, bytes);
+    let n = input.read(bytes)?;
     if n == 0 {
-        return Place {
+        return Ok(Place {
             used: p.used,
             line: p.line,
             filled: p.filled,
             goes: false,
-        };
+        });
     }
-    feed(parents, ranks, count, members, line, out, p, &bytes[..n])
+    feed(
+        output,
+        parents,
+        ranks,
+        count,
+        members,
+        line,
+        out,
+        p,
+        &bytes[..n],
+    )
 }
 
 // A proved loop has to end, and nothing says that the input does: the turns count down from a number that no run uses up.
-fn run_all(
+fn run_all<R: io::Read, W: io::Write>(
+    input: &mut R,
+    output: &mut W,
     parents: &mut [u16; SITES],
     ranks: &mut [u8; SITES],
     count: &mut u16,
@@ -230,25 +272,30 @@ fn run_all(
     out: &mut [u8],
     bytes: &mut [u8],
     p: Place,
-    fd: i32,
-) -> Place
-    ensures { let before = C.classes parents.old ranks.old count.old in
+) -> io::Result<Place>
+    ensures ran { let before = C.classes parents.old ranks.old count.old in
         let after = C.classes parents.new ranks.new count.new in
         let from = stand before members.old line.old out.old p in
-        let to = stand after members.new line.new out.new result in
-        Ran from to }
+        let to = stand after members.new line.new out.new in
+        IfOk result (λ q. Ran from (to q)) }
+    ensures stopped { let before = C.classes parents.old ranks.old count.old in
+        let after = C.classes parents.new ranks.new count.new in
+        let from = stand before members.old line.old out.old p in
+        let to = stand after members.new line.new out.new in
+        OnErr result ((q : Place) × Stopped from (to q)) }
 {
     let mut q = p;
     let mut turns = u64::MAX;
     while turns > 0 {
         if !q.goes {
-            return q;
+            return Ok(q);
         }
-        let next = read_some(parents, ranks, count, members, line, out, bytes, q, fd);
-        q = next;
+        q = read_some(
+            input, output, parents, ranks, count, members, line, out, bytes, q,
+        )?;
         turns -= 1;
     }
-    q
+    Ok(q)
 }
 
 // A last line that has no LF is no line. (After a bad line nothing is open.)
@@ -263,8 +310,11 @@ fn put_unended(out: &mut [u8], p: Place) -> usize
     put(out, m, b'\n')
 }
 
-// Answers the script that the open file fd has, in lent memory: `line` holds LINE bytes and `out` ROOM, so that no answer is cut.
-pub fn run_in(
+// Answers the script that an open file has, in lent memory: `line` holds LINE bytes and `out` ROOM, so that no answer is cut. After a read or a write that failed
+// the memory is as the bytes before it left it, or, where the last answers could not be written out, as all of them did.
+pub fn run_in<R: io::Read, W: io::Write>(
+    input: &mut R,
+    output: &mut W,
     parents: &mut [u16; SITES],
     ranks: &mut [u8; SITES],
     count: &mut u16,
@@ -272,11 +322,15 @@ pub fn run_in(
     line: &mut [u8],
     out: &mut [u8],
     bytes: &mut [u8],
-    fd: i32,
-)
-    ensures { let after = C.classes parents.new ranks.new count.new in
+) -> io::Result<()>
+    ensures whole { let after = C.classes parents.new ranks.new count.new in
         let lent = Whole members.old line.old out.old in
-        lent after members.new line.new out.new }
+        OnOk result (lent after members.new line.new out.new) }
+    ensures stopped { let after = C.classes parents.new ranks.new count.new in
+        let from = stand C.no_classes members.old line.old out.old first_place in
+        let to = stand after members.new line.new out.new in
+        let lent = Whole members.old line.old out.old in
+        OnErr result (((q : Place) × Stopped from (to q)) ⊎ lent after members.new line.new out.new) }
 {
     classes::clear_in(parents, ranks, count);
     let p = Place {
@@ -285,7 +339,9 @@ pub fn run_in(
         filled: 0,
         goes: true,
     };
-    let q = run_all(parents, ranks, count, members, line, out, bytes, p, fd);
+    let q = run_all(
+        input, output, parents, ranks, count, members, line, out, bytes, p,
+    )?;
     let n = put_unended(out, q);
-    flush(out, n);
+    flush(output, out, n)
 }
