@@ -18,7 +18,7 @@ use Rattle.classes.specs.declared.Sought.{Sought}
 use Rattle.classes.specs.declared.Joined.{Joined}
 use Rattle.classes.specs.declared.Taken.{Taken}
 use Rattle.sites.specs.declared.Numbered.TheVariants as N
-use Rattle.paper.specs.Words.{if◌then◌else◌}
+use Rattle.std.specs.Prelude.{if◌then◌else◌}
 use Rattle.sites.specs.Slots.{numbered_as, unfolded_as}
 use Rattle.paper.specs.declared.Rule.{Rule}
 use Rattle.paper.specs.Loading.{Set}

@@ -1,7 +1,7 @@
 -- What crosses of a rule that is loaded.
 use Rattle.std.specs.Prelude.{List, [], ◌∷◌, ℕ, ltb}
 use Rattle.paper.specs.declared.Refusal.TheVariants.{Layout}
-use Rattle.paper.specs.Words.{if◌then◌else◌}
+use Rattle.std.specs.Prelude.{if◌then◌else◌}
 use Rattle.paper.specs.Numbers.{Outcome, refused}
 use Rattle.item_layout.specs.Layout.{stray}
 use Rattle.rule_load.specs.declared.Loaded.{Loaded}

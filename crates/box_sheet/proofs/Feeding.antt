@@ -10,7 +10,8 @@ use lib.ListN.{length, get_or, set, take, drop, length-set, take-append-drop, le
 use lib.Seq.{take_all, get_or-set_same, get_or-set_other}
 use lib.Dec.{leb}
 use borrow.Author.Tests.{leb-true}
-use Rattle.paper.specs.Words.{if◌then◌else◌, joined}
+use Rattle.std.specs.Prelude.{if◌then◌else◌}
+use Rattle.paper.specs.Words.{joined}
 use Rattle.paper.specs.Sheets.{findings}
 use Rattle.paper.proofs.Lists.{no_way}
 use Rattle.sheet_findings.specs.Written.{written_at}

@@ -4,7 +4,7 @@ use mathlib.Core.Bool.{Bool, true, false}
 use mathlib.Core.List.{List, [], ◌∷◌}
 use Prim.Native.Nat.{ℕ}
 use lib.ListN.{length}
-use Rattle.paper.specs.Words.{if◌then◌else◌}
+use Rattle.std.specs.Prelude.{if◌then◌else◌}
 use Rattle.term_table.specs.Table.{Square}
 use Rattle.sheet_findings.specs.declared.Room.{Room}
 use Rattle.sheet_reader.specs.State.{Lent, step_room}

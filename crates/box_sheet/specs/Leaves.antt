@@ -1,6 +1,6 @@
 -- What the sheet calls answer and leave, whatever the words and bytes that are lent hold: `piece_in`, `ending_in`, `sheet_in`.
 use Rattle.std.specs.Prelude.{Bool, List, [], ◌∷◌, ℕ, length}
-use Rattle.paper.specs.Words.{if◌then◌else◌}
+use Rattle.std.specs.Prelude.{if◌then◌else◌}
 use Rattle.term_table.specs.Table.{Square}
 use Rattle.sheet_ended.specs.Sets.{end_room}
 use Rattle.sheet_reader.specs.State.{Lent, step_room}

@@ -1,6 +1,6 @@
 -- What the sheet calls answer and leave, over the words and bytes that are lent. The state that they say is `state_in`.
 use Rattle.std.specs.Prelude.{◌≡◌, Bool, true, false, List, [], ◌∷◌, ◌⊎◌, ℕ, ◌+◌, ◌≤◌, ◌<◌, length, get_or, take}
-use Rattle.paper.specs.Words.{if◌then◌else◌}
+use Rattle.std.specs.Prelude.{if◌then◌else◌}
 use Rattle.paper.specs.Sheets.{findings}
 use Rattle.sheet_findings.specs.Written.{written_at}
 use Rattle.sheet_findings.specs.declared.Room.{Room}

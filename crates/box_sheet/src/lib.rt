@@ -2,8 +2,7 @@
 // a held line), the open set, the items of its open rule, the term table.
 #![tactic(auto)]
 
-ghost use Rattle.std.specs.Prelude.{◌≡◌};
-ghost use Rattle.paper.specs.Words.{if◌then◌else◌};
+ghost use Rattle.std.specs.Prelude.{◌≡◌, if◌then◌else◌};
 ghost use Rattle.term_table.specs.Table.{no_edges};
 ghost use Rattle.sheet_ended.specs.Sets.{end_room};
 ghost use Rattle.sheet_reader.specs.State.{lent, step_room};

@@ -13,7 +13,7 @@ use borrow.Author.Tests.{le-leb, lt-leb}
 use Rattle.paper.specs.declared.Found.{Found}
 use Rattle.paper.specs.declared.Found.TheVariants.{At, Nothing}
 use Rattle.paper.specs.declared.Refusal.TheVariants.{Unknown}
-use Rattle.paper.specs.Words.{if◌then◌else◌}
+use Rattle.std.specs.Prelude.{if◌then◌else◌}
 use Rattle.paper.specs.Numbers.{max_sites, Outcome, done, ◌>>=◌, demand}
 use Rattle.paper.specs.Classes.{Classes, classes, is_at, flatten_in, flattened, Swept, sweep, unjoin, Removed, remove_at, remove_set_of}
 use Rattle.classes.specs.declared.Taken.{Taken}

@@ -4,7 +4,7 @@ use Rattle.std.specs.Prelude.{List, [], ◌∷◌, ◌++◌, ℕ, zero, suc, len
 use Rattle.paper.specs.declared.Found.{Found}
 use Rattle.paper.specs.declared.Found.TheVariants.{At, Nothing}
 use Rattle.paper.specs.declared.Refusal.TheVariants.{Unknown}
-use Rattle.paper.specs.Words.{if◌then◌else◌}
+use Rattle.std.specs.Prelude.{if◌then◌else◌}
 use Rattle.paper.specs.Numbers.{max_sites, Outcome, done, ◌>>=◌, demand}
 use Rattle.paper.specs.Classes.{Classes, flatten_in, flattened, is_at, Swept, Removed, removed}
 use Rattle.classes.specs.declared.Taken.{Taken}

@@ -9,7 +9,7 @@ use lib.ListN.{length, get_or, take, drop, length-drop}
 use lib.Seq.{drop-cons, drop-length, take_all}
 use lib.Dec.{eqb}
 use borrow.Author.Tests.{le-leb, lt-leb, eq-eqb, ne_eqb}
-use Rattle.paper.specs.Words.{if◌then◌else◌}
+use Rattle.std.specs.Prelude.{if◌then◌else◌}
 use Rattle.class_script.specs.declared.Number.{Number}
 use Rattle.class_script.specs.declared.Number.TheVariants as N
 use Rattle.class_script.specs.declared.Numbers.{Numbers}

@@ -12,7 +12,8 @@ use borrow.Author.Tests.{ltb-true, lt-ltb}
 use Rattle.paper.specs.declared.Found.{Found}
 use Rattle.paper.specs.declared.Found.TheVariants.{At, Nothing}
 use Rattle.paper.specs.declared.Refusal.TheVariants.{Unknown, Itself}
-use Rattle.paper.specs.Words.{if◌then◌else◌, has, keep, below}
+use Rattle.std.specs.Prelude.{if◌then◌else◌}
+use Rattle.paper.specs.Words.{has, keep, below}
 use Rattle.paper.specs.Numbers.{max_sites, Outcome, done, ◌>>=◌, demand}
 use Rattle.paper.specs.Classes.{Classes, classes, no_classes, up, Trail, find_in, flatten_in, Flattened, flattened, find, find_mut, one_more, most_rank, most_count, Rooted, alone, rooted, enter, under, raised, link, unite, merge, is_at, in_same_set, Swept, sweep, unjoin, Removed, removed, remove_at, remove_set_of, len, is_empty}
 use Rattle.classes.specs.declared.Looked.{Looked}

@@ -1,7 +1,7 @@
 -- A script of class calls on one set of classes, one call a line:
 --     merge X Y    find X    findmut X    same X Y    remove X    len    empty
 use Rattle.std.specs.Prelude.{Bool, true, false, ◌&&◌, List, [], ◌∷◌, ℕ, suc, ◌+◌, ◌-◌, ◌*◌, length, take, drop, leb, eqb}
-use Rattle.paper.specs.Words.{if◌then◌else◌}
+use Rattle.std.specs.Prelude.{if◌then◌else◌}
 use Rattle.paper.specs.Text.{unended}
 use Rattle.paper.specs.Classes.{Classes, find, in_same_set, len, is_empty}
 use Rattle.class_script.specs.declared.Number.{Number}

@@ -11,7 +11,8 @@ use lib.Dec.{ltb}
 use borrow.Author.Tests.{lt-ltb}
 use Rattle.paper.specs.declared.Found.{Found}
 use Rattle.paper.specs.declared.Found.TheVariants.{At, Nothing}
-use Rattle.paper.specs.Words.{if◌then◌else◌, has}
+use Rattle.std.specs.Prelude.{if◌then◌else◌}
+use Rattle.paper.specs.Words.{has}
 use Rattle.paper.specs.Numbers.{max_sites}
 use Rattle.paper.specs.Classes.{up, find_in, passed, hung, flat_to, flat, flatten_in, Trail, is_at}
 use Rattle.classes.specs.Well.{Leads, Well, rank, members, has_up, in_class}

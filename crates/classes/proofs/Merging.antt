@@ -11,7 +11,7 @@ use lib.Pow.{pow-lt, pow-add}
 use borrow.Author.Tests.{lt-ltb, le-ltb, eq-eqb, ne_eqb}
 use Rattle.paper.specs.declared.Found.{Found}
 use Rattle.paper.specs.declared.Found.TheVariants.{At, Nothing}
-use Rattle.paper.specs.Words.{if◌then◌else◌}
+use Rattle.std.specs.Prelude.{if◌then◌else◌}
 use Rattle.paper.specs.Numbers.{max_sites}
 use Rattle.paper.specs.Classes.{up, Classes, classes, no_classes, flattened, one_more, most_rank, alone, rooted, enter, link, under, raised}
 use Rattle.classes.specs.Well.{log_sites, rank, members, in_class, turned, WellMade, rep_of, winner, loser, alone_as, has_up, cnt, bit}

@@ -9,7 +9,8 @@ use lib.Dec.{eqb}
 use borrow.Author.Tests.{eq-eqb, ne_eqb}
 use Rattle.paper.specs.declared.Found.{Found}
 use Rattle.paper.specs.declared.Found.TheVariants.{At, Nothing}
-use Rattle.paper.specs.Words.{if◌then◌else◌, any, has}
+use Rattle.std.specs.Prelude.{if◌then◌else◌}
+use Rattle.paper.specs.Words.{any, has}
 use Rattle.paper.specs.Numbers.{max_sites}
 use Rattle.paper.specs.Classes.{up, find_in, passed, flat, flatten_in, Trail}
 use Rattle.classes.specs.Well.{Leads, Well, bit}

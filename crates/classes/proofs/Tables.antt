@@ -7,7 +7,8 @@ use Prim.Native.Nat.{ℕ}
 use native.Mathlib.Decide.{ℕ_discrete}
 use lib.Dec.{eqb}
 use Rattle.paper.specs.declared.Found.TheVariants.{At}
-use Rattle.paper.specs.Words.{if◌then◌else◌, or_else, keep, look}
+use Rattle.std.specs.Prelude.{if◌then◌else◌}
+use Rattle.paper.specs.Words.{or_else, keep, look}
 use Rattle.paper.specs.Numbers.{done}
 use Rattle.paper.specs.Classes.{Classes, Removed, remove_set_of}
 use Rattle.paper.specs.Loading.{Labels, lowest, dissolve}

@@ -10,7 +10,7 @@ use lib.Dec.{eqb}
 use borrow.Author.Tests.{lt-ltb, le-ltb, eq-eqb, ne_eqb}
 use Rattle.paper.specs.declared.Found.{Found}
 use Rattle.paper.specs.declared.Found.TheVariants.{At, Nothing}
-use Rattle.paper.specs.Words.{if◌then◌else◌}
+use Rattle.std.specs.Prelude.{if◌then◌else◌}
 use Rattle.paper.specs.Numbers.{max_sites}
 use Rattle.paper.specs.Classes.{up, find_in, Trail, Classes, enter, unite}
 use Rattle.classes.specs.Well.{Well, rank, turned, WellMade, rep_of, winner, loser, alone_as, cnt, bit, has_up}

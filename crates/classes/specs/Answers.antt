@@ -2,7 +2,7 @@
 use Rattle.std.specs.Prelude.{◌≡◌, Bool, true, false, not, List, ◌++◌, ℕ, ◌+◌, length, set, drop, eqb, leb}
 use Rattle.paper.specs.declared.Found.{Found}
 use Rattle.paper.specs.declared.Found.TheVariants.{At, Nothing}
-use Rattle.paper.specs.Words.{if◌then◌else◌}
+use Rattle.std.specs.Prelude.{if◌then◌else◌}
 use Rattle.paper.specs.Numbers.{max_sites, Outcome, done, refused}
 use Rattle.paper.specs.Classes.{Classes, Trail, find_in, Flattened, find_mut, Rooted, enter, merge, Swept, Removed, remove_set_of}
 use Rattle.classes.specs.declared.Trail as T

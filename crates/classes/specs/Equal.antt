@@ -1,6 +1,7 @@
 -- The classes as an equivalence: sites with one representative (`rep`: a site of no class stands for itself). What a join and a removal do to it.
 use Rattle.std.specs.Prelude.{◌≡◌, List, Bool, true, false, ◌||◌, ◌&&◌, not, ℕ, ◌+◌, ◌<◌, eqb, length}
-use Rattle.paper.specs.Words.{if◌then◌else◌, keep, below, has}
+use Rattle.std.specs.Prelude.{if◌then◌else◌}
+use Rattle.paper.specs.Words.{keep, below, has}
 use Rattle.paper.specs.Numbers.{max_sites}
 use Rattle.paper.specs.declared.Found.TheVariants.{At}
 use Rattle.paper.specs.Classes.{Classes, Removed, up}

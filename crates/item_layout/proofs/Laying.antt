@@ -12,7 +12,8 @@ use Rattle.paper.specs.declared.Constraint.{Constraint}
 use Rattle.paper.specs.declared.Constraint.TheVariants.{Variant, Struct, ConstBool, ConstInt, ConstPrim, Some}
 use Rattle.paper.specs.declared.Item.{Item}
 use Rattle.paper.specs.declared.Item.TheVariants.{Is, Equal}
-use Rattle.paper.specs.Words.{if◌then◌else◌, same_list}
+use Rattle.std.specs.Prelude.{if◌then◌else◌}
+use Rattle.paper.specs.Words.{same_list}
 use Rattle.paper.proofs.Laws.{same_list_true, same_list_refl}
 use Rattle.rule_words.specs.Packing.{head, second, third, unpack, narrow, InRange}
 use Rattle.item_words.specs.Items.{Ranged, item_of}

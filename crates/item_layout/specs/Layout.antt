@@ -2,7 +2,8 @@
 use Rattle.std.specs.Prelude.{◌≡◌, Bool, true, false, List, [], ◌∷◌, ℕ, zero, suc, ◌+◌, ◌*◌, ◌%◌, ◌≤◌, ◌<◌, get_or}
 use Rattle.paper.specs.declared.Item.{Item}
 use Rattle.paper.specs.declared.Item.TheVariants.{Is, Equal}
-use Rattle.paper.specs.Words.{if◌then◌else◌, same_list}
+use Rattle.std.specs.Prelude.{if◌then◌else◌}
+use Rattle.paper.specs.Words.{same_list}
 use Rattle.rule_words.specs.Packing.{head, second, third, unpack, narrow}
 use Rattle.item_words.specs.Items.{Ranged, item_of}
 

@@ -5,7 +5,7 @@ use Rattle.paper.specs.declared.Item.{Item}
 use Rattle.paper.specs.declared.Item.TheVariants.{Is, Equal}
 use Rattle.paper.specs.declared.Entry.{Entry}
 use Rattle.paper.specs.declared.Rule.{Rule}
-use Rattle.paper.specs.Words.{if◌then◌else◌}
+use Rattle.std.specs.Prelude.{if◌then◌else◌}
 use Rattle.paper.specs.Numbers.{max_items}
 use Rattle.rule_words.specs.Packing.{head, second, third, unpack, narrow, InRange}
 use Rattle.rule_words.specs.Stored.{put_four, run}

@@ -13,7 +13,8 @@ use Rattle.std.proofs.Math.Dec.{eqb}
 use borrow.Author.Tests.{eqb-true, eqb-false}
 use Rattle.paper.specs.declared.Constraint.{Constraint}
 use Rattle.paper.specs.declared.Item.{Item}
-use Rattle.paper.specs.Words.{if◌then◌else◌, look, below, zip, joined, pairs, keep, Edges, Walk, one, more, returns}
+use Rattle.std.specs.Prelude.{if◌then◌else◌}
+use Rattle.paper.specs.Words.{look, below, zip, joined, pairs, keep, Edges, Walk, one, more, returns}
 use Rattle.paper.specs.Sites.{same_constraint, child_count, child_number}
 use Rattle.paper.specs.Inputs.{Value, Given, shape, and_then}
 use Rattle.paper.specs.Loading.{Loading, Labels, Constraints, Holder, holder, holders, lowest, join_all, Together, written_so, itself, back, through, like, alike, turn, pass, same_classes, close, closure, closure_of, first_holder, differs, conflict, steps, endless}

@@ -5,7 +5,8 @@ use Rattle.std.proofs.Math.Path.{fun_ext}
 use Rattle.std.proofs.Math.Option.{Option, none, some}
 use mathlib.Core.List.{List, [], ◌∷◌, ◌++◌, Memᴰ}
 use Rattle.std.proofs.Math.Decide.{ℕ_discrete}
-use Rattle.paper.specs.Words.{if◌then◌else◌, look}
+use Rattle.std.specs.Prelude.{if◌then◌else◌}
+use Rattle.paper.specs.Words.{look}
 use Rattle.paper.specs.Loading.{Labels, lowest, join, join_all, members, dissolve, others}
 use Rattle.paper.proofs.Joins.{Lowest, join_keeps, join_joins, joined_by}
 use Rattle.paper.proofs.Labels.{Sound, never, join_same, lowest_join, lowest_joined, join_sound, none_sound}

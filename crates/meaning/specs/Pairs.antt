@@ -11,7 +11,8 @@ use native.Mathlib.Omega.{arith}
 use Rattle.paper.specs.declared.Constraint.{Constraint}
 use Rattle.paper.specs.declared.Overlap.{Overlap}
 use Rattle.paper.specs.declared.Overlap.TheVariants.{No, Yes, Subset}
-use Rattle.paper.specs.Words.{if◌then◌else◌, look, every}
+use Rattle.std.specs.Prelude.{if◌then◌else◌}
+use Rattle.paper.specs.Words.{look, every}
 use Rattle.paper.specs.Sites.{Sites, same_constraint, child_count, child_number, Sound, Extends}
 use Rattle.paper.specs.Inputs.{Given, Input, Meets, Agree, MatchesKept, shape}
 use Rattle.paper.specs.Loading.{Set, Kept, Labels, Constraints, Made, begun, site_added, rule_loaded, lowest, empty_set, with_sites}

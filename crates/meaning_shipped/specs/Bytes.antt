@@ -12,7 +12,7 @@ use Rattle.paper.specs.declared.Refusal.TheVariants.{Layout, Repeated, TooManyRu
 use Rattle.paper.specs.declared.Rule.{Rule}
 use Rattle.paper.specs.declared.Verdict.{Verdict}
 use Rattle.paper.specs.declared.Verdict.TheVariants as verdict
-use Rattle.paper.specs.Words.{if◌then◌else◌}
+use Rattle.std.specs.Prelude.{if◌then◌else◌}
 use Rattle.paper.specs.Numbers.{max_digits, max_rules, last_line, Outcome, done, refused}
 use Rattle.paper.specs.Sites.{Site, Added}
 use Rattle.paper.specs.Layout as layout

@@ -13,7 +13,8 @@ use borrow.Author.Tests.{eqb-true, eq-eqb, leb-true, leb-false}
 use Rattle.paper.specs.declared.Constraint.{Constraint}
 use Rattle.paper.specs.declared.Overlap.{Overlap}
 use Rattle.paper.specs.declared.Overlap.TheVariants.{No, Yes, Subset}
-use Rattle.paper.specs.Words.{if◌then◌else◌, any, keep, below, flag, look, place_by, sort_by}
+use Rattle.std.specs.Prelude.{if◌then◌else◌}
+use Rattle.paper.specs.Words.{any, keep, below, flag, look, place_by, sort_by}
 use Rattle.paper.proofs.Tables.{Rising, of_keep, in_keep, look_in, in_look}
 use Rattle.paper.proofs.Closure.{of_below, in_below}
 use Rattle.paper.proofs.Lists.{and_both}

@@ -1,7 +1,8 @@
 -- The text of findings says them: no two lists of findings have one text.
 use Rattle.std.specs.Prelude.{◌≡◌, refl, Bool, true, false, List, [], ◌∷◌, ◌++◌, map, ℕ, ◌+◌, ◌/◌, ◌%◌, ltb}
 use Rattle.std.proofs.Common.{sym, arith, ltb-true, ltb-false}
-use Rattle.paper.specs.Words.{if◌then◌else◌, joined}
+use Rattle.std.specs.Prelude.{if◌then◌else◌}
+use Rattle.paper.specs.Words.{joined}
 use Rattle.paper.specs.Layout.{digit_of, hex}
 
 -- a digit says its value, and is no LF

@@ -4,7 +4,8 @@ use Rattle.std.proofs.Math.Option.{Option, none, some}
 use Rattle.paper.specs.declared.Item.{Item}
 use Rattle.paper.specs.declared.Refusal.{Refusal}
 use Rattle.paper.specs.declared.Refusal.TheVariants.{Layout, Unknown, Itself, Unreachable, Hanging, Endless, TooManySites, TooManySources, TooManyFields, TooManyRules, TooManyItems, TooManyConstrained, TooManyEqual, TooManySets, TermTooHigh, UnfoldingTooLong, PlaceUsed, Repeated}
-use Rattle.paper.specs.Words.{if◌then◌else◌, joined, four}
+use Rattle.std.specs.Prelude.{if◌then◌else◌}
+use Rattle.paper.specs.Words.{joined, four}
 use Rattle.paper.specs.Numbers.{last_line, Outcome, done, refused, ◌>>=◌, demand}
 use Rattle.paper.specs.Loading.{Written, Set, load}
 use Rattle.paper.specs.Layout.{Lines, nothing, unended, line, lines, hex, Frame, begin_set, a_site, a_rule, an_item, end_set, frame_of}

@@ -3,7 +3,8 @@ use Rattle.std.specs.Prelude.{◌≡◌, refl, Bool, true, false, ◌&&◌, ◌|
 use Rattle.std.proofs.Common.{sym, ap, ◌∙◌, arith}
 use Rattle.paper.specs.declared.Refusal.{Refusal}
 use Rattle.paper.specs.declared.Refusal.TheVariants.{Layout, Unknown, Itself, Unreachable, Hanging, Endless, TooManySites, TooManySources, TooManyFields, TooManyRules, TooManyItems, TooManyConstrained, TooManyEqual, TooManySets, TermTooHigh, UnfoldingTooLong, PlaceUsed, Repeated}
-use Rattle.paper.specs.Words.{if◌then◌else◌, joined, two, four}
+use Rattle.std.specs.Prelude.{if◌then◌else◌}
+use Rattle.paper.specs.Words.{joined, two, four}
 use Rattle.paper.specs.Numbers.{number, told, Outcome, done, refused}
 use Rattle.paper.specs.Rules.{Listed, overlap, mask}
 use Rattle.paper.specs.Layout.{Lines, lines, hex}

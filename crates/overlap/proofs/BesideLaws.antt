@@ -14,7 +14,8 @@ use borrow.Author.Count.{below_more}
 use Rattle.paper.specs.declared.Constraint.{Constraint}
 use Rattle.paper.specs.declared.Overlap.{Overlap}
 use Rattle.paper.specs.declared.Overlap.TheVariants.{Yes, Subset}
-use Rattle.paper.specs.Words.{if◌then◌else◌, any, look}
+use Rattle.std.specs.Prelude.{if◌then◌else◌}
+use Rattle.paper.specs.Words.{any, look}
 use Rattle.paper.specs.Sites.{same_constraint}
 use Rattle.paper.specs.Rules.{differ, other_there, no_equals, compare_with}
 use Rattle.paper.proofs.Lists.{or_true}

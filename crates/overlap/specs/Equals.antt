@@ -2,7 +2,7 @@
 use Rattle.std.specs.Prelude.{◌&&◌}
 use Rattle.paper.specs.declared.Overlap.{Overlap}
 use Rattle.paper.specs.declared.Overlap.TheVariants.{Yes, Subset}
-use Rattle.paper.specs.Words.{if◌then◌else◌}
+use Rattle.std.specs.Prelude.{if◌then◌else◌}
 use Rattle.paper.specs.Loading.{Kept}
 use Rattle.paper.specs.Rules.{no_equals}
 

@@ -12,7 +12,8 @@ use lib.ListN.{length}
 use lib.Dec.{eqb}
 use borrow.Author.Tests.{eqb-true, eqb-false, eq-eqb, ne_eqb}
 use Rattle.paper.specs.declared.Constraint.{Constraint}
-use Rattle.paper.specs.Words.{if◌then◌else◌, or_else, look, below, pairs, zip}
+use Rattle.std.specs.Prelude.{if◌then◌else◌}
+use Rattle.paper.specs.Words.{or_else, look, below, pairs, zip}
 use Rattle.paper.specs.Sites.{Site, Sites, child, child_count, child_number, number_of, same_site, same_constraint}
 use Rattle.paper.specs.Loading.{Loading, Labels, Constraints, Holder, holder, holders, lowest, join, join_all, Together, written_so, itself, back, through, like, alike, turn, pass, same_classes, close, closure_of, closure}
 use Rattle.paper.proofs.Joins.{Lowest, Gen, base, self, back as back-g, via, Pair, was, new, Joined, high, same, joined, join_at, join_only, join_keeps, join_joins}

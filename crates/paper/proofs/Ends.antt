@@ -16,7 +16,8 @@ use borrow.Author.Tests.{eq-eqb, ne_eqb, lt-ltb, le-ltb}
 use Rattle.paper.specs.declared.Constraint.{Constraint}
 use Rattle.paper.specs.declared.Constraint.TheVariants.{Variant, Struct, ConstBool, ConstInt, ConstPrim, Some}
 use Rattle.paper.specs.declared.Item.TheVariants.{Is, Equal}
-use Rattle.paper.specs.Words.{if◌then◌else◌, look}
+use Rattle.std.specs.Prelude.{if◌then◌else◌}
+use Rattle.paper.specs.Words.{look}
 use Rattle.paper.specs.Numbers.{max_sites, most_rounds, Outcome, done, refused, ◌>>=◌}
 use Rattle.paper.specs.Sites.{Site, Sites, Sound, const_bool, const_int, const_prim, argument, extractor, constructor, iterator, make_variant, match_variant, make_struct, extract_struct, make_some, match_some, match_tuple, sources, parent, child, site_at, Extends}
 use Rattle.paper.specs.Loading.{Loading, Labels, Solving, load_items, take_class, round, rounds, started, all_loading, no_items}

@@ -9,7 +9,8 @@ use native.Mathlib.Decide.{ℕ_discrete}
 use lib.Dec.{eqb, compare_is_eq}
 use borrow.Author.Tests.{eqb-true, eqb-false, eq-eqb, ne_eqb}
 use Rattle.paper.proofs.Joins.{Lowest, join_at, Joined, high, same, joined, join_lowest}
-use Rattle.paper.specs.Words.{if◌then◌else◌, or_else, Table, look, put}
+use Rattle.std.specs.Prelude.{if◌then◌else◌}
+use Rattle.paper.specs.Words.{or_else, Table, look, put}
 use Rattle.paper.specs.Loading.{Labels, lowest, relabel, join}
 
 pub never : {A : Type 0} {a : A} → none ≡ some a → ⊥

@@ -10,7 +10,8 @@ use native.Mathlib.Omega.{arith}
 use native.Mathlib.Decide.{ℕ_discrete}
 use lib.Dec.{eqb, compare_is_eq, is_le}
 use borrow.Author.Tests.{eqb-true, eqb-false, eq-eqb, ne_eqb, leb-true, leb-false, not-true}
-use Rattle.paper.specs.Words.{if◌then◌else◌, keep, Table, look, put}
+use Rattle.std.specs.Prelude.{if◌then◌else◌}
+use Rattle.paper.specs.Words.{keep, Table, look, put}
 use Rattle.paper.specs.Loading.{Labels, lowest, relabel, join, join_all, members, dissolve}
 use Rattle.paper.proofs.Labels.{Sound, never, look_here, look_past, put_there, join_sound, none_sound}
 

@@ -10,7 +10,8 @@ use lib.ListN.{length}
 use lib.Dec.{leb}
 use borrow.Author.Tests.{leb-true, leb-false}
 use Rattle.paper.specs.declared.Constraint.{Constraint}
-use Rattle.paper.specs.Words.{if◌then◌else◌, look}
+use Rattle.std.specs.Prelude.{if◌then◌else◌}
+use Rattle.paper.specs.Words.{look}
 use Rattle.paper.specs.Sites.{same_constraint}
 use Rattle.paper.proofs.Laws.{same_constraint_true}
 use Rattle.paper.specs.Loading.{Kept, Constraints}

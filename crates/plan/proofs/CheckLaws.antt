@@ -11,7 +11,8 @@ use lib.ListN.{length, get_or}
 use lib.Dec.{eqb, ltb, leb}
 use borrow.Author.Tests.{eq-eqb, ne_eqb, lt-ltb, le-ltb}
 use Rattle.paper.specs.declared.Overlap.{Overlap}
-use Rattle.paper.specs.Words.{if◌then◌else◌, or_else}
+use Rattle.std.specs.Prelude.{if◌then◌else◌}
+use Rattle.paper.specs.Words.{or_else}
 use Rattle.paper.specs.Loading.{Kept, Set}
 use Rattle.paper.specs.Rules.{may_overlap, total, rank, is_yes_told, is_subset_told, edge, masks, is_multi, no_rule}
 use Rattle.rule_words.specs.Stored.{run, base, kept_at, kept_in, kept_first}

@@ -9,7 +9,8 @@ use native.Mathlib.Omega.{arith}
 use lib.ListN.{length}
 use lib.Dec.{ltb, leb}
 use borrow.Author.Tests.{ltb-true, ltb-false, leb-true, lt-ltb, le-leb, eq-eqb, ne_eqb, not-true}
-use Rattle.paper.specs.Words.{if◌then◌else◌, or_else, zip}
+use Rattle.std.specs.Prelude.{if◌then◌else◌}
+use Rattle.paper.specs.Words.{or_else, zip}
 use Rattle.paper.proofs.Labels.{never}
 use Rattle.paper.specs.Loading.{Kept, Set}
 use native.Mathlib.Decide.{ℕ_discrete}

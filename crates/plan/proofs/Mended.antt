@@ -12,7 +12,8 @@ use lib.Dec.{eqb, ltb, leb}
 use borrow.Author.Tests.{ltb-true, ltb-false, leb-true, eqb-true, lt-ltb, le-leb, eq-eqb}
 use Rattle.paper.specs.declared.Overlap.{Overlap}
 use Rattle.paper.specs.declared.Overlap.TheVariants.{No, Yes, Subset}
-use Rattle.paper.specs.Words.{if◌then◌else◌, zip}
+use Rattle.std.specs.Prelude.{if◌then◌else◌}
+use Rattle.paper.specs.Words.{zip}
 use Rattle.paper.proofs.Labels.{never}
 use Rattle.paper.specs.Loading.{Kept, Set}
 use Rattle.paper.specs.Rules.{compare_with, may_overlap, total, rank, is_yes_told, is_subset_told, edge, masks, no_rule, is_multi}

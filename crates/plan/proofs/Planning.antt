@@ -9,7 +9,8 @@ use native.Mathlib.Omega.{arith}
 use lib.ListN.{length}
 use lib.Dec.{ltb}
 use borrow.Author.Tests.{ltb-true, lt-ltb}
-use Rattle.paper.specs.Words.{if◌then◌else◌, below, joined}
+use Rattle.std.specs.Prelude.{if◌then◌else◌}
+use Rattle.paper.specs.Words.{below, joined}
 use Rattle.paper.proofs.Closure.{of_below, in_below}
 use Rattle.paper.proofs.Labels.{never}
 use Rattle.paper.specs.Loading.{Set}

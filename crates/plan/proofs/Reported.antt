@@ -9,7 +9,8 @@ use native.Mathlib.Decide.{ℕ_discrete}
 use lib.ListN.{length, get_or}
 use lib.Dec.{eqb, ltb, leb}
 use borrow.Author.Tests.{ltb-true, leb-true, leb-false, lt-ltb, eq-eqb, eqb-true}
-use Rattle.paper.specs.Words.{if◌then◌else◌, keep, below, joined, place_by, sort_by}
+use Rattle.std.specs.Prelude.{if◌then◌else◌}
+use Rattle.paper.specs.Words.{keep, below, joined, place_by, sort_by}
 use Rattle.paper.proofs.Closure.{of_below, in_below}
 use Rattle.paper.proofs.Tables.{Rising, of_keep, in_keep}
 use Rattle.paper.specs.Loading.{Kept, Set}

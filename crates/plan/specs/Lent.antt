@@ -1,7 +1,8 @@
 -- What the contracts of the code cite. The set that lent words hold, as far as the check and the planner look at it: the first n rules, these flags.
 use Rattle.std.specs.Prelude.{◌≡◌, List, [], ◌++◌, map, Bool, true, false, not, ℕ, suc, ◌<◌, length, get_or, drop, ltb}
 use Rattle.std.proofs.Math.Option.{Option, none, some}
-use Rattle.paper.specs.Words.{if◌then◌else◌, keep, below}
+use Rattle.std.specs.Prelude.{if◌then◌else◌}
+use Rattle.paper.specs.Words.{keep, below}
 use Rattle.paper.specs.Numbers.{max_rules}
 use Rattle.paper.specs.Loading.{Set}
 use Rattle.rule_words.specs.Stored.{kept_first}

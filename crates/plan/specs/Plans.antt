@@ -6,7 +6,8 @@ use Rattle.paper.specs.declared.Break.{Break}
 use Rattle.paper.specs.declared.Break.TheVariants.{Edge, Mask, Order}
 use Rattle.plan.specs.declared.Judged.{Judged}
 use Rattle.plan.specs.declared.Judged.TheVariants.{Accepted, Bad, WrongLength}
-use Rattle.paper.specs.Words.{if◌then◌else◌, or_else, every, keep, below, joined, all_words}
+use Rattle.std.specs.Prelude.{if◌then◌else◌}
+use Rattle.paper.specs.Words.{or_else, every, keep, below, joined, all_words}
 use Rattle.paper.specs.Loading.{Set}
 use Rattle.paper.specs.Rules.{may_overlap, total, rank, is_yes_told, is_subset_told, edge, masks, is_multi, all_rules}
 use Rattle.paper.specs.Priorities.{proposed, rule, level, all_priorities}

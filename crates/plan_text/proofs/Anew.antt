@@ -9,7 +9,8 @@ use lib.ListN.{length, get_or, take, drop, replicate, length-replicate, length-a
 use lib.Seq.{drop-cons, sets, sets-eq, length-sets, length-take-le, take_at}
 use lib.Dec.{eqb, ltb}
 use borrow.Author.Tests.{lt-ltb, le-ltb, eq-eqb, ne_eqb}
-use Rattle.paper.specs.Words.{if◌then◌else◌, same_list, two, four, eight}
+use Rattle.std.specs.Prelude.{if◌then◌else◌}
+use Rattle.paper.specs.Words.{same_list, two, four, eight}
 use Rattle.paper.specs.Layout.{digit}
 use Rattle.paper.specs.Text.{unended}
 use Rattle.paper.proofs.Lists.{drop_all}

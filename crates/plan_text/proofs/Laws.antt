@@ -8,7 +8,8 @@ use native.Mathlib.Omega.{arith}
 use lib.ListN.{length, get_or}
 use lib.Dec.{eqb, ltb}
 use borrow.Author.Tests.{lt-ltb, le-ltb, ltb-true, ltb-false}
-use Rattle.paper.specs.Words.{if◌then◌else◌, same_list, two, four, eight}
+use Rattle.std.specs.Prelude.{if◌then◌else◌}
+use Rattle.paper.specs.Words.{same_list, two, four, eight}
 use Rattle.paper.specs.Layout.{digit, digit_of}
 use Rattle.paper.specs.Loading as loading
 use Rattle.paper.specs.Priorities.{rule}

@@ -1,7 +1,8 @@
 -- Change request [11], a line of a proposal: "set TERM", "rule PLACE PRIORITY", "none PLACE PLACE mask|same". "Words are split by one space, hexadecimal is
 -- upper case, every line ends with LF. TERM 4 digits, PLACE 8, PRIORITY 16." A line has its LF here.
 use Rattle.std.specs.Prelude.{◌≡◌, Bool, true, false, List, [], ◌∷◌, ◌++◌, ℕ, ◌+◌, ◌*◌, ◌%◌, ◌<◌, get_or}
-use Rattle.paper.specs.Words.{if◌then◌else◌, same_list}
+use Rattle.std.specs.Prelude.{if◌then◌else◌}
+use Rattle.paper.specs.Words.{same_list}
 use Rattle.paper.specs.Layout.{digit}
 use Rattle.paper.specs.Text.{unended}
 use Rattle.plan.specs.Plans.{Obstacle, by_mask, by_sameness}

@@ -11,7 +11,8 @@ use lib.Count.{ones, ones-le}
 use lib.Dec.{eqb}
 use borrow.Author.Tests.{eq-eqb, ne_eqb}
 use Rattle.paper.specs.Numbers.{max_rules}
-use Rattle.paper.specs.Words.{if◌then◌else◌, two, four}
+use Rattle.std.specs.Prelude.{if◌then◌else◌}
+use Rattle.paper.specs.Words.{two, four}
 use Rattle.sheet_digits.specs.Digits.{digits_of}
 use Rattle.sheet_digits.proofs.DigitLaws.{then_sets, length_digits}
 use Rattle.report.specs.Rows.{bits, bit_at}

@@ -8,7 +8,8 @@ use native.Mathlib.Decide.{ℕ_discrete, dec_lt}
 use lib.ListN.{length, get_or}
 use lib.Dec.{eqb, ltb}
 use borrow.Author.Tests.{eqb-true, eqb-false, eq-eqb, ne_eqb, lt-ltb, le-ltb}
-use Rattle.paper.specs.Words.{if◌then◌else◌, keep, below, joined, flag}
+use Rattle.std.specs.Prelude.{if◌then◌else◌}
+use Rattle.paper.specs.Words.{keep, below, joined, flag}
 use Rattle.paper.specs.Loading.{Kept}
 use Rattle.paper.specs.Rules.{Listed, overlap, mask, Graph, edge, linked, neighbours, busiest, without, take_places, overlap_lists, mask_lists, masked_by, listed_from, by_place, report_of, no_rule}
 use Rattle.paper.proofs.Lists.{map_append}

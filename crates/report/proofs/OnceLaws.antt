@@ -8,7 +8,8 @@ use native.Mathlib.Decide.{ℕ_discrete}
 use lib.ListN.{length, get_or, length-append}
 use lib.Dec.{eqb, ltb, leb}
 use borrow.Author.Tests.{eqb-true, eqb-false, eq-eqb, ne_eqb, leb-true, leb-false}
-use Rattle.paper.specs.Words.{if◌then◌else◌, keep, below, flag}
+use Rattle.std.specs.Prelude.{if◌then◌else◌}
+use Rattle.paper.specs.Words.{keep, below, flag}
 use Rattle.paper.specs.Rules.{Graph, neighbours, degree, better, busiest, without, take_places}
 use Rattle.paper.proofs.Lists.{and_false, none_in}
 use Rattle.report.specs.Named.{count, named_in, times}

@@ -10,7 +10,8 @@ use lib.Seq.{sets, sets-eq, take_all}
 use lib.Dec.{eqb, ltb}
 use borrow.Author.Tests.{eq-eqb, ne_eqb, lt-ltb, le-ltb}
 use Rattle.paper.specs.Numbers.{max_rules}
-use Rattle.paper.specs.Words.{if◌then◌else◌, joined, sort_by}
+use Rattle.std.specs.Prelude.{if◌then◌else◌}
+use Rattle.paper.specs.Words.{joined, sort_by}
 use Rattle.paper.specs.Loading.{Kept}
 use Rattle.paper.specs.Rules.{Listed, report_of, report_for, is_multi}
 use Rattle.rule_words.specs.Stored.{run, kept_first}

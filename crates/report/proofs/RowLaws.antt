@@ -15,7 +15,8 @@ use native.Mathlib.Nat.{mod-lt, add-mul, mul_assoc}
 use lib.Dec.{eqb, ltb, leb}
 use borrow.Author.Tests.{eq-eqb, ne_eqb, eqb-true, lt-ltb, le-ltb, ltb-true, ltb-false, le-leb, lt-leb}
 use Rattle.paper.specs.Numbers.{max_rules}
-use Rattle.paper.specs.Words.{if◌then◌else◌, flag}
+use Rattle.std.specs.Prelude.{if◌then◌else◌}
+use Rattle.paper.specs.Words.{flag}
 use Rattle.paper.specs.Rules.{edge}
 use Rattle.rule_words.specs.Stored.{base, place_at, kept_in}
 use Rattle.report.specs.Rows.{place_in, named, earlier, lower_word, row_word, bits, bit_at, filled, either, degree_of, better_of, busiest_of, cleared, take_from}

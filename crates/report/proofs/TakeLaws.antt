@@ -12,7 +12,8 @@ use lib.Count.{ones}
 use lib.Dec.{eqb, leb}
 use borrow.Author.Tests.{eqb-true, eqb-false, eq-eqb, ne_eqb}
 use Rattle.paper.specs.Numbers.{max_rules}
-use Rattle.paper.specs.Words.{if◌then◌else◌, keep}
+use Rattle.std.specs.Prelude.{if◌then◌else◌}
+use Rattle.paper.specs.Words.{keep}
 use Rattle.paper.specs.Rules.{Graph, neighbours, degree, better, busiest, without, take_places}
 use Rattle.paper.proofs.Lists.{none_in}
 use Rattle.report.specs.Rows.{bits, bit_at, degree_of, better_of, busiest_of, cleared, take_from}

@@ -12,7 +12,8 @@ use lib.Count.{ones}
 use lib.Dec.{eqb, ltb}
 use borrow.Author.Tests.{eq-eqb, ne_eqb, lt-ltb, le-ltb}
 use Rattle.paper.specs.Numbers.{max_rules}
-use Rattle.paper.specs.Words.{if◌then◌else◌, keep, below, joined, sort_by, two, four}
+use Rattle.std.specs.Prelude.{if◌then◌else◌}
+use Rattle.paper.specs.Words.{keep, below, joined, sort_by, two, four}
 use Rattle.paper.specs.Layout.{hex}
 use Rattle.paper.specs.Sheets.{listed_found}
 use Rattle.paper.specs.Loading.{Kept}

@@ -2,7 +2,8 @@
 use Rattle.std.specs.Prelude.{◌≡◌, Bool, true, false, List, [], ◌∷◌, ◌++◌, map, ℕ, zero, suc, ◌+◌, ◌*◌, length, get_or, drop, eqb, ltb}
 use Rattle.std.proofs.lemmas.List.Edits.{sets}
 use Rattle.std.specs.Int.Count.{ones}
-use Rattle.paper.specs.Words.{if◌then◌else◌, two, four, joined}
+use Rattle.std.specs.Prelude.{if◌then◌else◌}
+use Rattle.paper.specs.Words.{two, four, joined}
 use Rattle.paper.specs.Numbers.{max_rules}
 use Rattle.paper.specs.Layout.{hex}
 use Rattle.paper.specs.Sheets.{listed_found}

@@ -12,7 +12,8 @@ use borrow.Author.Tests.{lt-ltb, le-ltb, le-leb, lt-leb, ltb-true, ltb-false}
 use Rattle.paper.specs.declared.Constraint.{Constraint}
 use Rattle.paper.specs.declared.Refusal.{Refusal}
 use Rattle.paper.specs.declared.Refusal.TheVariants.{Unknown, TooManySites, TooManyFields}
-use Rattle.paper.specs.Words.{if◌then◌else◌, or_else, below}
+use Rattle.std.specs.Prelude.{if◌then◌else◌}
+use Rattle.paper.specs.Words.{or_else, below}
 use Rattle.paper.specs.Numbers.{max_sites, max_fields, done, refused}
 use Rattle.paper.specs.Sites.{Site, Sites, child_count, child, children, number_of, child_number, add_all}
 use Rattle.rule_children.specs.Tail.{children_as}

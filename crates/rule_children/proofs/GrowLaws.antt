@@ -13,7 +13,8 @@ use borrow.Author.Tests.{lt-ltb, le-ltb, le-leb, lt-leb, eqb-true, eqb-false, lt
 use Rattle.paper.specs.declared.Constraint.{Constraint}
 use Rattle.paper.specs.declared.Constraint.TheVariants.{Variant, Struct, ConstBool, ConstInt, ConstPrim, Some}
 use Rattle.paper.specs.declared.Refusal.TheVariants.{Unknown, TooManySites}
-use Rattle.paper.specs.Words.{if◌then◌else◌, first, below}
+use Rattle.std.specs.Prelude.{if◌then◌else◌}
+use Rattle.paper.specs.Words.{first, below}
 use Rattle.paper.specs.Numbers.{max_sites, Outcome, done, refused, ◌>>=◌}
 use Rattle.paper.specs.Sites.{Site, Sites, sources, term_of, child_count, child, children, number_of, known, Added, or_next, add, add_all}
 use Rattle.paper.proofs.Laws.{number_front, number_on, plus, first_here, first_next}

@@ -9,7 +9,8 @@ use lib.Dec.{ltb}
 use borrow.Author.Tests.{ltb-true, ltb-false}
 use Rattle.paper.specs.declared.Constraint.{Constraint}
 use Rattle.paper.specs.declared.Constraint.TheVariants.{Variant, Struct, ConstBool, ConstInt, ConstPrim, Some}
-use Rattle.paper.specs.Words.{if◌then◌else◌, two}
+use Rattle.std.specs.Prelude.{if◌then◌else◌}
+use Rattle.paper.specs.Words.{two}
 use Rattle.paper.specs.Sites.{body, body_by, child_count, child}
 use Rattle.site_slots.specs.Seeking.{quad, four_at, Seeks}
 use Rattle.site_body.proofs.Back.{Bytes}

@@ -13,7 +13,8 @@ use lib.Seq.{get_or-set_same, get_or-set_other}
 use lib.Dec.{eqb, ltb}
 use borrow.Author.Tests.{lt-ltb, le-ltb, ne_eqb, eqb-true, eqb-false, ltb-true, ltb-false}
 use Rattle.paper.specs.declared.Constraint.{Constraint}
-use Rattle.paper.specs.Words.{if◌then◌else◌, or_else, below}
+use Rattle.std.specs.Prelude.{if◌then◌else◌}
+use Rattle.paper.specs.Words.{or_else, below}
 use Rattle.paper.specs.Numbers.{max_fields}
 use Rattle.paper.specs.Sites.{Site, Sites, child_count, child, number_of}
 use Rattle.paper.proofs.Laws.{same_site_refl, number_here, number_there, number_front, number_on, number_some, at_inside, plus}

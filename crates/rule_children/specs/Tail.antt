@@ -5,7 +5,8 @@ use Rattle.std.proofs.lemmas.List.Edits.{sets}
 use Rattle.paper.specs.declared.Constraint.{Constraint}
 use Rattle.paper.specs.declared.Refusal.{Refusal}
 use Rattle.paper.specs.declared.Refusal.TheVariants.{TooManySites, TooManyFields}
-use Rattle.paper.specs.Words.{if◌then◌else◌, or_else, below}
+use Rattle.std.specs.Prelude.{if◌then◌else◌}
+use Rattle.paper.specs.Words.{or_else, below}
 use Rattle.paper.specs.Numbers.{max_sites, max_fields, Outcome, done, refused, ◌>>=◌, demand}
 use Rattle.paper.specs.Sites.{Site, const_bool, const_int, const_prim, argument, extractor, constructor, iterator, make_variant, match_variant, make_struct, extract_struct, make_some, match_some, match_tuple, body, Sites, child_count, child, children, number_of, child_number, add_all}
 use Rattle.site_slots.specs.Seeking.{four_at}

@@ -11,7 +11,8 @@ use lib.Dec.{ltb}
 use borrow.Author.Tests.{lt-ltb, ltb-true, ltb-false}
 use Rattle.paper.specs.declared.Constraint.{Constraint}
 use Rattle.paper.specs.declared.Refusal.{Refusal}
-use Rattle.paper.specs.Words.{if◌then◌else◌, or_else, below, put}
+use Rattle.std.specs.Prelude.{if◌then◌else◌}
+use Rattle.paper.specs.Words.{or_else, below, put}
 use Rattle.paper.specs.Numbers.{max_sites, max_fields, max_items, done, refused}
 use Rattle.paper.specs.Sites.{Sites, child, child_count, children, child_number, number_of, known, add_all}
 use Rattle.paper.specs.Loading.{Loading, constrain}

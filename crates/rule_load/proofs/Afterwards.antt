@@ -12,7 +12,8 @@ use Rattle.paper.specs.declared.Constraint.{Constraint}
 use Rattle.paper.specs.declared.Rule.{Rule}
 use Rattle.paper.specs.declared.Refusal.{Refusal}
 use Rattle.paper.specs.declared.Refusal.TheVariants.{TooManySites, TooManyRules, TooManyItems, TooManyConstrained, TooManyEqual, PlaceUsed}
-use Rattle.paper.specs.Words.{if◌then◌else◌, joined}
+use Rattle.std.specs.Prelude.{if◌then◌else◌}
+use Rattle.paper.specs.Words.{joined}
 use Rattle.paper.specs.Numbers.{max_sites, max_rules, max_items, max_constrained, max_equal, most_rounds, Outcome, done, refused, ◌>>=◌, demand}
 use Rattle.paper.specs.Sites.{Sites}
 use Rattle.paper.specs.Loading.{Kept, Set, Written, written, Loading, Solving, load_items, normalise, started, rounds, with_rule, used, load, closure, holders, conflict, check_4, steps, endless, no_endless, no_items}

@@ -9,7 +9,8 @@ use lib.ListN.{length, get_or, set, length-append, length-set}
 use lib.Seq.{sets-eq}
 use lib.Dec.{eqb}
 use borrow.Author.Tests.{eqb-true, eqb-false, ne_eqb}
-use Rattle.paper.specs.Words.{if◌then◌else◌, or_else, below, two}
+use Rattle.std.specs.Prelude.{if◌then◌else◌}
+use Rattle.paper.specs.Words.{or_else, below, two}
 use Rattle.paper.specs.Sites.{Site, parent, body, body_by}
 use Rattle.sites.specs.Slots.{slot, no_site, put, store}
 use Rattle.sites.proofs.Put.{length_put, put_put}

@@ -4,7 +4,8 @@ use Rattle.std.proofs.Math.Option.{none, some}
 use Rattle.paper.specs.declared.Constraint.{Constraint}
 use Rattle.paper.specs.declared.Refusal.{Refusal}
 use Rattle.paper.specs.declared.Refusal.TheVariants.{TooManySites}
-use Rattle.paper.specs.Words.{if◌then◌else◌, below, put, look}
+use Rattle.std.specs.Prelude.{if◌then◌else◌}
+use Rattle.paper.specs.Words.{below, put, look}
 use Rattle.paper.specs.Numbers.{max_sites, max_fields, max_equal, Outcome, done, refused, ◌>>=◌}
 use Rattle.paper.specs.Sites.{Sites, child_count, child, children, number_of, add_all}
 use Rattle.paper.proofs.Tables.{Rising}

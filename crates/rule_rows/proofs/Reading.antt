@@ -14,7 +14,8 @@ use borrow.Author.Count.{below_more}
 use borrow.Author.Tests.{eqb-true, ltb-true, ltb-false, leb-true, leb-false, eq-eqb, ne_eqb, le-leb, lt-leb}
 use Rattle.paper.specs.declared.Constraint.{Constraint}
 use Rattle.paper.specs.declared.Constraint.TheVariants.{Some}
-use Rattle.paper.specs.Words.{if◌then◌else◌, or_else, first}
+use Rattle.std.specs.Prelude.{if◌then◌else◌}
+use Rattle.paper.specs.Words.{or_else, first}
 use Rattle.paper.specs.Numbers.{max_sites, max_fields}
 use Rattle.paper.specs.Sites.{same_constraint, child_count}
 use Rattle.paper.proofs.Lists.{no_way, and_both}

@@ -7,7 +7,8 @@ use lib.Dec.{eqb, ltb}
 use borrow.Author.Tests.{eqb-true, eqb-false, ltb-true, eq-eqb, ne_eqb, lt-ltb, le-ltb}
 use Rattle.paper.specs.declared.Constraint.{Constraint}
 use Rattle.paper.specs.declared.Constraint.TheVariants.{Variant, Struct, ConstBool, ConstInt, ConstPrim, Some}
-use Rattle.paper.specs.Words.{if◌then◌else◌, flag}
+use Rattle.std.specs.Prelude.{if◌then◌else◌}
+use Rattle.paper.specs.Words.{flag}
 use Rattle.paper.specs.Sites.{same_constraint, constraint_body}
 use Rattle.paper.proofs.Laws.{same_list_refl, same_constraint_true}
 use Rattle.paper.proofs.Lists.{and_both, and_false}

@@ -3,7 +3,7 @@
 -- its class's lowest member. Past the end of the words there are zeros; a count above the limit is the limit; a place is 32 bits.
 use Rattle.std.specs.Prelude.{Bool, ◌&&◌, List, [], ◌∷◌, ℕ, zero, suc, ◌+◌, ◌*◌, ◌%◌, min, length, get_or, set, leb}
 use Rattle.paper.specs.declared.Constraint.{Constraint}
-use Rattle.paper.specs.Words.{if◌then◌else◌}
+use Rattle.std.specs.Prelude.{if◌then◌else◌}
 use Rattle.paper.specs.Numbers.{max_constrained, max_equal}
 use Rattle.paper.specs.Loading.{Kept}
 use Rattle.paper.specs.Rules.{rank}

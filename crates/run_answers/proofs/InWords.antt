@@ -9,7 +9,8 @@ use lib.ListN.{length, take}
 use lib.Seq.{take_all}
 use lib.Dec.{ltb}
 use borrow.Author.Tests.{ltb-true}
-use Rattle.paper.specs.Words.{if◌then◌else◌, joined}
+use Rattle.std.specs.Prelude.{if◌then◌else◌}
+use Rattle.paper.specs.Words.{joined}
 use Rattle.paper.specs.Layout.{lines, digit, with_byte, bytes}
 use Rattle.sheet_findings.specs.Written.{digits_of}
 use Rattle.sheet_findings.specs.ReadBack.{AllBytes, digits_back, line_back}

@@ -5,7 +5,8 @@ use Rattle.paper.specs.declared.Refusal.TheVariants.{Layout, Unknown, Itself, Un
 use Rattle.paper.specs.declared.Verdict.{Verdict}
 use Rattle.paper.specs.declared.Verdict.TheVariants.{Fine, Refused}
 use Rattle.paper.specs.Numbers.{number}
-use Rattle.paper.specs.Words.{if◌then◌else◌, same_list, four}
+use Rattle.std.specs.Prelude.{if◌then◌else◌}
+use Rattle.paper.specs.Words.{same_list, four}
 use Rattle.paper.specs.Text as text
 use Rattle.paper.specs.Loading.{Kept}
 use Rattle.paper.specs.Layout.{Lines, nothing, unended, line, lines, digit}

@@ -1,6 +1,7 @@
 -- A line and the end of a sheet in the program's buffers: what the reader answers goes, as `run_answers` says it, behind what the buffer has.
 use Rattle.std.specs.Prelude.{◌≡◌, Bool, true, false, ◌&&◌, ◌||◌, List, [], ℕ, ◌+◌, length, ltb}
-use Rattle.paper.specs.Words.{if◌then◌else◌, same_list}
+use Rattle.std.specs.Prelude.{if◌then◌else◌}
+use Rattle.paper.specs.Words.{same_list}
 use Rattle.paper.specs.Text.{text, unended}
 use Rattle.sheet_findings.specs.declared.Room as F
 use Rattle.sheet_ended.specs.Sets.{to_or}

@@ -7,7 +7,7 @@ use Rattle.paper.specs.declared.Found.{Found}
 use Rattle.paper.specs.declared.Found.TheVariants as found
 use Rattle.paper.specs.declared.Refusal.{Refusal}
 use Rattle.paper.specs.declared.Refusal.TheVariants.{Layout, Unknown, Itself, Unreachable, Hanging, Endless, TooManySites, TooManySources, TooManyFields, TooManyRules, TooManyItems, TooManyConstrained, TooManyEqual, TooManySets, TermTooHigh, UnfoldingTooLong, PlaceUsed, Repeated}
-use Rattle.paper.specs.Words.{if◌then◌else◌}
+use Rattle.std.specs.Prelude.{if◌then◌else◌}
 use Rattle.paper.specs.Numbers.{max_sites, done, ◌>>=◌, demand}
 use Rattle.paper.specs.Classes.{Classes, no_classes, is_at, flatten_in, flattened, find, in_same_set, sweep, remove_at, remove_set_of, len, is_empty}
 use Rattle.classes.specs.Answers.{over, looked, sought, joined, same, taken_by, taken_if, taken}

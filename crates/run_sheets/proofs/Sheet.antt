@@ -10,7 +10,8 @@ use lib.ListN.{length, take, drop, set, length-append, length-drop, length-take,
 use lib.Seq.{take_all}
 use lib.Dec.{eqb, ltb, leb}
 use borrow.Author.Tests.{not-false, ltb-true, ltb-false, eqb-true}
-use Rattle.paper.specs.Words.{if◌then◌else◌, joined}
+use Rattle.std.specs.Prelude.{if◌then◌else◌}
+use Rattle.paper.specs.Words.{joined}
 use Rattle.paper.specs.declared.Refusal.TheVariants.{Layout}
 use Rattle.paper.specs.Numbers.{Outcome, done, refused, demand, ◌>>=◌, last_line}
 use Rattle.paper.specs.Loading.{Set, Written, load}

@@ -13,7 +13,8 @@ use lib.Dec.{eqb, ltb, leb}
 use borrow.Author.Tests.{lt-ltb, le-ltb, le-leb, eqb-true, eq-eqb}
 use Rattle.paper.specs.declared.Refusal.{Refusal}
 use Rattle.paper.specs.declared.Refusal.TheVariants.{Repeated, TooManySets, TermTooHigh}
-use Rattle.paper.specs.Words.{if◌then◌else◌, any, keep, joined, Edges}
+use Rattle.std.specs.Prelude.{if◌then◌else◌}
+use Rattle.paper.specs.Words.{any, keep, joined, Edges}
 use Rattle.paper.specs.Numbers.{max_sets, max_rules, max_term, Outcome, done, refused, ◌>>=◌, demand}
 use Rattle.paper.specs.Sites.{Site, Sites, Sound, term_of}
 use Rattle.paper.specs.Loading.{Set, Kept, empty_set}

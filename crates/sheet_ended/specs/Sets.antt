@@ -4,7 +4,8 @@ use Rattle.paper.specs.declared.Refusal.{Refusal}
 use Rattle.paper.specs.declared.Verdict.{Verdict}
 use Rattle.paper.specs.declared.Verdict.TheVariants.{Fine, Refused}
 use Rattle.paper.specs.declared.Refusal.TheVariants.{Repeated, TooManySets, TermTooHigh}
-use Rattle.paper.specs.Words.{if◌then◌else◌, joined, Edges}
+use Rattle.std.specs.Prelude.{if◌then◌else◌}
+use Rattle.paper.specs.Words.{joined, Edges}
 use Rattle.paper.specs.Numbers.{max_sets, max_rules, max_term, Outcome, done, refused, ◌>>=◌, demand}
 use Rattle.paper.specs.Sites.{Site, Sites, term_of}
 use Rattle.paper.specs.Terms.{edge_to}

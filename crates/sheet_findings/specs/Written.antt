@@ -1,6 +1,7 @@
 -- Lines in lent memory.
 use Rattle.std.specs.Prelude.{◌≡◌, refl, Bool, true, false, List, [], ◌∷◌, ◌++◌, ℕ, ◌+◌, length, take, drop, leb}
-use Rattle.paper.specs.Words.{if◌then◌else◌, two, four}
+use Rattle.std.specs.Prelude.{if◌then◌else◌}
+use Rattle.paper.specs.Words.{two, four}
 use Rattle.paper.specs.Sheets.{Ended, end_found}
 -- a line without its LF
 unfoldable pub use Rattle.sheet_digits.specs.Digits.{digits_of}

@@ -10,7 +10,7 @@ use lib.ListN.{length, get_or, take, drop, set, replicate, length-set, length-ta
 use lib.Seq.{drop-cons, drop-drop}
 use lib.Dec.{ltb}
 use borrow.Author.Tests.{lt-ltb, le-ltb, le-leb, lt-leb, ltb-true}
-use Rattle.paper.specs.Words.{if◌then◌else◌}
+use Rattle.std.specs.Prelude.{if◌then◌else◌}
 use Rattle.paper.specs.Numbers.{max_digits}
 use Rattle.paper.specs.Layout.{digit, with_byte, bytes, line_bytes}
 use Rattle.paper.proofs.Lists.{drop_all}

@@ -2,7 +2,8 @@
 use Rattle.std.specs.Prelude.{◌≡◌, true, false, ◌&&◌, List, [], ◌∷◌, ◌++◌, ℕ, zero, suc, ◌+◌, ◌-◌, ◌*◌, ◌/◌, ◌≤◌, length, get_or, replicate, ltb}
 use Rattle.std.proofs.Math.Option.{Option, none, some}
 use Rattle.paper.specs.declared.Constraint.{Constraint}
-use Rattle.paper.specs.Words.{if◌then◌else◌, or_else}
+use Rattle.std.specs.Prelude.{if◌then◌else◌}
+use Rattle.paper.specs.Words.{or_else}
 use Rattle.paper.specs.Numbers.{max_digits}
 use Rattle.paper.specs.Layout as paper
 use Rattle.paper.specs.Layout.{digit, line_bytes, whole, constraint_read, frame_read, frame_of, begin_set, a_site, a_rule, an_item, end_set}

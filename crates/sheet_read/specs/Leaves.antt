@@ -1,7 +1,7 @@
 -- What feed, end and check leave, whatever the state and the lent memory hold: `feed_in`, `end_in`, `check_in`.
 use Rattle.std.specs.Prelude.{Bool, true, false, ◌&&◌, ◌||◌, not, List, ℕ, zero, suc, ◌+◌, length, ltb, leb}
 use Rattle.paper.specs.declared.Refusal.TheVariants.{Layout}
-use Rattle.paper.specs.Words.{if◌then◌else◌}
+use Rattle.std.specs.Prelude.{if◌then◌else◌}
 use Rattle.paper.specs.Layout.{hex}
 use Rattle.paper.specs.Sheets.{stop_found}
 use Rattle.term_table.specs.Table.{Square, no_edges}

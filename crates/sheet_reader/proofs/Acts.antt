@@ -8,7 +8,8 @@ use lib.ListN.{length}
 use lib.Dec.{ltb}
 use borrow.Author.Tests.{lt-ltb, le-ltb}
 use Rattle.paper.specs.declared.Refusal.{Refusal}
-use Rattle.paper.specs.Words.{if◌then◌else◌, joined, four}
+use Rattle.std.specs.Prelude.{if◌then◌else◌}
+use Rattle.paper.specs.Words.{joined, four}
 use Rattle.paper.specs.Numbers.{last_line, Outcome, done, refused, ◌>>=◌}
 use Rattle.paper.specs.Layout.{hex}
 use Rattle.paper.specs.Loading.{written}

@@ -1,7 +1,7 @@
 -- What a line leaves, whatever the reader and the lent memory hold: the answer, the lent memory and the room. Here the two ways to answer.
 use Rattle.std.specs.Prelude.{List, ℕ, ◌+◌, ltb}
 use Rattle.paper.specs.declared.Refusal.{Refusal}
-use Rattle.paper.specs.Words.{if◌then◌else◌}
+use Rattle.std.specs.Prelude.{if◌then◌else◌}
 use Rattle.paper.specs.Numbers.{last_line}
 use Rattle.paper.specs.Layout.{hex}
 use Rattle.paper.specs.Sheets.{stop_found}

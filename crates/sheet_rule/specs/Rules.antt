@@ -1,7 +1,7 @@
 -- A rule of a sheet, as the code reads it.
 use Rattle.std.specs.Prelude.{List, ℕ, ◌+◌, ◌-◌, ltb, leb}
 use Rattle.paper.specs.declared.Item.{Item}
-use Rattle.paper.specs.Words.{if◌then◌else◌}
+use Rattle.std.specs.Prelude.{if◌then◌else◌}
 use Rattle.paper.specs.Numbers.{max_items, max_rules}
 use Rattle.paper.specs.Sheets as paper
 use Rattle.paper.specs.Sheets.{rule_read}

@@ -10,7 +10,7 @@ use Rattle.paper.specs.declared.Refusal.{Refusal}
 use Rattle.paper.specs.declared.Refusal.TheVariants.{Layout, Repeated}
 use Rattle.paper.specs.declared.Verdict.{Verdict}
 use Rattle.paper.specs.declared.Verdict.TheVariants as verdict
-use Rattle.paper.specs.Words.{if◌then◌else◌}
+use Rattle.std.specs.Prelude.{if◌then◌else◌}
 use Rattle.paper.proofs.Lists.{rest_of}
 use Rattle.sites.specs.Slots.{added_in, numbered_as, after_add}
 use Rattle.sites.specs.declared.Numbered.{Numbered}

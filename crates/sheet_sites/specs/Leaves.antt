@@ -3,7 +3,7 @@ use Rattle.std.specs.Prelude.{List, ℕ, length, drop, eqb}
 use Rattle.paper.specs.declared.Refusal.TheVariants.{Layout, Repeated}
 use Rattle.paper.specs.declared.Verdict.{Verdict}
 use Rattle.paper.specs.declared.Verdict.TheVariants as verdict
-use Rattle.paper.specs.Words.{if◌then◌else◌}
+use Rattle.std.specs.Prelude.{if◌then◌else◌}
 use Rattle.sites.specs.Slots.{added_in, numbered_as, after_add}
 use Rattle.sites.specs.declared.Numbered.{Numbered}
 use Rattle.sites.specs.declared.Numbered.TheVariants as numbered

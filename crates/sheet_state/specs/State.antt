@@ -3,7 +3,7 @@
 -- bytes are lent beside them.
 use Rattle.std.specs.Prelude.{Bool, true, false, not, ◌&&◌, List, [], ◌∷◌, ◌++◌, ℕ, ◌+◌, ◌%◌, length, get_or, take, drop, replicate, eqb, leb}
 use Rattle.std.proofs.lemmas.List.Edits.{sets}
-use Rattle.paper.specs.Words.{if◌then◌else◌}
+use Rattle.std.specs.Prelude.{if◌then◌else◌}
 use Rattle.sheet_ended.specs.declared.EndedSets.{EndedSets}
 use Rattle.sheet_reader.specs.declared.OpenSet.{OpenSet}
 use Rattle.sheet_reader.specs.declared.Awaited.{Awaited}

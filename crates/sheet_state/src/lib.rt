@@ -1,9 +1,8 @@
 // Where the reading of a sheet stands, as words and bytes of lent memory: between two pieces of a sheet nothing else is kept of it.
 #![tactic(auto)]
 
-ghost use Rattle.std.specs.Prelude.{◌≡◌, Bool, true, ◌++◌, ℕ, ◌%◌, ◌≤◌, length, get_or, take, drop};
+ghost use Rattle.std.specs.Prelude.{◌≡◌, Bool, true, ◌++◌, ℕ, ◌%◌, ◌≤◌, length, get_or, take, drop, if◌then◌else◌};
 ghost use Rattle.std.proofs.lemmas.List.Edits.{sets};
-ghost use Rattle.paper.specs.Words.{if◌then◌else◌};
 ghost use Rattle.sheet_lines.specs.Fed.{max_held};
 ghost use Rattle.sheet_state.specs.State.{state_words, keeps, bit, set_in, rule_in, stands_in, row_in, ended_in, reader_in, stopped_in, bytes_in, state_in, set_words, rule_words, both_words, stands_words, ended_words, reader_words, state_put, held_put};
 

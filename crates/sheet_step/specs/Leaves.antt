@@ -1,7 +1,7 @@
 -- What a line leaves, whatever the reader and the lent memory hold: `step_in`.
 use Rattle.std.specs.Prelude.{List, ℕ, ◌+◌, length, take, leb}
 use Rattle.paper.specs.declared.Refusal.TheVariants.{Layout}
-use Rattle.paper.specs.Words.{if◌then◌else◌}
+use Rattle.std.specs.Prelude.{if◌then◌else◌}
 use Rattle.paper.specs.Numbers.{last_line}
 use Rattle.term_table.specs.Table.{with_edges}
 use Rattle.sites.specs.Slots.{sites_in}

@@ -13,7 +13,8 @@ use Rattle.paper.specs.declared.Found.{Found}
 use Rattle.paper.specs.declared.Found.TheVariants.{At, Nothing}
 use Rattle.paper.specs.declared.Refusal.{Refusal}
 use Rattle.paper.specs.declared.Refusal.TheVariants.{Layout, TooManySites, TooManySources}
-use Rattle.paper.specs.Words.{if◌then◌else◌, first}
+use Rattle.std.specs.Prelude.{if◌then◌else◌}
+use Rattle.paper.specs.Words.{first}
 use Rattle.paper.specs.Numbers.{max_sites, max_sources, Outcome, done, refused, ◌>>=◌, demand}
 use Rattle.paper.specs.Layout.{whole, site_read}
 use Rattle.paper.specs.Sites.{Site, Sites, body, sources, term_of, known, number_of, missing_source, term_fits, or_next, add}

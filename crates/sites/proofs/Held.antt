@@ -10,7 +10,8 @@ use lib.Seq.{ext_get_or, get_or-take, get_or-drop}
 use lib.Dec.{ltb, leb}
 use borrow.Author.Tests.{lt-ltb, le-ltb, le-leb, lt-leb, ltb-true, ltb-false, leb-true, leb-false}
 use Rattle.site_slots.specs.Seeking.{Held}
-use Rattle.paper.specs.Words.{if◌then◌else◌, or_else}
+use Rattle.std.specs.Prelude.{if◌then◌else◌}
+use Rattle.paper.specs.Words.{or_else}
 use Rattle.paper.specs.Layout.{whole, site_read}
 use Rattle.paper.specs.Sites.{Site, body}
 use Rattle.site_body.specs.Body.{no_site, site_of}

@@ -6,7 +6,8 @@ use mathlib.Core.List.{List, [], ◌∷◌, ◌++◌}
 use Prim.Native.Nat.{ℕ, zero, suc, ◌+◌, ◌-◌, ◌*◌, ◌≤◌, ◌<◌}
 use Rattle.std.proofs.Common.{◌∙◌, arith, length-append}
 use Rattle.paper.specs.declared.Refusal.TheVariants.{Layout, TooManySites}
-use Rattle.paper.specs.Words.{if◌then◌else◌, below}
+use Rattle.std.specs.Prelude.{if◌then◌else◌}
+use Rattle.paper.specs.Words.{below}
 use Rattle.paper.specs.Numbers.{Outcome, done, refused, ◌>>=◌, demand}
 use Rattle.paper.specs.Layout.{whole, site_read}
 use Rattle.paper.specs.Sites.{Site, body, Sites, Added, add, unfolded as unfolded-by}

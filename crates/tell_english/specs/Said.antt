@@ -1,6 +1,6 @@
 -- A finding in English.
 use Rattle.std.specs.Prelude.{Bool, true, false, List, [], ◌∷◌, ◌++◌, ℕ, ◌+◌, length, get_or, set, eqb, ltb}
-use Rattle.paper.specs.Words.{if◌then◌else◌}
+use Rattle.std.specs.Prelude.{if◌then◌else◌}
 use Rattle.tell_text.specs.Written.{Room, with_byte}
 use Rattle.sheet_findings.specs.declared.Room.TheVariants.{To, Short}
 use Rattle.sheet_findings.specs.declared.Room as F

@@ -1,6 +1,6 @@
 -- What a frame of findings is, by its kind and its length (01, "Sheets").
 use Rattle.std.specs.Prelude.{Bool, true, false, List, ℕ, ◌+◌, ◌*◌, length, get_or, eqb, ltb}
-use Rattle.paper.specs.Words.{if◌then◌else◌}
+use Rattle.std.specs.Prelude.{if◌then◌else◌}
 use Rattle.tell_english.specs.declared.Shape.{Shape}
 use Rattle.tell_english.specs.declared.Shape.TheVariants.{Refused, OverlapTwo, OverlapMore, MaskOne, MaskMore, Term, End, Stop, Empty, Unknown, Limit, StopLimit}
 use Rattle.tell_parts.specs.Parts.{two_at}

@@ -4,7 +4,8 @@ use Rattle.paper.specs.declared.Constraint.{Constraint}
 use Rattle.paper.specs.declared.Overlap.{Overlap}
 use Rattle.paper.specs.declared.Overlap.TheVariants.{No, Yes, Subset}
 use Rattle.paper.specs.declared.Refusal.{Refusal}
-use Rattle.paper.specs.Words.{if◌then◌else◌, two, four, eight}
+use Rattle.std.specs.Prelude.{if◌then◌else◌}
+use Rattle.paper.specs.Words.{two, four, eight}
 use Rattle.paper.specs.Numbers.{Outcome, done, refused, number, told, max_unfolding}
 use Rattle.paper.specs.Sites.{Sites, constraint_body, unfold_answer}
 use Rattle.paper.specs.Loading.{Kept}

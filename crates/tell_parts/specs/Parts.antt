@@ -6,7 +6,7 @@
 --     ^ the number of a refusal                    ~ the first byte
 --     & the number that was asked for              ! the item or the line that asked: four bytes each, behind those of a refusal
 use Rattle.std.specs.Prelude.{Bool, true, false, List, [], ◌∷◌, ◌++◌, ℕ, zero, suc, ◌+◌, ◌-◌, ◌*◌, ◌/◌, length, get_or, eqb}
-use Rattle.paper.specs.Words.{if◌then◌else◌}
+use Rattle.std.specs.Prelude.{if◌then◌else◌}
 use Rattle.paper.specs.Text.{unended}
 use Rattle.tell_text.specs.Decimal.{decimal}
 

@@ -10,7 +10,8 @@ use lib.ListN.{length, get_or, drop}
 use lib.Dec.{ltb}
 use borrow.Author.Tests.{lt-ltb, le-ltb, ltb-true, ltb-false}
 use Rattle.paper.specs.declared.Break.{Break}
-use Rattle.paper.specs.Words.{if◌then◌else◌, below, joined, four, eight}
+use Rattle.std.specs.Prelude.{if◌then◌else◌}
+use Rattle.paper.specs.Words.{below, joined, four, eight}
 use Rattle.paper.specs.Numbers.{max_rules}
 use Rattle.paper.specs.Loading.{Kept, Set}
 use Rattle.paper.specs.Priorities.{rule}

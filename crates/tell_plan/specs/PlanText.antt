@@ -2,7 +2,8 @@
 use Rattle.std.specs.Prelude.{List, [], ◌∷◌, ◌++◌, map, ℕ, length, get_or, ltb}
 use Rattle.paper.specs.declared.Break.{Break}
 use Rattle.paper.specs.declared.Break.TheVariants.{Edge, Mask, Order}
-use Rattle.paper.specs.Words.{if◌then◌else◌, below, joined, two, four, eight}
+use Rattle.std.specs.Prelude.{if◌then◌else◌}
+use Rattle.paper.specs.Words.{below, joined, two, four, eight}
 use Rattle.paper.specs.Numbers.{max_rules}
 use Rattle.paper.specs.Loading.{Set}
 use Rattle.paper.specs.Priorities.{rule, wrong_length}

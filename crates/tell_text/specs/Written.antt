@@ -4,7 +4,7 @@ use Rattle.std.proofs.Common.{sym, ap, ◌∙◌, arith, length-set, lt-ltb, le-
 use mathlib.Core.List.{List, [], ◌∷◌, ◌++◌, foldl, foldl-append}
 use Rattle.std.proofs.lemmas.List.Edits.{sets}
 use Rattle.std.proofs.Math.Seq.{length-sets}
-use Rattle.paper.specs.Words.{if◌then◌else◌}
+use Rattle.std.specs.Prelude.{if◌then◌else◌}
 
 abbrev pub Room : Type 0
 Room = List ℕ × ℕ

@@ -10,7 +10,7 @@ use lib.Seq.{get_or-set_same, get_or-set_other}
 use lib.Dec.{eqb, ltb}
 use lib.Bits.{bit_or}
 use borrow.Author.Tests.{eq-eqb, ne_eqb, eqb-true, not-false, lt-ltb, le-ltb}
-use Rattle.paper.specs.Words.{if◌then◌else◌}
+use Rattle.std.specs.Prelude.{if◌then◌else◌}
 use Rattle.paper.proofs.Lists.{no_way, or_false}
 use Rattle.term_table.specs.Table.{terms, words, Square, row, in_row, marked, row_with, with_mark, no_marks, no_edges}
 use Rattle.term_table.specs.Loops.{both_of, has_some, join_at, join_by, join_to, widen, pass}

@@ -12,7 +12,8 @@ use lib.Dec.{eqb, ltb, leb}
 use lib.Bits.{bit_and, bit_or, and_mask}
 use lib.Pow.{shl_exact}
 use borrow.Author.Tests.{lt-ltb, le-ltb, le-leb, lt-leb}
-use Rattle.paper.specs.Words.{if◌then◌else◌, returns}
+use Rattle.std.specs.Prelude.{if◌then◌else◌}
+use Rattle.paper.specs.Words.{returns}
 use Rattle.paper.specs.Numbers.{max_term, Outcome, done, refused, ◌>>=◌, demand}
 use Rattle.paper.specs.declared.Refusal.TheVariants.{TermTooHigh}
 use Rattle.paper.specs.declared.Verdict.TheVariants as Verdict-is
