@@ -1,0 +1,6 @@
+use Rattle.sheet_reader.proofs.Acts.{goes_as}
+use borrow.Author.Rules.{rules}
+use Rattle.sheet_reader.proofs.on.Goals as goal
+
+pub returns : goal.returns
+returns c = goes_as c.args.r _ _ _ _ c.next_line.ensures
