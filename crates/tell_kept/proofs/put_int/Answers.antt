@@ -1,0 +1,8 @@
+use Rattle.tell_kept.proofs.Laws.{int_put}
+use Rattle.paper.specs.Words.{two}
+use borrow.Author.Rules.{rules}
+use Rattle.tell_kept.proofs.put_int.Goals as goal
+
+pub returns : goal.returns
+unfolding two
+returns c = int_put _ _ _ _ _ _ _ c.put_hex-k.ensures c.put_eight-j.ensures c.put_eight.ensures
