@@ -9,4 +9,3 @@ pub mod RoundPick
 pub mod RoundEqual
 pub mod RoundWhole
 pub mod RoundLaid
-pub mod Endings

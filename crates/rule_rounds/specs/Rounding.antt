@@ -1,7 +1,5 @@
 -- What the rounds need of the lent lists, and what they leave.
 use Rattle.std.specs.Prelude.{◌≡◌, ◌⊎◌, List, [], ℕ, ◌+◌, ◌<◌, ◌≤◌, length, get_or}
-use Rattle.paper.specs.declared.Constraint.{Constraint}
-use Rattle.paper.specs.declared.Refusal.{Refusal}
 use Rattle.paper.specs.Numbers.{max_sites, max_equal, most_rounds, Outcome, done, refused}
 use Rattle.paper.proofs.Tables.{Rising}
 use Rattle.paper.specs.Loading.{Solving, Labels, join_all, rounds}
