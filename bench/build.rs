@@ -1,8 +1,8 @@
-//! Links the archive that `rt staticlib lintelbox` writes.
+//! Links the archive that `sh tests/built lintelbox` writes.
 
 fn main() {
     let root = std::env::var("CARGO_MANIFEST_DIR").unwrap();
-    println!("cargo:rustc-link-search=native={root}/../target/staticlib");
+    println!("cargo:rustc-link-search=native={root}/../crates/lintelbox/out");
     println!("cargo:rustc-link-lib=static=lintelbox");
-    println!("cargo:rerun-if-changed={root}/../target/staticlib/liblintelbox.a");
+    println!("cargo:rerun-if-changed={root}/../crates/lintelbox/out/liblintelbox.a");
 }

@@ -1,4 +1,4 @@
-/* Lintelmoth for the box: the functions of liblintelbox.a (`rt staticlib lintelbox` writes target/staticlib/liblintelbox.a, for x86-64).
+/* Lintelmoth for the box: the functions of liblintelbox.a (`sh tests/built lintelbox` writes crates/lintelbox/out/liblintelbox.a, for x86-64).
  *
  * Document 01 (docs/01-scope.md) says what each call means; crates/lintelbox has the contracts that are proved of them.
  *
