@@ -197,7 +197,3 @@ module _ (ws : List ℕ) (n : ℕ) where
   pub walk_ends : (k : ℕ) → n ≤ k → k ≤ n → stray_from ws k (n - k) ≡ stray ws n → n ≡ stray ws n
   unfolding stray_from
   walk_ends k h l e = let z : n - k ≡ 0 = omega arith in let w : k ≡ n = omega arith in rw (z, w) at e
-
-pub goes : (b : Bool) → not b ≡ false → b ≡ true
-goes true e = refl
-goes false e = sym e
