@@ -1,0 +1,13 @@
+use native.Mathlib.Omega.{arith}
+use Rattle.rule_children.proofs.GrowLaws.{Placing, place_start, place_room, place_inside, next_new, next_old, place_length, place_end, Whole, whole_start, whole_new, whole_old, whole_end}
+use Prim.Native.Nat.{◌-◌}
+use borrow.Author.Rules.{rules}
+use mathlib.Core.Logic.{⊎_elim}
+use Rattle.rule_children.specs.Tail.{table}
+use Rattle.rule_children.proofs.place.Given as goal
+
+abbrev pub invariant-loop-f : goal.invariant-loop-f
+invariant-loop-f l = Placing (table l.m l.n l.initial.tail l.k) l.k l.s l.c l.initial.tail l.tail l.numbers l.j l.f × Whole l.m l.n l.initial.tail l.k l.s l.c l.tail l.j l.f
+
+abbrev pub decreases-loop-f : goal.decreases-loop-f
+decreases-loop-f l = l.count - l.f
