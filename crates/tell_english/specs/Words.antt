@@ -27,7 +27,7 @@ hanging_site =
 
 unfoldable pub self_containing : List ℕ
 self_containing =
-    pieces ("Rule # is refused with number 6 (self_containing): its equalities make a value a part of itself, which no page can have, so it never prints " ∷
+    pieces ("Rule # is refused with number 6 (self-containing): its equalities make a value a part of itself, which no page can have, so it never prints " ∷
     "anything. Take out the equality between a site and what lies inside it." ∷ [])
 
 unfoldable pub place_used : List ℕ

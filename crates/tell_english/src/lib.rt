@@ -147,7 +147,7 @@ fn put_refused(f: &[u8], out: &mut [u8], at: usize) -> usize
     }
     if n == 6 {
         return fill(
-            b"Rule # is refused with number 6 (self_containing): its equalities make a value a part of itself, which no page can have, so it never \
+            b"Rule # is refused with number 6 (self-containing): its equalities make a value a part of itself, which no page can have, so it never \
               prints anything. Take out the equality between a site and what lies inside it.",
             f,
             out,
