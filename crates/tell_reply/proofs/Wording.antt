@@ -5,11 +5,8 @@ use Prim.Native.Nat.{ℕ, zero, suc, ◌+◌, min}
 use native.Mathlib.Omega.{arith}
 use native.Mathlib.Numerals.{add-one}
 use lib.ListN.{length, get_or}
-use types.Run.{OneOf, miss}
-use denote.Enum.Declared.{tag_of}
 use Rattle.paper.specs.declared.Refusal.{Refusal}
 use Rattle.paper.specs.declared.Refusal.TheVariants.{Layout, Unknown, Itself, Unreachable, Hanging, Endless, TooManySites, TooManySources, TooManyFields, TooManyRules, TooManyItems, TooManyConstrained, TooManyEqual, TooManySets, TermTooHigh, UnfoldingTooLong, PlaceUsed, Repeated}
-use Rattle.paper.specs.contracts.Refusal.{the_type}
 use Rattle.paper.specs.Text.{unended}
 use Rattle.classes.specs.declared.Taken.{Taken}
 use Rattle.classes.specs.declared.Taken.TheVariants as taken
@@ -21,28 +18,25 @@ use Rattle.tell_reply.specs.Replies.{refusal_text, member_text, members_text, ta
 pub told : (p q : Room) (s t : List ℕ) → s ≡ t → q ≡ wrote p s → q ≡ wrote p t
 told p q s t e f = f ∙ ap (wrote p) e
 
-abbrev others : List ℕ
-others = 0 ∷ 3 ∷ 4 ∷ 5 ∷ 6 ∷ 7 ∷ 8 ∷ 9 ∷ 10 ∷ 11 ∷ 12 ∷ 13 ∷ 14 ∷ 15 ∷ 16 ∷ 17 ∷ []
-
-pub refusal_other : (e : Refusal) → OneOf others (tag_of the_type e) → refusal_text e ≡ []
-refusal_other (Unknown x) r = absurd (miss others 1 tt r)
-refusal_other (Itself x) r = absurd (miss others 2 tt r)
-refusal_other (Layout a) r = refl
-refusal_other (Unreachable a b) r = refl
-refusal_other (Hanging a) r = refl
-refusal_other (Endless a) r = refl
-refusal_other (TooManySites a b) r = refl
-refusal_other (TooManySources a b) r = refl
-refusal_other (TooManyFields a b) r = refl
-refusal_other (TooManyRules a) r = refl
-refusal_other (TooManyItems a) r = refl
-refusal_other (TooManyConstrained a) r = refl
-refusal_other (TooManyEqual a) r = refl
-refusal_other (TooManySets a) r = refl
-refusal_other (TermTooHigh a) r = refl
-refusal_other (UnfoldingTooLong a) r = refl
-refusal_other (PlaceUsed a) r = refl
-refusal_other (Repeated a) r = refl
+pub refusal_other : (e : Refusal) → ((x : ℕ) → e ≡ Unknown x → ⊥) → ((x : ℕ) → e ≡ Itself x → ⊥) → refusal_text e ≡ []
+refusal_other (Unknown x) u i = absurd (u x refl)
+refusal_other (Itself x) u i = absurd (i x refl)
+refusal_other (Layout a) u i = refl
+refusal_other (Unreachable a b) u i = refl
+refusal_other (Hanging a) u i = refl
+refusal_other (Endless a) u i = refl
+refusal_other (TooManySites a b) u i = refl
+refusal_other (TooManySources a b) u i = refl
+refusal_other (TooManyFields a b) u i = refl
+refusal_other (TooManyRules a) u i = refl
+refusal_other (TooManyItems a) u i = refl
+refusal_other (TooManyConstrained a) u i = refl
+refusal_other (TooManyEqual a) u i = refl
+refusal_other (TooManySets a) u i = refl
+refusal_other (TermTooHigh a) u i = refl
+refusal_other (UnfoldingTooLong a) u i = refl
+refusal_other (PlaceUsed a) u i = refl
+refusal_other (Repeated a) u i = refl
 
 pub member_first : (i x : ℕ) → i ≡ 0 → member_text i x ≡ decimal x
 member_first zero x e = refl

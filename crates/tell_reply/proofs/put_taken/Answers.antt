@@ -1,0 +1,19 @@
+-- `tell_reply::put_taken` meets its contract. Assumes nothing.
+use mathlib.Core.Path.{sym, ap}
+use Rattle.tell_text.specs.Written.{nothing}
+use Rattle.tell_reply.specs.Replies.{taken_text}
+use Rattle.tell_reply.proofs.Wording.{told, taken_none, taken_some}
+use borrow.Author.Rules.{rules}
+use Rattle.tell_reply.proofs.put_taken.Goals as goal
+
+pub returns-then-k-eq0 : goal.returns-then-k-eq0
+returns-then-k-eq0 c = told _ _ _ _ (sym (taken_none _ _ _ c.in-Members.is c.if-k-eq0.true)) c.put_text.ensures
+
+pub returns-else-k-eq0 : goal.returns-else-k-eq0
+returns-else-k-eq0 c = told _ _ _ _ (sym (taken_some _ _ _ c.in-Members.is c.if-k-eq0.false)) c.put_members.ensures
+
+pub returns-in-Refused : goal.returns-in-Refused
+returns-in-Refused c = told _ _ _ _ (ap (taken_text _) (sym c.in-Refused.is)) c.put_refusal.ensures
+
+pub returns-in-Short : goal.returns-in-Short
+returns-in-Short c = told _ _ _ _ (ap (taken_text _) (sym c.in-Short.is)) (nothing _)
