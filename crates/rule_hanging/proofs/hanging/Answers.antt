@@ -1,0 +1,31 @@
+-- `rule_hanging::hanging` meets its contract. Assumes nothing.
+use borrow.Author.Rules.{rules}
+use Rattle.rule_hanging.proofs.Childless.{lowest_none, lowest_step, lowest_all}
+use Rattle.item_words.proofs.Laws.{items_length}
+use Rattle.rule_hanging.proofs.Names.{held_read}
+use Rattle.rule_hanging.specs.Seen.{names, Sees, Known}
+use Rattle.item_words.specs.Items.{items_in as held_items}
+use Rattle.rule_lists.specs.Entries.{found_as}
+use Rattle.paper.specs.Loading.{Loading, hangs}
+use Rattle.paper.specs.Words.{keep, least}
+use lib.ListN.{take}
+use native.Mathlib.Omega.{arith}
+use Prim.Native.Nat.{◌≤◌, ◌-◌}
+use mathlib.Core.List.{[]}
+use mathlib.Core.Path.{◌≡◌}
+use Rattle.rule_hanging.proofs.hanging.Goals as goal
+
+pub loop-i-init : goal.loop-i-init
+loop-i-init c = (omega arith, λ l X K. lowest_none (held_items c.args.items.now c.args.count) l)
+
+pub overflow_add-i : goal.overflow_add-i
+overflow_add-i c = omega arith
+
+pub loop-i-smaller : goal.loop-i-smaller
+loop-i-smaller c = omega arith
+
+pub loop-i-preserved : goal.loop-i-preserved
+loop-i-preserved c = (omega arith, λ l X K. lowest_step (held_items c.args.items.now c.args.count) _ _ l _ _ (let z = items_length c.args.items.now c.args.count in let b = c.loop-i-test.true in omega arith) (held_read c.args.items.now c.args.count _ _ c.loop-i-test.true c.item_at-it.ensures) K (c.loop-i.invariant.1 l X K) (c.lower_item-next.ensures l X))
+
+pub returns : goal.returns
+returns c = λ l X K. lowest_all (held_items c.args.items.now c.args.count) c.loop-i.i l _ (let z = items_length c.args.items.now c.args.count in let b = c.loop-i-test.false in omega arith) (c.loop-i.invariant.1 l X K)

@@ -1,0 +1,21 @@
+use borrow.Author.Rules.{rules}
+use Rattle.rule_hanging.proofs.Childless.{lowest_none, lowest_step, lowest_all}
+use Rattle.item_words.proofs.Laws.{items_length}
+use Rattle.rule_hanging.proofs.Names.{held_read}
+use Rattle.rule_hanging.specs.Seen.{names, Sees, Known}
+use Rattle.item_words.specs.Items.{items_in as held_items}
+use Rattle.rule_lists.specs.Entries.{found_as}
+use Rattle.paper.specs.Loading.{Loading, hangs}
+use Rattle.paper.specs.Words.{keep, least}
+use lib.ListN.{take}
+use native.Mathlib.Omega.{arith}
+use Prim.Native.Nat.{◌≤◌, ◌-◌}
+use mathlib.Core.List.{[]}
+use mathlib.Core.Path.{◌≡◌}
+use Rattle.rule_hanging.proofs.hanging.Given as goal
+
+abbrev pub invariant-loop-i : goal.invariant-loop-i
+invariant-loop-i l = (l.i ≤ l.count) × ((w : Loading) → Sees l.m l.n l.tail l.sites l.rows l.words l.held w → Known w (names (held_items l.items l.count) []) → l.best ≡ found_as (least (keep (hangs w) (names (take l.i (held_items l.items l.count)) []))))
+
+abbrev pub decreases-loop-i : goal.decreases-loop-i
+decreases-loop-i l = l.count - l.i
