@@ -1,13 +1,13 @@
 -- For whoever loads rules: loading in lent memory is paper's `load`, and the memory afterwards holds the set that it answers.
 use mathlib.Core.Path.{◌≡◌, refl, sym, ap, ◌∙◌}
 use mathlib.Core.Bool.{Bool, true, false, ◌&&◌, not}
-use mathlib.Core.List.{List, [], ◌∷◌, ◌++◌, map, Memᴰ}
+use mathlib.Core.List.{List, [], ◌∷◌, ◌++◌, map}
 use Prim.Native.Nat.{ℕ, zero, suc, ◌+◌, ◌*◌, ◌≤◌, ◌<◌, min, ◌/◌}
 use native.Mathlib.Omega.{arith}
 use lib.ListN.{length, get_or, drop, length-map, length-append}
 use lib.Seq.{get_or_at, drop_at}
 use lib.Dec.{ltb, leb}
-use borrow.Author.Tests.{lt-ltb, le-leb, leb-true, ltb-true, ltb-false}
+use borrow.Author.Tests.{le-leb, leb-true, ltb-true, ltb-false}
 use Rattle.paper.specs.declared.Constraint.{Constraint}
 use Rattle.paper.specs.declared.Rule.{Rule}
 use Rattle.paper.specs.declared.Refusal.{Refusal}
@@ -16,10 +16,10 @@ use Rattle.std.specs.Prelude.{if◌then◌else◌}
 use Rattle.paper.specs.Words.{joined}
 use Rattle.paper.specs.Numbers.{max_sites, max_rules, max_items, max_constrained, max_equal, most_rounds, Outcome, done, refused, ◌>>=◌, demand}
 use Rattle.paper.specs.Sites.{Sites}
-use Rattle.paper.specs.Loading.{Kept, Set, Written, written, Loading, Solving, load_items, normalise, started, rounds, with_rule, used, load, closure, holders, conflict, check_4, steps, endless, no_endless, no_items}
+use Rattle.paper.specs.Loading.{Kept, Set, Written, written, Loading, Solving, load_items, normalise, started, with_rule, used, load, closure, holders, conflict, check_4, steps, endless, no_endless, no_items}
 use Rattle.paper.specs.Rules.{no_rule}
 use Rattle.paper.proofs.Outcomes.{done_once, bind_done, demand_done}
-use Rattle.paper.proofs.Making.{Loads, load_done, normalise_rounds}
+use Rattle.paper.proofs.Making.{load_done, normalise_rounds}
 use Rattle.paper.proofs.Lists.{and_both}
 use Rattle.rule_words.specs.Stored.{run, base, stride, kept_in, kept_first, fits_in, put_rule, handed}
 use Rattle.rule_words.specs.Stored as stored
@@ -30,7 +30,7 @@ use Rattle.sites.proofs.After.{Grows, Bodies, grown_in, grown_older, grown_bodie
 use Rattle.rule_items.specs.Shown.{items_in}
 use Rattle.rule_load.specs.Parts.{admitted, worked, settled}
 use Rattle.rule_load.specs.Whole.{set_in, load_in, sites_after, three, put_kept, words_after}
-use Rattle.rule_load.proofs.Widening.{Widens, widens_grows, widens_none, items_passed, Turned, rounds_turned, started_turned}
+use Rattle.rule_load.proofs.Widening.{Widens, widens_grows, widens_none, items_passed, rounds_turned, started_turned}
 use Rattle.rule_load.proofs.Parting.{first_length, ended, parts, items_done, after_rounds}
 use Rattle.rule_load.proofs.Ranging.{InRanges, RuleFits, items_ranged, rounds_ranged, handed_is}
 

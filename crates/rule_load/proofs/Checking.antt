@@ -1,6 +1,6 @@
 -- What the items leave is what the class check and the rounds take.
 use mathlib.Core.Path.{◌≡◌, refl, sym, ap, ◌∙◌}
-use mathlib.Core.Bool.{Bool, true, false}
+use mathlib.Core.Bool.{Bool, true}
 use mathlib.Core.Option.{none}
 use mathlib.Core.List.{List, [], ◌∷◌, ◌++◌, map, Memᴰ}
 use Prim.Native.Nat.{ℕ, zero, suc, ◌+◌, ◌*◌, ◌≤◌, ◌<◌, min}
@@ -16,21 +16,20 @@ use Rattle.paper.specs.declared.Item.{Item}
 use Rattle.paper.specs.Words.{below, first}
 use Rattle.paper.specs.Numbers.{max_sites, max_fields, max_items, max_equal, most_rounds, Outcome, done, refused, ◌>>=◌}
 use Rattle.paper.specs.Sites.{child_count, child_number}
-use Rattle.paper.specs.Loading.{Loading, Labels, Solving, Holder, holder, holders, closure, conflict, check_4, steps, endless, no_endless, join_all, rounds, started}
+use Rattle.paper.specs.Loading.{Loading, Labels, Solving, Holder, holder, holders, closure, conflict, check_4, steps, endless, no_endless, rounds, started}
 use Rattle.paper.proofs.Closure.{of_below}
 use Rattle.paper.proofs.Tables.{Rising}
 use Rattle.sites.specs.Slots.{sites_in}
 use Rattle.sites.proofs.Places.{sites_length}
-use Rattle.rule_children.specs.Tail.{table}
 use Rattle.paper.specs.declared.Verdict.{Verdict}
 use Rattle.paper.specs.declared.Verdict.TheVariants as verdict
-use Rattle.rule_rows.specs.Holding.{Held, held, shape_in, kid_count, kid_in, holder_in, holders_to, holders_in, eqs_in, class_check, stray, checked, verdict_of, Inside}
+use Rattle.rule_rows.specs.Holding.{Held, held, shape_in, kid_count, kid_in, holder_in, holders_to, holders_in, stray, checked, verdict_of, Inside}
 use Rattle.rule_rows.proofs.Agreeing.{class_lines}
 use Rattle.item_words.specs.Items.{items_in as held_items}
 use Rattle.item_words.proofs.Laws.{items_length}
 use Rattle.rule_items.specs.declared.Progress.{Progress}
 use Rattle.rule_hanging.specs.Seen.{shown}
-use Rattle.rule_items.specs.Shown.{Row, Shown, roomy, items_in, Told}
+use Rattle.rule_items.specs.Shown.{Shown, roomy, items_in, Told}
 use Rattle.rule_rounds.specs.declared.Solved.{Solved}
 use Rattle.rule_rounds.specs.Rounding.{Proper, Listed, Rounds, solved}
 use Rattle.rule_load.specs.Parts.{worked, Lent, Left, SameTo}

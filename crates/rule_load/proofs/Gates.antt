@@ -1,6 +1,6 @@
 -- The checks before the items and those of the result, one after the other.
-use mathlib.Core.Path.{◌≡◌, refl, sym, ap, ◌∙◌}
-use mathlib.Core.Bool.{Bool, true, false, ◌&&◌, not}
+use mathlib.Core.Path.{◌≡◌, sym, ◌∙◌}
+use mathlib.Core.Bool.{Bool, true, false, ◌&&◌}
 use mathlib.Core.List.{List}
 use Prim.Native.Nat.{ℕ, suc, ◌+◌, ◌*◌, ◌/◌, ◌≤◌, ◌<◌, min}
 use native.Mathlib.Omega.{arith}
@@ -8,7 +8,7 @@ use lib.ListN.{length}
 use lib.Dec.{ltb, leb}
 use borrow.Author.Tests.{lt-ltb, le-ltb, le-leb, lt-leb}
 use Rattle.paper.specs.declared.Refusal.TheVariants.{TooManySites, TooManyRules, TooManyItems, TooManyConstrained, TooManyEqual, PlaceUsed}
-use Rattle.paper.specs.Numbers.{max_sites, max_rules, max_items, max_constrained, max_equal, Outcome, done, refused, ◌>>=◌, demand}
+use Rattle.paper.specs.Numbers.{max_sites, max_rules, max_items, max_constrained, max_equal}
 use Rattle.rule_words.specs.Stored.{base, stride}
 use Rattle.sites.specs.Slots.{slot}
 use Rattle.paper.specs.declared.Verdict.TheVariants.{Fine, Refused}

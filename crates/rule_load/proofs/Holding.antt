@@ -13,14 +13,14 @@ use Rattle.paper.specs.declared.Entry.{Entry}
 use Rattle.paper.specs.declared.Item.{Item}
 use Rattle.paper.specs.declared.Rule.{Rule}
 use Rattle.paper.specs.Numbers.{max_items}
-use Rattle.paper.specs.Loading.{Written, written}
+use Rattle.paper.specs.Loading.{written}
 use Rattle.paper.specs.contracts.Rule.{the_type}
 use Rattle.item_words.specs.Items.{Ranged, put_item, items_in, rule_in}
 use Rattle.item_words.proofs.Laws.{item_held, no_items, rule_written}
 
 -- what the code's types say of a rule
 pub rule_long : (r : Rule) (vs : List Val) → Is (row the_type) r vs → length r.entries ≡ max_items
-rule_long r vs p = sym (length-map r.entries _) ∙ p.1.1.1.1.1.0.1.0.1
+rule_long r vs p = p.1.1.1.1.1.0.1.0.1
 
 -- the first k items of a rule
 abbrev pub first_items : Rule → ℕ → List Item

@@ -1,28 +1,26 @@
 -- The answers of `load`, and the lent memory after each.
 use mathlib.Core.Path.{◌≡◌, refl, sym, ap, ◌∙◌, subst}
-use mathlib.Core.Bool.{Bool, true, false, ◌&&◌, not}
-use mathlib.Core.Option.{Option, none, some}
 use mathlib.Core.Logic.{⊎_elim}
 use mathlib.Core.List.{List, [], ◌∷◌, ◌++◌, map, Memᴰ}
-use Prim.Native.Nat.{ℕ, zero, suc, ◌+◌, ◌*◌, ◌≤◌, ◌<◌, min, ◌/◌}
+use Prim.Native.Nat.{ℕ, ◌+◌, ◌*◌, ◌≤◌, ◌<◌, ◌/◌}
 use native.Mathlib.Omega.{arith}
 use lib.ListN.{length, get_or, take, drop, replicate, length-replicate}
 use lib.Seq.{drop_at, get_or_at}
-use lib.Dec.{ltb, leb}
+use lib.Dec.{leb}
 use borrow.Author.Tests.{leb-true}
 use Rattle.paper.specs.declared.Rule.{Rule}
 use Rattle.paper.specs.declared.Refusal.{Refusal}
-use Rattle.paper.specs.declared.Refusal.TheVariants.{TooManySites, TooManyRules, TooManyItems, TooManyConstrained, TooManyEqual, PlaceUsed}
-use Rattle.paper.specs.Words.{or_else, below, joined}
-use Rattle.paper.specs.Numbers.{max_sites, max_fields, max_rules, max_items, max_constrained, max_equal, Outcome, done, refused, ◌>>=◌, demand}
+use Rattle.paper.specs.declared.Refusal.TheVariants.{TooManySites, TooManyConstrained, TooManyEqual}
+use Rattle.paper.specs.Words.{or_else, joined}
+use Rattle.paper.specs.Numbers.{max_sites, max_fields, max_items, max_constrained, max_equal, Outcome, done, refused, ◌>>=◌}
 use Rattle.paper.specs.Sites.{Site, Sites, const_bool, const_int, const_prim, argument, extractor, constructor, iterator, make_variant, match_variant, make_struct, extract_struct, make_some, match_some, match_tuple, sources, parent}
-use Rattle.paper.specs.Loading.{Kept, Set, Written, written, Solving, with_rule}
+use Rattle.paper.specs.Loading.{Set, Written, written, Solving, with_rule}
 use Rattle.paper.specs.Rules.{no_rule}
-use Rattle.paper.proofs.Outcomes.{demand_done, bind_done}
+use Rattle.paper.proofs.Outcomes.{demand_done}
 use Rattle.paper.proofs.Closure.{in_below}
 use Rattle.rule_words.specs.Stored.{base, stride, kept_first}
 use Rattle.rule_words.specs.Stored as stored
-use Rattle.sites.specs.Slots.{slot, no_site, sites_in, store}
+use Rattle.sites.specs.Slots.{slot, sites_in, store}
 use Rattle.sites.proofs.Places.{sites_length}
 use Rattle.rule_children.specs.Tail.{site_of_word, table}
 use Rattle.paper.specs.declared.Verdict.{Verdict}
@@ -37,7 +35,7 @@ use Rattle.rule_load.specs.declared.Loaded.{Loaded}
 use Rattle.rule_load.specs.declared.Loaded.TheVariants as loaded
 use Rattle.rule_rounds.specs.Rounding.{Solves, Rounds, Scant, Unless}
 use Rattle.rule_load.specs.Parts.{answer_as, admitted, worked, settled, Lent, ChildWord, new_sites, gathered, Keepable, Finishable, Finishes, Answers, Tries}
-use Rattle.rule_load.specs.Whole.{set_in, load_in, loaded_as, sites_after, three, put_kept, words_after}
+use Rattle.rule_load.specs.Whole.{set_in, load_in, three, put_kept}
 use Rattle.rule_load.proofs.Widening.{NewSite, Widens, Turned, classes_few}
 use Rattle.rule_load.proofs.Parting.{first_length, ended, by_parts, parts, after_rounds}
 use Rattle.rule_load.proofs.Laying.{table_long, table_new, shown_long, laid_sites, laid_words, laid_equal, laid_low}

@@ -8,9 +8,8 @@ use lib.Seq.{length-take-le, get_or-take, ext_get_or, drop_at}
 use Rattle.paper.specs.declared.Constraint.{Constraint}
 use Rattle.paper.specs.Words.{below, joined}
 use Rattle.paper.specs.Numbers.{max_equal}
-use Rattle.paper.specs.Loading.{Labels, Constraints}
+use Rattle.paper.specs.Loading.{Labels}
 use Rattle.paper.proofs.Lists.{map_append}
-use Rattle.rule_words.specs.Packing.{head, second, third, unpack}
 use Rattle.rule_words.specs.Stored.{constraint_at}
 use Rattle.rule_words.proofs.PackLaws.{pack_unpack}
 use Rattle.sites.specs.Slots.{sites_in}

@@ -1,8 +1,8 @@
 -- Loading in lent memory is its parts one after the other; and what the parts leave.
 use mathlib.Core.Path.{◌≡◌, refl, sym, ap, ◌∙◌}
-use mathlib.Core.Bool.{Bool, true, false, ◌&&◌, not}
-use mathlib.Core.List.{List, [], ◌∷◌, ◌++◌, map}
-use Prim.Native.Nat.{ℕ, zero, suc, ◌+◌, ◌*◌, ◌≤◌, ◌<◌, min, ◌/◌}
+use mathlib.Core.Bool.{Bool, true, false, ◌&&◌}
+use mathlib.Core.List.{List}
+use Prim.Native.Nat.{ℕ, zero, suc, ◌+◌, ◌*◌, ◌≤◌, ◌/◌}
 use native.Mathlib.Omega.{arith}
 use lib.ListN.{length}
 use lib.Dec.{ltb, leb}
@@ -10,10 +10,9 @@ use borrow.Author.Tests.{leb-true}
 use Rattle.paper.specs.declared.Item.{Item}
 use Rattle.paper.specs.declared.Rule.{Rule}
 use Rattle.paper.specs.declared.Refusal.{Refusal}
-use Rattle.paper.specs.declared.Refusal.TheVariants.{TooManySites, TooManyRules, TooManyItems, TooManyConstrained, TooManyEqual, PlaceUsed}
-use Rattle.paper.specs.Words.{any}
+use Rattle.paper.specs.declared.Refusal.TheVariants.{TooManySites, TooManyItems, TooManyConstrained, TooManyEqual}
 use Rattle.paper.specs.Numbers.{max_sites, max_rules, max_items, max_constrained, max_equal, most_rounds, Outcome, done, refused, ◌>>=◌, demand}
-use Rattle.paper.specs.Loading.{Kept, Set, Written, written, Loading, Solving, load_items, hanging, no_hanging, closure, holders, conflict, check_4, steps, endless, no_endless, rounds, started, normalise, with_rule, used, load, no_items}
+use Rattle.paper.specs.Loading.{Set, Written, written, Loading, Solving, load_items, hanging, no_hanging, closure, holders, conflict, check_4, steps, endless, no_endless, rounds, started, normalise, with_rule, used, load, no_items}
 use Rattle.paper.proofs.Outcomes.{done_once, bind_done, demand_done}
 use Rattle.paper.proofs.Lists.{and_both}
 use Rattle.rule_words.specs.Stored.{run, base, stride, kept_in, kept_first}

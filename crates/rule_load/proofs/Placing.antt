@@ -2,17 +2,16 @@
 use mathlib.Core.Path.{◌≡◌, refl, sym, ap, ◌∙◌}
 use mathlib.Core.Bool.{Bool, true, false}
 use mathlib.Core.List.{List, [], ◌∷◌, ◌++◌}
-use Prim.Native.Nat.{ℕ, zero, suc, ◌+◌, ◌*◌, ◌/◌, ◌%◌, ◌≤◌, ◌<◌}
+use Prim.Native.Nat.{ℕ, suc, ◌+◌, ◌*◌, ◌/◌, ◌%◌, ◌≤◌}
 use native.Mathlib.Omega.{arith}
 use native.Mathlib.Numerals.{add-one}
-use lib.ListN.{length, get_or, set, length-append, length-set}
+use lib.ListN.{length, get_or, set}
 use lib.Seq.{sets-eq}
 use lib.Dec.{eqb}
-use borrow.Author.Tests.{eqb-true, eqb-false, ne_eqb}
-use Rattle.std.specs.Prelude.{if◌then◌else◌}
+use borrow.Author.Tests.{eqb-true, ne_eqb}
 use Rattle.paper.specs.Words.{or_else, below, two}
 use Rattle.paper.specs.Sites.{Site, parent, body, body_by}
-use Rattle.sites.specs.Slots.{slot, no_site, put, store}
+use Rattle.sites.specs.Slots.{slot, put, store}
 use Rattle.sites.proofs.Put.{length_put, put_put}
 use Rattle.rule_children.specs.Tail.{site_of_word}
 use Rattle.rule_rows.proofs.Holders.{length_below}

@@ -4,8 +4,8 @@ use mathlib.Core.Bool.{Bool, true, false}
 use mathlib.Core.Option.{Option, none, some}
 use mathlib.Core.Logic.{◌⊎◌, inl, inr, ⊎_elim}
 use mathlib.Core.List.Memᴰ
-use mathlib.Core.List.{List, [], ◌∷◌, ◌++◌, map, Memᴰ}
-use Prim.Native.Nat.{ℕ, zero, suc, ◌+◌, ◌*◌, ◌≤◌, ◌<◌, compare, Ordering}
+use mathlib.Core.List.{List, [], ◌∷◌, map, Memᴰ}
+use Prim.Native.Nat.{ℕ, zero, suc, ◌+◌, ◌*◌, ◌<◌, compare, Ordering}
 use native.Mathlib.Omega.{arith}
 use native.Mathlib.Nat.{not-suc-le-zero}
 use lib.ListN.{length, get_or, length-map, get_or-map}
@@ -17,12 +17,12 @@ use Rattle.paper.specs.declared.Item.TheVariants.{Is, Equal}
 use Rattle.paper.specs.declared.Refusal.TheVariants.{Unknown, Unreachable, TooManyFields}
 use Rattle.paper.specs.declared.Rule.{Rule}
 use Rattle.paper.specs.Words.{Table, first, joined, look, put}
-use Rattle.paper.specs.Numbers.{max_fields, Outcome, done, refused, ◌>>=◌}
+use Rattle.paper.specs.Numbers.{max_fields, Outcome, done, ◌>>=◌}
 use Rattle.paper.specs.Sites.{same_constraint, fields, children, known, add_all}
 use Rattle.paper.specs.Loading.{written, Loading, Labels, Constraints, Solving, lowest, members, constrain, load_item, load_items, first_constrained, with_low, take_class, give_all, grow_all, round, rounds}
 use Rattle.paper.proofs.Outcomes.{done_once, bind_done, demand_done}
 use Rattle.paper.proofs.Labels.{never}
-use Rattle.rule_words.specs.Packing.{head, second, third, unpack, InRange}
+use Rattle.rule_words.specs.Packing.{unpack, InRange}
 use Rattle.rule_words.specs.Stored.{run, handed}
 use Rattle.rule_words.proofs.PackLaws.{unpack_pack}
 use Rattle.rule_load.specs.Whole.{three}

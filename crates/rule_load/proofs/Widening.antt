@@ -1,31 +1,30 @@
 -- What a rule does to its set's table, whatever the table: it appends new sites, children of sites that are there, and never passes max-sites; its
 -- constraints stay ascending, as many as the items at most; its classes are of sites. (paper's Fair says more, of sound tables.)
 use mathlib.Core.Path.{◌≡◌, refl, sym, ap, ◌∙◌}
-use mathlib.Core.Bool.{Bool, true, false, not}
 use mathlib.Core.Option.{Option, none, some}
 use mathlib.Core.Logic.{◌⊎◌, inl, inr, ⊎_elim}
 use mathlib.Core.List.Memᴰ
 use mathlib.Core.List.{List, [], ◌∷◌, ◌++◌, append_assoc, append-nil, Memᴰ}
 use Prim.Native.Nat.{ℕ, zero, suc, ◌+◌, ◌*◌, ◌≤◌, ◌<◌}
 use native.Mathlib.Omega.{arith}
-use lib.ListN.{length, get_elem?, length-append}
-use lib.Dec.{eqb, leb}
+use lib.ListN.{length, length-append}
+use lib.Dec.{leb}
 use borrow.Author.Tests.{ltb-true, leb-true}
 use Rattle.paper.specs.declared.Constraint.{Constraint}
 use Rattle.paper.specs.declared.Item.{Item}
 use Rattle.paper.specs.declared.Item.TheVariants.{Is, Equal}
 use Rattle.paper.specs.declared.Refusal.TheVariants.{Unknown, Unreachable, TooManyFields}
-use Rattle.paper.specs.Words.{Table, or_else, look, put}
-use Rattle.paper.specs.Numbers.{max_sites, max_sources, max_fields, Outcome, done, refused, ◌>>=◌, demand}
-use Rattle.paper.specs.Sites.{Site, Sites, body, sources, same_constraint, fields, child, child_count, children, known, number_of, child_number, Added, add, add_all}
-use Rattle.paper.specs.Loading.{Loading, Labels, Constraints, Solving, join_all, members, others, dissolve, like_children, constrain, load_item, load_items, grow_all, join_children, round, rounds, take_class, started}
+use Rattle.paper.specs.Words.{Table, or_else, look}
+use Rattle.paper.specs.Numbers.{max_sites, max_fields, Outcome, done, ◌>>=◌}
+use Rattle.paper.specs.Sites.{Site, Sites, sources, same_constraint, fields, child, child_count, children, known, child_number, Added, add, add_all}
+use Rattle.paper.specs.Loading.{Loading, Labels, Solving, join_all, members, others, dissolve, like_children, constrain, load_item, load_items, grow_all, join_children, round, rounds, take_class, started}
 use Rattle.paper.proofs.Laws.{taken, next_is, There, Fresh}
 use Rattle.paper.proofs.Outcomes.{done_once, bind_done, demand_done}
 use Rattle.paper.proofs.Adding.{get_inside, Numbered, here, nowhere, numbered}
 use Rattle.paper.proofs.Closure.{of_below}
-use Rattle.paper.proofs.Tables.{Rising, put_rising, above, in_look, Fine, none_fine, join_all_fine, dissolve_fine}
+use Rattle.paper.proofs.Tables.{Rising, put_rising, in_look, Fine, none_fine, join_all_fine, dissolve_fine}
 use Rattle.site_body.proofs.Tables.{laid}
-use Rattle.sites.specs.Slots.{slot, no_site}
+use Rattle.sites.specs.Slots.{no_site}
 use Rattle.sites.proofs.After.{Storable, AllStorable, Grows}
 use Rattle.rule_items.proofs.Numbering.{length_all}
 use Rattle.rule_items.proofs.Stepping.{few_children}

@@ -1,5 +1,5 @@
 -- Loading a rule into a set in lent memory: what is answered, and what the memory is afterwards.
-use Rattle.std.specs.Prelude.{Bool, ◌&&◌, List, [], ◌∷◌, map, ℕ, suc, ◌+◌, ◌*◌, ◌/◌, min, length, get_or, drop, ltb, leb}
+use Rattle.std.specs.Prelude.{◌&&◌, List, [], ◌∷◌, map, ℕ, suc, ◌+◌, ◌*◌, ◌/◌, min, length, get_or, drop, ltb, leb}
 use Rattle.paper.specs.declared.Constraint.{Constraint}
 use Rattle.paper.specs.declared.Rule.{Rule}
 use Rattle.paper.specs.declared.Refusal.TheVariants.{TooManySites, TooManyRules}

@@ -1,0 +1,21 @@
+-- `rule_load::admit` meets its contract. Assumes nothing.
+use Rattle.rule_load.proofs.Gates.{rules_many, rules_short, sites_many, items_many, place_had, admitted_so}
+use Rattle.rule_load.proofs.admit.Goals as goal
+
+pub returns-then-kept-ge-RULES : goal.returns-then-kept-ge-RULES
+returns-then-kept-ge-RULES c = rules_many _ _ _ _ _ c.if-kept-ge-RULES.true
+
+pub returns-then-words-start : goal.returns-then-words-start
+returns-then-words-start c = rules_short _ _ _ _ _ c.if-kept-ge-RULES.false _ c.start.ensures.value c.if-words-start.true
+
+pub returns-then-size16-gt-SITES : goal.returns-then-size16-gt-SITES
+returns-then-size16-gt-SITES c = sites_many _ _ _ _ _ c.if-kept-ge-RULES.false _ c.start.ensures.value c.if-words-start.false _ c.size16.ensures c.if-size16-gt-SITES.true
+
+pub returns-then-count-gt-ITEMS : goal.returns-then-count-gt-ITEMS
+returns-then-count-gt-ITEMS c = items_many _ _ _ _ _ c.if-kept-ge-RULES.false _ c.start.ensures.value c.if-words-start.false _ c.size16.ensures c.if-size16-gt-SITES.false c.if-count-gt-ITEMS.true
+
+pub returns-then-used : goal.returns-then-used
+returns-then-used c = place_had _ _ _ _ _ c.if-kept-ge-RULES.false _ c.start.ensures.value c.if-words-start.false _ c.size16.ensures c.if-size16-gt-SITES.false _ c.if-count-gt-ITEMS.false c.used.ensures c.if-used.true
+
+pub returns : goal.returns
+returns c = admitted_so _ _ _ _ _ c.if-kept-ge-RULES.false _ c.start.ensures.value c.if-words-start.false _ c.size16.ensures c.if-size16-gt-SITES.false _ c.if-count-gt-ITEMS.false c.used.ensures c.if-used.false

@@ -1,0 +1,32 @@
+-- `rule_load::attempt` meets its contract. Assumes nothing.
+use mathlib.Core.Path.{refl}
+use Prim.Native.Nat.{◌*◌}
+use native.Mathlib.Omega.{arith}
+use Rattle.paper.specs.Numbers.{max_items, max_equal}
+use Rattle.item_words.specs.Items.{rule_in}
+use Rattle.item_words.proofs.Laws.{rule_written}
+use Rattle.rule_load.specs.Parts.{Tries}
+use Rattle.rule_rounds.proofs.Telling.{fine_told}
+use Rattle.rule_load.proofs.Keeping.{refused_told, rounds_refuse, finishable, finished, array_long}
+use Rattle.rule_load.proofs.attempt.Goals as goal
+
+pub solve-s-requires-clause-lent : goal.solve-s-requires-clause-lent
+solve-s-requires-clause-lent c = (c.requires.lent.0, (omega arith, (omega arith, omega arith)))
+
+pub solve-s-requires-clause-sites_in_bounds : goal.solve-s-requires-clause-sites_in_bounds
+solve-s-requires-clause-sites_in_bounds c = c.requires.sites_in_bounds
+
+pub finish-out-requires : goal.finish-out-requires
+finish-out-requires c = finishable c.args.m.now c.args.n c.args.words.now c.args.kept (rule_in c.args.items.now c.args.place c.args.priority c.args.count) _ (rule_written c.args.items.now c.args.place c.args.priority c.args.count) c.requires.lent.1 c.solve-s.new.tail c.solve-s.new.sites c.solve-s.new.rows c.solve-s.new.shapes c.solve-s.new.equal c.solve-s.new.low c.solve-s.result (fine_told c.in-Fine.is c.solve-s.ensures) c.in-Fine.is (let z = array_long c.solve-s.new.shapes (3 * max_items) c.solve-s.auto.shapes in omega arith) (let z = array_long c.solve-s.new.equal max_equal c.solve-s.auto.equal in omega arith) (let z = array_long c.solve-s.new.low max_equal c.solve-s.auto.low in omega arith)
+
+pub returns-in-Short : goal.returns-in-Short
+unfolding Tries
+returns-in-Short c = (c.solve-s.ensures.short c.in-Short.is, (refl, refl))
+
+pub returns-in-Refused : goal.returns-in-Refused
+unfolding Tries
+returns-in-Refused c = rounds_refuse c.args.m.now c.args.n c.args.words.now c.args.kept (rule_in c.args.items.now c.args.place c.args.priority c.args.count) _ (rule_written c.args.items.now c.args.place c.args.priority c.args.count) c.requires.lent.1 c.solve-s.new.tail c.solve-s.new.sites c.solve-s.new.rows c.solve-s.new.shapes c.solve-s.new.equal c.solve-s.new.low c.solve-s.result (refused_told c.in-Refused.is c.solve-s.ensures) _ c.in-Refused.is
+
+pub returns-in-Fine : goal.returns-in-Fine
+unfolding Tries
+returns-in-Fine c = finished c.args.m.now c.args.n c.args.words.now c.args.kept (rule_in c.args.items.now c.args.place c.args.priority c.args.count) _ (rule_written c.args.items.now c.args.place c.args.priority c.args.count) c.requires.lent.1 c.solve-s.new.tail c.solve-s.new.sites c.solve-s.new.rows c.solve-s.new.shapes c.solve-s.new.equal c.solve-s.new.low c.solve-s.result (fine_told c.in-Fine.is c.solve-s.ensures) c.in-Fine.is (let z = array_long c.solve-s.new.equal max_equal c.solve-s.auto.equal in omega arith) (let z = array_long c.solve-s.new.low max_equal c.solve-s.auto.low in omega arith) _ _ _ c.finish-out.ensures
