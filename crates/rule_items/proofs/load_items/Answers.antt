@@ -1,0 +1,179 @@
+-- `rule_items::load_items` meets its contract. Assumes nothing.
+use Rattle.rule_items.proofs.Telling.{few_items, told_sites, told_short, told_many, told_stop, told_hanging, told_fine, rowed_refused, rowed_walk}
+use Rattle.rule_items.proofs.Walking.{long_self}
+use Rattle.item_words.specs.Items.{items_in as held_items}
+use Rattle.paper.specs.Numbers.{max_items}
+use Prim.Native.Nat.{min}
+use borrow.Author.Tests.{not-true, not-false}
+use native.Mathlib.Omega.{arith}
+use mathlib.Core.Path.{refl, sym, ◌∙◌}
+use borrow.Author.Rules.{rules}
+use Rattle.rule_items.proofs.load_items.Goals as goal
+
+pub returns-then-size16-gt-SITES-clause-told : goal.returns-then-size16-gt-SITES-clause-told
+returns-then-size16-gt-SITES-clause-told c = told_sites _ _ _ _ _ _ _ _ _ _ _ _ (let e = c.size16.ensures in let x = c.if-size16-gt-SITES.true in omega arith) c.refuse.ensures
+
+pub returns-then-size16-gt-SITES-clause-long : goal.returns-then-size16-gt-SITES-clause-long
+returns-then-size16-gt-SITES-clause-long c = long_self _ _ _ _ _ _
+
+pub returns-then-size16-gt-SITES-clause-inside : goal.returns-then-size16-gt-SITES-clause-inside
+returns-then-size16-gt-SITES-clause-inside c = λ I. I
+
+pub returns-then-size16-gt-SITES-clause-rowed : goal.returns-then-size16-gt-SITES-clause-rowed
+returns-then-size16-gt-SITES-clause-rowed c = rowed_refused _ _ _ _ c.refuse.ensures
+
+pub shape_of-tail-then-not-has_room : goal.shape_of-tail-then-not-has_room
+shape_of-tail-then-not-has_room c = refl
+
+pub shape_of-sites-then-not-has_room : goal.shape_of-sites-then-not-has_room
+shape_of-sites-then-not-has_room c = refl
+
+pub shape_of-rows-then-not-has_room : goal.shape_of-rows-then-not-has_room
+shape_of-rows-then-not-has_room c = refl
+
+pub shape_of-words-then-not-has_room : goal.shape_of-words-then-not-has_room
+shape_of-words-then-not-has_room c = refl
+
+pub shape_of-kids-then-not-has_room : goal.shape_of-kids-then-not-has_room
+shape_of-kids-then-not-has_room c = refl
+
+pub shape_of-eqs-then-not-has_room : goal.shape_of-eqs-then-not-has_room
+shape_of-eqs-then-not-has_room c = refl
+
+pub returns-then-not-has_room-clause-told : goal.returns-then-not-has_room-clause-told
+returns-then-not-has_room-clause-told c = told_short _ _ _ _ _ _ _ _ _ _ _ _ (let e = c.size16.ensures in let x = c.if-size16-gt-SITES.false in omega arith) (sym c.has_room.ensures ∙ c.if-not-has_room.true) c.refuse-then-not-has_room.ensures
+
+pub returns-then-not-has_room-clause-long : goal.returns-then-not-has_room-clause-long
+returns-then-not-has_room-clause-long c = long_self _ _ _ _ _ _
+
+pub returns-then-not-has_room-clause-inside : goal.returns-then-not-has_room-clause-inside
+returns-then-not-has_room-clause-inside c = λ I. I
+
+pub returns-then-not-has_room-clause-rowed : goal.returns-then-not-has_room-clause-rowed
+returns-then-not-has_room-clause-rowed c = rowed_refused _ _ _ _ c.refuse-then-not-has_room.ensures
+
+pub shape_of-tail-then-count-gt-ITEMS : goal.shape_of-tail-then-count-gt-ITEMS
+shape_of-tail-then-count-gt-ITEMS c = refl
+
+pub shape_of-sites-then-count-gt-ITEMS : goal.shape_of-sites-then-count-gt-ITEMS
+shape_of-sites-then-count-gt-ITEMS c = refl
+
+pub shape_of-rows-then-count-gt-ITEMS : goal.shape_of-rows-then-count-gt-ITEMS
+shape_of-rows-then-count-gt-ITEMS c = refl
+
+pub shape_of-words-then-count-gt-ITEMS : goal.shape_of-words-then-count-gt-ITEMS
+shape_of-words-then-count-gt-ITEMS c = refl
+
+pub shape_of-kids-then-count-gt-ITEMS : goal.shape_of-kids-then-count-gt-ITEMS
+shape_of-kids-then-count-gt-ITEMS c = refl
+
+pub shape_of-eqs-then-count-gt-ITEMS : goal.shape_of-eqs-then-count-gt-ITEMS
+shape_of-eqs-then-count-gt-ITEMS c = refl
+
+pub returns-then-count-gt-ITEMS-clause-told : goal.returns-then-count-gt-ITEMS-clause-told
+returns-then-count-gt-ITEMS-clause-told c = told_many _ _ _ _ _ _ _ _ _ _ _ _ (let e = c.size16.ensures in let x = c.if-size16-gt-SITES.false in omega arith) (sym c.has_room.ensures ∙ c.if-not-has_room.false) c.if-count-gt-ITEMS.true c.refuse-then-count-gt-ITEMS.ensures
+
+pub returns-then-count-gt-ITEMS-clause-long : goal.returns-then-count-gt-ITEMS-clause-long
+returns-then-count-gt-ITEMS-clause-long c = long_self _ _ _ _ _ _
+
+pub returns-then-count-gt-ITEMS-clause-inside : goal.returns-then-count-gt-ITEMS-clause-inside
+returns-then-count-gt-ITEMS-clause-inside c = λ I. I
+
+pub returns-then-count-gt-ITEMS-clause-rowed : goal.returns-then-count-gt-ITEMS-clause-rowed
+returns-then-count-gt-ITEMS-clause-rowed c = rowed_refused _ _ _ _ c.refuse-then-count-gt-ITEMS.ensures
+
+pub walk-p-requires-clause-n_le_max_sites : goal.walk-p-requires-clause-n_le_max_sites
+walk-p-requires-clause-n_le_max_sites c = ((let e = c.size16.ensures in let x = c.if-size16-gt-SITES.false in omega arith), (let x = c.if-count-gt-ITEMS.false in omega arith))
+
+pub walk-p-requires-clause-eqs_value : goal.walk-p-requires-clause-eqs_value
+walk-p-requires-clause-eqs_value c = (sym c.has_room.ensures ∙ c.if-not-has_room.false)
+
+pub shape_of-tail-in_default : goal.shape_of-tail-in_default
+shape_of-tail-in_default c = c.tail-1.given
+
+pub shape_of-sites-in_default : goal.shape_of-sites-in_default
+shape_of-sites-in_default c = c.sites-1.given
+
+pub shape_of-rows-in_default : goal.shape_of-rows-in_default
+shape_of-rows-in_default c = c.rows-1.given
+
+pub shape_of-words-in_default : goal.shape_of-words-in_default
+shape_of-words-in_default c = c.words-1.given
+
+pub shape_of-kids-in_default : goal.shape_of-kids-in_default
+shape_of-kids-in_default c = c.kids-1.given
+
+pub shape_of-eqs-in_default : goal.shape_of-eqs-in_default
+shape_of-eqs-in_default c = c.eqs-1.given
+
+pub returns-in_default-clause-told : goal.returns-in_default-clause-told
+returns-in_default-clause-told c = told_stop _ _ _ _ _ _ _ _ _ _ _ _ (let e = c.size16.ensures in let x = c.if-size16-gt-SITES.false in omega arith) (sym c.has_room.ensures ∙ c.if-not-has_room.false) (let x = c.if-count-gt-ITEMS.false in omega arith) _ c.in_default.is c.walk-p.ensures.walk
+
+pub returns-in_default-clause-long : goal.returns-in_default-clause-long
+returns-in_default-clause-long c = record { tail_long = c.tail-1.given; sites_long = c.sites-1.given; rows_long = c.rows-1.given; words_long = c.words-1.given; kids_long = c.kids-1.given; eqs_long = c.eqs-1.given }
+
+pub returns-in_default-clause-inside : goal.returns-in_default-clause-inside
+returns-in_default-clause-inside c = c.walk-p.ensures.inside
+
+pub returns-in_default-clause-rowed : goal.returns-in_default-clause-rowed
+returns-in_default-clause-rowed c = rowed_walk c.args.m.now c.args.n (held_items c.args.items.now (min c.args.count max_items)) _ _ _ _ _ _ _ _ c.walk-p.ensures.walk
+
+pub shape_of-tail-in_default-found : goal.shape_of-tail-in_default-found
+shape_of-tail-in_default-found c = c.tail-1.given
+
+pub shape_of-sites-in_default-found : goal.shape_of-sites-in_default-found
+shape_of-sites-in_default-found c = c.sites-1.given
+
+pub shape_of-rows-in_default-found : goal.shape_of-rows-in_default-found
+shape_of-rows-in_default-found c = c.rows-1.given
+
+pub shape_of-words-in_default-found : goal.shape_of-words-in_default-found
+shape_of-words-in_default-found c = c.words-1.given
+
+pub shape_of-kids-in_default-found : goal.shape_of-kids-in_default-found
+shape_of-kids-in_default-found c = c.kids-1.given
+
+pub shape_of-eqs-in_default-found : goal.shape_of-eqs-in_default-found
+shape_of-eqs-in_default-found c = c.eqs-1.given
+
+pub returns-in_default-found-clause-told : goal.returns-in_default-found-clause-told
+returns-in_default-found-clause-told c = told_fine _ _ _ _ _ _ _ _ _ _ _ _ (let e = c.size16.ensures in let x = c.if-size16-gt-SITES.false in omega arith) (sym c.has_room.ensures ∙ c.if-not-has_room.false) (let x = c.if-count-gt-ITEMS.false in omega arith) _ c.walk-p.ensures.walk c.in-Fine.is _ (few_items _ _ _ _ _ _ _ c.args.items.now c.args.count _ (let x = c.if-count-gt-ITEMS.false in omega arith) c.hanging-found.ensures) c.in_default-found.is refl
+
+pub returns-in_default-found-clause-long : goal.returns-in_default-found-clause-long
+returns-in_default-found-clause-long c = record { tail_long = c.tail-1.given; sites_long = c.sites-1.given; rows_long = c.rows-1.given; words_long = c.words-1.given; kids_long = c.kids-1.given; eqs_long = c.eqs-1.given }
+
+pub returns-in_default-found-clause-inside : goal.returns-in_default-found-clause-inside
+returns-in_default-found-clause-inside c = c.walk-p.ensures.inside
+
+pub returns-in_default-found-clause-rowed : goal.returns-in_default-found-clause-rowed
+returns-in_default-found-clause-rowed c = rowed_walk c.args.m.now c.args.n (held_items c.args.items.now (min c.args.count max_items)) _ _ _ _ _ _ _ _ c.walk-p.ensures.walk
+
+pub shape_of-tail : goal.shape_of-tail
+shape_of-tail c = c.tail-1.given
+
+pub shape_of-sites : goal.shape_of-sites
+shape_of-sites c = c.sites-1.given
+
+pub shape_of-rows : goal.shape_of-rows
+shape_of-rows c = c.rows-1.given
+
+pub shape_of-words : goal.shape_of-words
+shape_of-words c = c.words-1.given
+
+pub shape_of-kids : goal.shape_of-kids
+shape_of-kids c = c.kids-1.given
+
+pub shape_of-eqs : goal.shape_of-eqs
+shape_of-eqs c = c.eqs-1.given
+
+pub returns-clause-told : goal.returns-clause-told
+returns-clause-told c = told_hanging _ _ _ _ _ _ _ _ _ _ _ _ (let e = c.size16.ensures in let x = c.if-size16-gt-SITES.false in omega arith) (sym c.has_room.ensures ∙ c.if-not-has_room.false) (let x = c.if-count-gt-ITEMS.false in omega arith) _ c.walk-p.ensures.walk c.in-Fine.is _ (few_items _ _ _ _ _ _ _ c.args.items.now c.args.count _ (let x = c.if-count-gt-ITEMS.false in omega arith) c.hanging-found.ensures) _ c.in-At.is c.refuse-2.ensures
+
+pub returns-clause-long : goal.returns-clause-long
+returns-clause-long c = record { tail_long = c.tail-1.given; sites_long = c.sites-1.given; rows_long = c.rows-1.given; words_long = c.words-1.given; kids_long = c.kids-1.given; eqs_long = c.eqs-1.given }
+
+pub returns-clause-inside : goal.returns-clause-inside
+returns-clause-inside c = c.walk-p.ensures.inside
+
+pub returns-clause-rowed : goal.returns-clause-rowed
+returns-clause-rowed c = rowed_refused _ _ _ _ c.refuse-2.ensures
