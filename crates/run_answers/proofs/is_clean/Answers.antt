@@ -1,0 +1,6 @@
+use Rattle.run_answers.proofs.Laws.{clean_last}
+use borrow.Author.Rules.{rules}
+use Rattle.run_answers.proofs.is_clean.Goals as goal
+
+pub returns : goal.returns
+returns c = clean_last _ _ c.if-before.false

@@ -1,0 +1,18 @@
+use Rattle.run_answers.proofs.Laws.{pairs_start, pairs_turn, pairs_done}
+use mathlib.Core.Path.{◌≡◌}
+use Prim.Native.Nat.{◌-◌}
+use lib.ListN.{length}
+use Rattle.tell_text.specs.Written.{wrote}
+use Rattle.rule_words.specs.Stored.{kept_in, kept_first, run}
+use Rattle.run_answers.specs.Told.{pair_lines}
+use borrow.Author.Rules.{rules}
+use Rattle.run_answers.proofs.put_pairs.Goals as goal
+
+pub loop-i-init : goal.loop-i-init
+loop-i-init c = (search rules, pairs_start _ _ _)
+
+pub loop-i-preserved : goal.loop-i-preserved
+loop-i-preserved c = (search rules, pairs_turn _ _ _ _ _ _ c.loop-i-test.true c.loop-i.invariant.1 c.put_pairs_of-next.ensures)
+
+pub returns : goal.returns
+returns c = pairs_done _ _ _ _ _ c.loop-i-test.false c.loop-i.invariant.1
