@@ -36,6 +36,7 @@ use Rattle.meaning_shipped.specs.Words.{Overlaps, Pair}
 
 -- ---- lists
 pub map_from : {A B : Type 0} (f : A → B) (xs : List A) (y : B) → Memᴰ y (map f xs) → (x : A) × Memᴰ x xs × (y ≡ f x)
+map_from {A = A} {B = B} f [] y x' = elim x' [ ]
 map_from f (x ∷ xs) y (Memᴰ.head e) = (x, Memᴰ.head refl, e)
 map_from f (x ∷ xs) y (Memᴰ.tail m) = let r = map_from f xs y m in (r.0, Memᴰ.tail r.1, r.2)
 
@@ -54,6 +55,7 @@ get_or_in (x ∷ xs) zero d h = Memᴰ.head refl
 get_or_in (x ∷ xs) (suc i) d h = Memᴰ.tail (get_or_in xs i d (omega arith))
 
 in_get_or : {A : Type 0} (xs : List A) (d x : A) → Memᴰ x xs → (i : ℕ) × (i < length xs) × (get_or xs i d ≡ x)
+in_get_or {A = A} [] d x x3 = elim x3 [ ]
 in_get_or (y ∷ xs) d x (Memᴰ.head e) = (0, omega arith, sym e)
 in_get_or (y ∷ xs) d x (Memᴰ.tail m) = let r = in_get_or xs d x m in let l = r.1 in (suc r.0, omega arith, r.2)
 
@@ -96,6 +98,7 @@ sort_from K (x ∷ xs) z m = go (placed_from K x (sort_by K xs) z m) (λ q. sort
 
 sort_to : {A : Type 0} (K : A → ℕ) (xs : List A) (z : A) → Memᴰ z xs → Memᴰ z (sort_by K xs)
 unfolding sort_by
+sort_to {A = A} K [] z x' = elim x' [ ]
 sort_to K (x ∷ xs) z (Memᴰ.head e) = placed_to K x (sort_by K xs) z (Memᴰ.head e)
 sort_to K (x ∷ xs) z (Memᴰ.tail m) = placed_to K x (sort_by K xs) z (Memᴰ.tail (sort_to K xs z m))
 
