@@ -1,0 +1,14 @@
+-- `box_answers::calls::same_said` meets its contract. Assumes nothing.
+use mathlib.Core.Path.{sym, ap, refl, ◌∙◌}
+use borrow.Author.Rules.{rules}
+use Rattle.box_answers.specs.Border.{same_said}
+use Rattle.box_answers.proofs.Crossing.{done_as}
+use Rattle.box_answers.proofs.calls.same_said.Goals as goal
+
+pub returns-in-Is : goal.returns-in-Is
+unfolding same_said
+returns-in-Is c = done_as _ _ _ _ _ c.done.ensures c.bit.ensures refl ∙ sym (ap same_said c.in-Is.is)
+
+pub returns-in-Refused : goal.returns-in-Refused
+unfolding same_said
+returns-in-Refused c = c.refused.ensures ∙ sym (ap same_said c.in-Refused.is)
