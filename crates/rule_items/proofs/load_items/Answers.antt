@@ -88,29 +88,11 @@ walk-p-requires-clause-n_le_max_sites c = ((let e = c.size16.ensures in let x = 
 pub walk-p-requires-clause-eqs_value : goal.walk-p-requires-clause-eqs_value
 walk-p-requires-clause-eqs_value c = (sym c.has_room.ensures ∙ c.if-not-has_room.false)
 
-pub shape_of-tail-in_default : goal.shape_of-tail-in_default
-shape_of-tail-in_default c = c.tail-1.given
-
-pub shape_of-sites-in_default : goal.shape_of-sites-in_default
-shape_of-sites-in_default c = c.sites-1.given
-
-pub shape_of-rows-in_default : goal.shape_of-rows-in_default
-shape_of-rows-in_default c = c.rows-1.given
-
-pub shape_of-words-in_default : goal.shape_of-words-in_default
-shape_of-words-in_default c = c.words-1.given
-
-pub shape_of-kids-in_default : goal.shape_of-kids-in_default
-shape_of-kids-in_default c = c.kids-1.given
-
-pub shape_of-eqs-in_default : goal.shape_of-eqs-in_default
-shape_of-eqs-in_default c = c.eqs-1.given
-
 pub returns-in_default-clause-told : goal.returns-in_default-clause-told
 returns-in_default-clause-told c = told_stop _ _ _ _ _ _ _ _ _ _ _ _ (let e = c.size16.ensures in let x = c.if-size16-gt-SITES.false in omega arith) (sym c.has_room.ensures ∙ c.if-not-has_room.false) (let x = c.if-count-gt-ITEMS.false in omega arith) _ c.in_default.is c.walk-p.ensures.walk
 
 pub returns-in_default-clause-long : goal.returns-in_default-clause-long
-returns-in_default-clause-long c = record { tail_long = c.tail-1.given; sites_long = c.sites-1.given; rows_long = c.rows-1.given; words_long = c.words-1.given; kids_long = c.kids-1.given; eqs_long = c.eqs-1.given }
+returns-in_default-clause-long c = record { tail_long = c.walk-p.auto.tail; sites_long = c.walk-p.auto.sites; rows_long = c.walk-p.auto.rows; words_long = c.walk-p.auto.words; kids_long = c.walk-p.auto.kids; eqs_long = c.walk-p.auto.eqs }
 
 pub returns-in_default-clause-inside : goal.returns-in_default-clause-inside
 returns-in_default-clause-inside c = c.walk-p.ensures.inside
@@ -118,29 +100,11 @@ returns-in_default-clause-inside c = c.walk-p.ensures.inside
 pub returns-in_default-clause-rowed : goal.returns-in_default-clause-rowed
 returns-in_default-clause-rowed c = rowed_walk c.args.m.now c.args.n (held_items c.args.items.now (min c.args.count max_items)) _ _ _ _ _ _ _ _ c.walk-p.ensures.walk
 
-pub shape_of-tail-in_default-found : goal.shape_of-tail-in_default-found
-shape_of-tail-in_default-found c = c.tail-1.given
-
-pub shape_of-sites-in_default-found : goal.shape_of-sites-in_default-found
-shape_of-sites-in_default-found c = c.sites-1.given
-
-pub shape_of-rows-in_default-found : goal.shape_of-rows-in_default-found
-shape_of-rows-in_default-found c = c.rows-1.given
-
-pub shape_of-words-in_default-found : goal.shape_of-words-in_default-found
-shape_of-words-in_default-found c = c.words-1.given
-
-pub shape_of-kids-in_default-found : goal.shape_of-kids-in_default-found
-shape_of-kids-in_default-found c = c.kids-1.given
-
-pub shape_of-eqs-in_default-found : goal.shape_of-eqs-in_default-found
-shape_of-eqs-in_default-found c = c.eqs-1.given
-
 pub returns-in_default-found-clause-told : goal.returns-in_default-found-clause-told
 returns-in_default-found-clause-told c = told_fine _ _ _ _ _ _ _ _ _ _ _ _ (let e = c.size16.ensures in let x = c.if-size16-gt-SITES.false in omega arith) (sym c.has_room.ensures ∙ c.if-not-has_room.false) (let x = c.if-count-gt-ITEMS.false in omega arith) _ c.walk-p.ensures.walk c.in-Fine.is _ (few_items _ _ _ _ _ _ _ c.args.items.now c.args.count _ (let x = c.if-count-gt-ITEMS.false in omega arith) c.hanging-found.ensures) c.in_default-found.is refl
 
 pub returns-in_default-found-clause-long : goal.returns-in_default-found-clause-long
-returns-in_default-found-clause-long c = record { tail_long = c.tail-1.given; sites_long = c.sites-1.given; rows_long = c.rows-1.given; words_long = c.words-1.given; kids_long = c.kids-1.given; eqs_long = c.eqs-1.given }
+returns-in_default-found-clause-long c = record { tail_long = c.walk-p.auto.tail; sites_long = c.walk-p.auto.sites; rows_long = c.walk-p.auto.rows; words_long = c.walk-p.auto.words; kids_long = c.walk-p.auto.kids; eqs_long = c.walk-p.auto.eqs }
 
 pub returns-in_default-found-clause-inside : goal.returns-in_default-found-clause-inside
 returns-in_default-found-clause-inside c = c.walk-p.ensures.inside
@@ -148,29 +112,11 @@ returns-in_default-found-clause-inside c = c.walk-p.ensures.inside
 pub returns-in_default-found-clause-rowed : goal.returns-in_default-found-clause-rowed
 returns-in_default-found-clause-rowed c = rowed_walk c.args.m.now c.args.n (held_items c.args.items.now (min c.args.count max_items)) _ _ _ _ _ _ _ _ c.walk-p.ensures.walk
 
-pub shape_of-tail : goal.shape_of-tail
-shape_of-tail c = c.tail-1.given
-
-pub shape_of-sites : goal.shape_of-sites
-shape_of-sites c = c.sites-1.given
-
-pub shape_of-rows : goal.shape_of-rows
-shape_of-rows c = c.rows-1.given
-
-pub shape_of-words : goal.shape_of-words
-shape_of-words c = c.words-1.given
-
-pub shape_of-kids : goal.shape_of-kids
-shape_of-kids c = c.kids-1.given
-
-pub shape_of-eqs : goal.shape_of-eqs
-shape_of-eqs c = c.eqs-1.given
-
 pub returns-clause-told : goal.returns-clause-told
 returns-clause-told c = told_hanging _ _ _ _ _ _ _ _ _ _ _ _ (let e = c.size16.ensures in let x = c.if-size16-gt-SITES.false in omega arith) (sym c.has_room.ensures ∙ c.if-not-has_room.false) (let x = c.if-count-gt-ITEMS.false in omega arith) _ c.walk-p.ensures.walk c.in-Fine.is _ (few_items _ _ _ _ _ _ _ c.args.items.now c.args.count _ (let x = c.if-count-gt-ITEMS.false in omega arith) c.hanging-found.ensures) _ c.in-At.is c.refuse-2.ensures
 
 pub returns-clause-long : goal.returns-clause-long
-returns-clause-long c = record { tail_long = c.tail-1.given; sites_long = c.sites-1.given; rows_long = c.rows-1.given; words_long = c.words-1.given; kids_long = c.kids-1.given; eqs_long = c.eqs-1.given }
+returns-clause-long c = record { tail_long = c.walk-p.auto.tail; sites_long = c.walk-p.auto.sites; rows_long = c.walk-p.auto.rows; words_long = c.walk-p.auto.words; kids_long = c.walk-p.auto.kids; eqs_long = c.walk-p.auto.eqs }
 
 pub returns-clause-inside : goal.returns-clause-inside
 returns-clause-inside c = c.walk-p.ensures.inside

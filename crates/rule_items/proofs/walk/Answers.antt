@@ -12,24 +12,6 @@ loop-i-init c = record { within = omega arith; walking = walking_none _ _ _ _ _ 
 pub take_item-p-requires : goal.take_item-p-requires
 take_item-p-requires c = let whole = room_of _ _ _ _ _ _ _ _ _ _ _ _ _ c.loop-i.invariant.walking (long_still _ _ _ _ _ _ _ _ _ _ _ _ (long_of _ _ _ _ _ _ c.requires.eqs_value) c.loop-i.invariant.long) (let p = c.requires.n_le_max_sites.1 in let b = c.loop-i-test.true in omega arith) in record { room = whole.0; space = whole.1 }
 
-pub shape_of-tail-in_default : goal.shape_of-tail-in_default
-shape_of-tail-in_default c = c.tail-1.given ∙ c.loop-i.invariant.long.tail_long
-
-pub shape_of-sites-in_default : goal.shape_of-sites-in_default
-shape_of-sites-in_default c = c.sites-1.given ∙ c.loop-i.invariant.long.sites_long
-
-pub shape_of-rows-in_default : goal.shape_of-rows-in_default
-shape_of-rows-in_default c = c.rows-1.given ∙ c.loop-i.invariant.long.rows_long
-
-pub shape_of-words-in_default : goal.shape_of-words-in_default
-shape_of-words-in_default c = c.words-1.given ∙ c.loop-i.invariant.long.words_long
-
-pub shape_of-kids-in_default : goal.shape_of-kids-in_default
-shape_of-kids-in_default c = c.kids-1.given ∙ c.loop-i.invariant.long.kids_long
-
-pub shape_of-eqs-in_default : goal.shape_of-eqs-in_default
-shape_of-eqs-in_default c = c.eqs-1.given ∙ c.loop-i.invariant.long.eqs_long
-
 pub returns-in_default-clause-walk : goal.returns-in_default-clause-walk
 returns-in_default-clause-walk c = walking_stop _ _ _ _ _ _ _ _ _ _ _ _ _ c.loop-i.invariant.walking _ (let z = items_long c.args.items.now c.args.count c.requires.n_le_max_sites.1 in let b = c.loop-i-test.true in omega arith) (item_is c.args.items.now c.args.count _ _ c.requires.n_le_max_sites.1 c.loop-i-test.true c.item_at-it.ensures) _ _ _ _ _ _ _ c.take_item-p.ensures.turn _ _ c.in_default.is
 
@@ -43,7 +25,7 @@ pub loop-i-smaller : goal.loop-i-smaller
 loop-i-smaller c = let b = c.loop-i-test.true in omega arith
 
 pub loop-i-preserved : goal.loop-i-preserved
-loop-i-preserved c = record { within = let b = c.loop-i-test.true in omega arith; walking = walking_step _ _ _ _ _ _ _ _ _ _ _ _ _ c.loop-i.invariant.walking _ (let z = items_long c.args.items.now c.args.count c.requires.n_le_max_sites.1 in let b = c.loop-i-test.true in omega arith) (item_is c.args.items.now c.args.count _ _ c.requires.n_le_max_sites.1 c.loop-i-test.true c.item_at-it.ensures) _ _ _ _ _ _ _ c.take_item-p.ensures.turn c.in-Fine.is; long = record { tail_long = c.tail-1.given ∙ c.loop-i.invariant.long.tail_long; sites_long = c.sites-1.given ∙ c.loop-i.invariant.long.sites_long; rows_long = c.rows-1.given ∙ c.loop-i.invariant.long.rows_long; words_long = c.words-1.given ∙ c.loop-i.invariant.long.words_long; kids_long = c.kids-1.given ∙ c.loop-i.invariant.long.kids_long; eqs_long = c.eqs-1.given ∙ c.loop-i.invariant.long.eqs_long }; inside = λ I. c.take_item-p.ensures.inside (c.loop-i.invariant.inside I) }
+loop-i-preserved c = record { within = let b = c.loop-i-test.true in omega arith; walking = walking_step _ _ _ _ _ _ _ _ _ _ _ _ _ c.loop-i.invariant.walking _ (let z = items_long c.args.items.now c.args.count c.requires.n_le_max_sites.1 in let b = c.loop-i-test.true in omega arith) (item_is c.args.items.now c.args.count _ _ c.requires.n_le_max_sites.1 c.loop-i-test.true c.item_at-it.ensures) _ _ _ _ _ _ _ c.take_item-p.ensures.turn c.in-Fine.is; long = record { tail_long = c.take_item-p.auto.tail ∙ c.loop-i.invariant.long.tail_long; sites_long = c.take_item-p.auto.sites ∙ c.loop-i.invariant.long.sites_long; rows_long = c.take_item-p.auto.rows ∙ c.loop-i.invariant.long.rows_long; words_long = c.take_item-p.auto.words ∙ c.loop-i.invariant.long.words_long; kids_long = c.take_item-p.auto.kids ∙ c.loop-i.invariant.long.kids_long; eqs_long = c.take_item-p.auto.eqs ∙ c.loop-i.invariant.long.eqs_long }; inside = λ I. c.take_item-p.ensures.inside (c.loop-i.invariant.inside I) }
 
 pub shape_of-tail : goal.shape_of-tail
 shape_of-tail c = c.loop-i.invariant.long.tail_long
