@@ -3,6 +3,7 @@ use mathlib.Core.Path.{◌≡◌, refl, sym, ap, subst, ◌∙◌}
 use mathlib.Core.Bool.{Bool, true, false, ◌&&◌, ◌||◌, not}
 use mathlib.Core.List.{List, [], ◌∷◌}
 use Prim.Native.Nat.{ℕ, ◌+◌, ◌-◌, ◌≤◌, ◌<◌}
+use Rattle.std.specs.Prelude.{Result, Ok, Err, OnOk, OnErr}
 use native.Mathlib.Omega.{arith}
 use lib.ListN.{length, get_or}
 use lib.Dec.{eqb, ltb}
@@ -27,6 +28,15 @@ use Rattle.run_answers.proofs.Laws.{first_same, first_other, one_same, other_len
 use Rattle.run_lines.specs.declared.Marks.{Marks}
 use Rattle.run_lines.specs.declared.Flow.{Flow}
 use Rattle.run_lines.specs.Taken.{is_border, goes_on, need, spared, free_in, Took, state_of, ToldLast, Closed, fresh_flow, Bordered, flow_of, Passed, Taken}
+
+-- a fact stands beside a result, whichever it is
+pub at_ok : {T E P : Type 0} (r : Result T E) → P → OnOk r P
+at_ok (Ok x) p = p
+at_ok (Err e) p = tt
+
+pub at_error : {T E P : Type 0} (r : Result T E) → P → OnErr r P
+at_error (Ok x) p = tt
+at_error (Err e) p = p
 
 no_way : {A : Type 0} {b : Bool} → b ≡ true → b ≡ false → A
 no_way e f = let z : ◌≡◌ {A = ℕ} 0 1 = cc in absurd (omega arith)

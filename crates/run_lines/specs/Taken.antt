@@ -114,3 +114,9 @@ pub record Taken (how : How) (many : Bool) (r : Reader) (k : Marks) (l : List �
   pub border : (many && is_border l) ≡ true → Bordered how r k before.table after.table room room' out out' f × OnlyTable before after
   pub line : (many && is_border l) ≡ false → k.goes ≡ true → Took how r k l before after room room' out out' f
   pub passed : (many && is_border l) ≡ false → k.goes ≡ false → Passed r k before after room room' out out' f
+
+-- what a line leaves whose answer had no room, where the buffer could not be written out: all as it was
+pub record Unchanged (before after : Lent) (room room' out out' : List ℕ) : Type 0 where
+  pub memory : after ≡ before
+  pub room_same : room' ≡ room
+  pub out_same : out' ≡ out

@@ -2,10 +2,10 @@
 // the next. Where the buffer may be too short for an answer it is written out first. proofs/InOrder.antt has what the contracts come to.
 #![tactic(auto)]
 
-ghost use Rattle.std.specs.Prelude.{◌≡◌, Bool, ◌&&◌, ◌||◌, ◌+◌, length, ltb};
+ghost use Rattle.std.specs.Prelude.{◌≡◌, Bool, ◌&&◌, ◌||◌, ◌+◌, length, ltb, IfOk, OnErr};
 ghost use Rattle.term_table.specs.Table.{no_edges};
 ghost use Rattle.sheet_reader.specs.State.{lent};
-ghost use Rattle.run_lines.specs.Taken.{is_border, goes_on, need, spared, Took, Closed, fresh_flow, Bordered, Taken};
+ghost use Rattle.run_lines.specs.Taken.{is_border, goes_on, need, spared, Took, Closed, fresh_flow, Bordered, Taken, Unchanged};
 
 use paper::TERMS;
 use run_answers::{How, put_end, put_step};
@@ -13,6 +13,7 @@ use sheet_ended::to_or;
 use sheet_lines::{Held, nothing, part};
 use sheet_read::State;
 use sheet_reader::{Event, Reader};
+use std::io;
 use tell_text::put_text;
 use term_table::WORDS;
 
@@ -47,28 +48,28 @@ fn has_room(len: usize, n: usize) -> bool
     NEED < len - n
 }
 
-fn flush(out: &[u8], n: usize) {
-    io::write_all(libc::STDOUT_FILENO, part(out, 0, n));
+fn flush<W: io::Write>(output: &mut W, out: &[u8], n: usize) -> io::Result<()> {
+    output.write_all(part(out, 0, n))
 }
 
 // Writes the buffer out where less than NEED is left: how much of it is filled then.
-fn spare(out: &[u8], n: usize) -> usize
-    ensures { result ≡ spared (length out.now) n }
+fn spare<W: io::Write>(output: &mut W, out: &[u8], n: usize) -> io::Result<usize>
+    ensures { IfOk result (λ at. at ≡ spared (length out.now) n) }
 {
     if has_room(out.len(), n) {
-        return n;
+        return Ok(n);
     }
-    flush(out, n);
-    0
+    flush(output, out, n)?;
+    Ok(0)
 }
 
 // ---- a line of the open sheet
 
 // Whether the sheet goes on after a line.
-fn goes_on(e: Event) -> bool
-    ensures { result ≡ goes_on e }
+fn goes_on(e: &Event) -> bool
+    ensures { result ≡ goes_on e.now }
 {
-    match e {
+    match *e {
         Event::Begun => true,
         Event::Site => true,
         Event::Item => true,
@@ -98,7 +99,8 @@ fn has_found(before: bool, to: usize) -> bool
 }
 
 // A line of the open sheet.
-fn take_line(
+fn take_line<W: io::Write>(
+    output: &mut W,
     how: How,
     reader: Reader,
     marks: Marks,
@@ -109,34 +111,41 @@ fn take_line(
     table: &mut [[u64; WORDS]; TERMS],
     room: &mut [u8],
     out: &mut [u8],
-) -> Flow
-    ensures { let before = lent m.old words.old items.old table.old in
+) -> io::Result<Flow>
+    ensures took { let before = lent m.old words.old items.old table.old in
         let after = lent m.new words.new items.new table.new in
-        Took how reader marks text.now before after room.old room.new out.old out.new result }
+        let took = Took how reader marks text.now before after room.old room.new out.old out.new in
+        IfOk result (λ flow. took flow) }
+    ensures failed { let before = lent m.old words.old items.old table.old in
+        let after = lent m.new words.new items.new table.new in
+        OnErr result (Unchanged before after room.old room.new out.old out.new) }
 {
-    let at = spare(out, marks.filled);
+    let at = spare(output, out, marks.filled)?;
+    let stood = reader.stands;
     let s = sheet_step::step(reader, text, m, words, items, table, room, 0);
     let to = s.to;
     let e = s.event;
     let r = s.reader;
-    let stood = reader.stands;
     let stands = r.stands;
     let found = part(room, 0, to);
+    let goes = goes_on(&e);
     let filled = put_step(how, e, stood, stands, m, words, found, out, at);
-    Flow {
+    let found = has_found(marks.found, to);
+    Ok(Flow {
         reader: r,
         marks: Marks {
             filled,
-            goes: goes_on(e),
-            found: has_found(marks.found, to),
+            goes,
+            found,
         },
-    }
+    })
 }
 
 // ---- the end of a sheet, and the next
 
-// The sheet ends, with what is held of a line. One that stopped has been answered.
-pub fn end_sheet(
+// The sheet ends, with what is held of a line. One that stopped has been answered. After a write that failed nothing has changed.
+pub fn end_sheet<W: io::Write>(
+    output: &mut W,
     how: How,
     reader: Reader,
     marks: Marks,
@@ -144,12 +153,14 @@ pub fn end_sheet(
     table: &[[u64; WORDS]; TERMS],
     room: &mut [u8],
     out: &mut [u8],
-) -> usize
-    ensures { Closed how reader marks held table.now room.old room.new out.old out.new result }
+) -> io::Result<usize>
+    ensures closed { let closed = Closed how reader marks held table.now in
+        IfOk result (λ n. closed room.old room.new out.old out.new n) }
+    ensures failed { OnErr result ((room.new ≡ room.old) × (out.new ≡ out.old)) }
 {
-    let at = spare(out, marks.filled);
+    let at = spare(output, out, marks.filled)?;
     if !marks.goes {
-        return at;
+        return Ok(at);
     }
     let s = State {
         reader,
@@ -158,7 +169,7 @@ pub fn end_sheet(
     };
     let to = to_or(sheet_read::end(s, table, room, 0), 0);
     let found = part(room, 0, to);
-    put_end(how, marks.found, table, found, out, at)
+    Ok(put_end(how, marks.found, table, found, out, at))
 }
 
 // Before a sheet. The term table is cleared.
@@ -178,20 +189,22 @@ pub fn fresh(table: &mut [[u64; WORDS]; TERMS], filled: usize) -> Flow
 }
 
 // A border: the sheet before it ends.
-fn next_sheet(
+fn next_sheet<W: io::Write>(
+    output: &mut W,
     how: How,
     reader: Reader,
     marks: Marks,
     table: &mut [[u64; WORDS]; TERMS],
     room: &mut [u8],
     out: &mut [u8],
-) -> Flow
-    ensures { let tables = Bordered how reader marks table.old table.new in
-        tables room.old room.new out.old out.new result }
+) -> io::Result<Flow>
+    ensures bordered { let tables = Bordered how reader marks table.old table.new in
+        IfOk result (λ flow. tables room.old room.new out.old out.new flow) }
+    ensures failed { OnErr result ((table.new ≡ table.old) × (room.new ≡ room.old) × (out.new ≡ out.old)) }
 {
-    let n = end_sheet(how, reader, marks, nothing(), table, room, out);
+    let n = end_sheet(output, how, reader, marks, nothing(), table, room, out)?;
     let filled = put_text(out, n, b"----\n");
-    fresh(table, filled)
+    Ok(fresh(table, filled))
 }
 
 // The line that stands between two sheets.
@@ -223,8 +236,9 @@ fn borders(many: bool, text: &[u8]) -> bool
     false
 }
 
-// A whole line. After a sheet has stopped its lines are passed over.
-pub fn take_text(
+// A whole line. After a sheet has stopped its lines are passed over. After a write that failed nothing has changed.
+pub fn take_text<W: io::Write>(
+    output: &mut W,
     how: How,
     many: bool,
     f: Flow,
@@ -235,19 +249,24 @@ pub fn take_text(
     table: &mut [[u64; WORDS]; TERMS],
     room: &mut [u8],
     out: &mut [u8],
-) -> Flow
-    ensures { let before = lent m.old words.old items.old table.old in
+) -> io::Result<Flow>
+    ensures taken { let before = lent m.old words.old items.old table.old in
         let after = lent m.new words.new items.new table.new in
         let taken = Taken how many f.reader f.marks text.now before after in
-        taken room.old room.new out.old out.new result }
+        IfOk result (λ flow. taken room.old room.new out.old out.new flow) }
+    ensures failed { let before = lent m.old words.old items.old table.old in
+        let after = lent m.new words.new items.new table.new in
+        OnErr result (Unchanged before after room.old room.new out.old out.new) }
 {
     let reader = f.reader;
     let marks = f.marks;
     if borders(many, text) {
-        return next_sheet(how, reader, marks, table, room, out);
+        return next_sheet(output, how, reader, marks, table, room, out);
     }
     if marks.goes {
-        return take_line(how, reader, marks, text, m, words, items, table, room, out);
+        return take_line(
+            output, how, reader, marks, text, m, words, items, table, room, out,
+        );
     }
-    Flow { reader, marks }
+    Ok(Flow { reader, marks })
 }
