@@ -358,17 +358,6 @@ unfolding bytes_in
 many_bytes h b l e = rw (le-leb max_held (length h) l) e
 
 -- a test that came out so
-pub no_of : (b x : Bool) → b ≡ x → not b ≡ true → x ≡ false
-no_of true x e h = no_way (sym h)
-no_of false x e h = sym e
-
-pub yes_of : (b x : Bool) → b ≡ x → not b ≡ false → x ≡ true
-yes_of true x e h = sym e
-yes_of false x e h = no_way h
-
-pub put_not : (b : Bool) (w x h y : List ℕ) (s : State) → b ≡ false → (w ≡ (if b then x else w)) × ((h ≡ (if b then y else h)) × (b ≡ true → state_in w h ≡ s))
-put_not b w x h y s e = (rw e, (rw e, λ f. no_way (sym f ∙ e)))
-
 pub put_all : (b : Bool) (w h n k : List ℕ) (s : State) → b ≡ true → (n ≡ state_put w s) × ((k ≡ held_put h s) × (state_in n k ≡ s)) → (n ≡ (if b then state_put w s else w)) × ((k ≡ (if b then held_put h s else h)) × (b ≡ true → state_in n k ≡ s))
 put_all b w h n k s e p = (rw e p.0, (rw e p.1.0, λ f. p.1.1))
 

@@ -1,8 +1,8 @@
 -- What the types of the code say of a state that is handed over by value: each number fits its width, each array has its length.
-use mathlib.Core.Path.{◌≡◌, sym, ◌∙◌}
-use mathlib.Core.List.{List, map}
+use mathlib.Core.Path.{◌≡◌}
+use mathlib.Core.List.{List}
 use Prim.Native.Nat.{ℕ}
-use lib.ListN.{length, length-map}
+use lib.ListN.{length}
 use mir.Val.{Val}
 use denote.Shadow.{shadow}
 use Rattle.sheet_lines.specs.Fed.{max_held}
@@ -19,7 +19,6 @@ use Rattle.sheet_reader.specs.contracts.Awaited as awaited
 use Rattle.sheet_reader.specs.contracts.Stands as stands
 use Rattle.sheet_reader.specs.contracts.Reader as reader
 use Rattle.sheet_state.proofs.Reading.{SmallSet, SmallRule, SmallStands, SmallEnded, SmallReader, SmallState}
-use Rattle.paper.proofs.Lists.{array_long}
 
 small_set : (g : OpenSet) (vs : List Val) → shadow ((set.the_field).row.own_val ((set.the_type).to g) vs) → SmallSet g
 small_set g vs h = record { term = h.1.1.0.1; flags = h.1.1.1.0.1; sites = h.1.1.1.1.0.1; rules = h.1.1.1.1.1.0.1 }
@@ -38,12 +37,12 @@ small_ended : (e : EndedSets) (vs : List Val) → shadow ((ended.the_field).row.
 small_ended e vs h = record {
   sets = h.1.1.0.1;
   kept = h.1.1.1.0.1;
-  used = array_long e.used _ 4 h.1.1.1.1.0.1.0.1;
-  recs = array_long e.recs _ 4 h.1.1.1.1.1.0.1.0.1;
+  used = h.1.1.1.1.0.1.0.1;
+  recs = h.1.1.1.1.1.0.1.0.1;
 }
 
 small_reader : (r : Reader) (vs : List Val) → shadow ((reader.the_field).row.own_val ((reader.the_type).to r) vs) → SmallReader r
 small_reader r vs h = record { line = h.1.1.0.1; stands = small_stands r.stands _ h.1.1.1.0; ended = small_ended r.ended _ h.1.1.1.1.0 }
 
-pub small_state : {A : Type 0} (s : State) (vs : List Val) (f : ℕ → A) → shadow ((reader.the_field).row.own_val ((reader.the_type).to s.reader) vs) → length (map f s.held.bytes) ≡ max_held → SmallState s
-small_state s vs f h e = record { reader = small_reader s.reader vs h; bytes = array_long s.held.bytes f max_held e }
+pub small_state : (s : State) (vs : List Val) → shadow ((reader.the_field).row.own_val ((reader.the_type).to s.reader) vs) → length s.held.bytes ≡ max_held → SmallState s
+small_state s vs h e = record { reader = small_reader s.reader vs h; bytes = e }

@@ -1,0 +1,14 @@
+use mathlib.Core.Path.{◌≡◌}
+use Prim.Native.Nat.{◌≤◌, ◌-◌}
+use native.Mathlib.Omega.{arith}
+use lib.Seq.{paste}
+use Rattle.sheet_lines.specs.Fed.{max_held}
+use Rattle.sheet_state.proofs.Reading.{copied_none, copied_turn, copied_length, copied_all}
+use borrow.Author.Rules.{rules}
+use Rattle.sheet_state.proofs.put_bytes.Given as goal
+
+abbrev pub invariant-loop-i : goal.invariant-loop-i
+invariant-loop-i l = (l.i ≤ max_held) × (l.held ≡ paste l.initial.held 0 l.bytes l.i)
+
+abbrev pub decreases-loop-i : goal.decreases-loop-i
+decreases-loop-i l = max_held - l.i

@@ -1,0 +1,7 @@
+-- `sheet_state::state_in` meets its contract. Assumes nothing.
+use Rattle.sheet_state.proofs.Reading.{state_is}
+use borrow.Author.Rules.{rules}
+use Rattle.sheet_state.proofs.state_in.Goals as goal
+
+pub returns : goal.returns
+returns c = state_is _ _ _ _ _ _ _ c.reader_in-reader.ensures c.bytes_in-bytes.ensures c.word.ensures c.size64-length.ensures c.stopped_in.ensures
