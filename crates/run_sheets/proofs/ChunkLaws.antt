@@ -3,6 +3,7 @@ use mathlib.Core.Path.{◌≡◌, refl, sym, ap, subst, ◌∙◌}
 use mathlib.Core.Bool.{Bool, true, false}
 use mathlib.Core.List.{List, [], ◌∷◌, ◌++◌}
 use Prim.Native.Nat.{ℕ, ◌+◌, ◌-◌, ◌≤◌, ◌<◌}
+use Rattle.std.proofs.Common.{◌⊎◌, inl, inr}
 use native.Mathlib.Omega.{arith}
 use lib.ListN.{length, drop, length-drop}
 use Rattle.paper.specs.Layout.{Lines, nothing, unended, line, lines}
@@ -14,8 +15,8 @@ use Rattle.term_table.specs.Table.{Square, no_edges}
 use Rattle.sheet_reader.specs.State.{Lent, lent}
 use Rattle.run_answers.specs.declared.How.{How}
 use Rattle.run_lines.specs.declared.Flow.{Flow}
-use Rattle.run_lines.specs.Taken.{Closed, fresh_flow}
-use Rattle.run_sheets.specs.Chunks.{Standing, stand, Takes, TookLines, TookAll, Read, Ran}
+use Rattle.run_lines.specs.Taken.{Closed, fresh_flow, Unchanged}
+use Rattle.run_sheets.specs.Chunks.{Standing, stand, Takes, TookLines, TookAll, StoppedIn, Read, Stopped, Ran}
 
 -- ---- the lines of a chunk
 -- the rest of it has no LF: it is held
@@ -61,6 +62,33 @@ module _ (how : How) (many : Bool) (b : List ℕ) (g : Held) (s : Standing) (fro
   unfolding StandsFor
   chunk_done i = so t k (subst (λ (x : List ℕ). TookLines how many (lines x) k t t k) (sym (drop_all b from i)) (none_left how many k t))
 
+-- ---- up to an error
+-- what the lines from `from` on, with k held, do to t up to an error, the lines of the chunk b, with g held, do to s
+unfoldable pub StopsFor : How → Bool → List ℕ → Held → Standing → ℕ → Held → Standing → Type 0
+StopsFor how many b g s from k t = (m : Lent) (room out : List ℕ) → StoppedIn how many (lines (drop from b)) k t m room out → StoppedIn how many (lines b) g s m room out
+
+pub no_stop : (how : How) (many : Bool) (b : List ℕ) (g : Held) (s : Standing) → StopsFor how many b g s 0 g s
+unfolding StopsFor
+no_stop how many b g s m room out x = x
+
+-- a loop's turn, and an error in it
+module _ (how : How) (many : Bool) (b : List ℕ) (g : Held) (s : Standing) (from : ℕ) (k : Held) (t : Standing) (so : StopsFor how many b g s from k t) where
+  pub stop_turn : (c : Cut) (x y l : List ℕ) (u : Standing) (n : Held) → (c ≡ cut_at k b from) × Fits c.held → c.unended ≡ false → l ≡ part_of b from c.to →
+      x ≡ part_of c.held.bytes 0 c.held.length → y ≡ line_from x l → Takes how many y t u → n ≡ no_line → StopsFor how many b g s (c.to + 1) n u
+  unfolding StopsFor StoppedIn
+  stop_turn c x y l u n e o q p w z r m room out v =
+      let a = cut_ended k b from c e.0 o in
+      let part = part_of b from c.to in
+      let is : y ≡ line_with k part = line_cut k c.held part x y a.1 e.1 p (w ∙ ap (line_from x) q) in
+      let rest : StoppedIn how many (lines (drop (c.to + 1) b)) no_line u m room out = subst (λ (j : Held). StoppedIn how many (lines (drop (c.to + 1) b)) j u m room out) r v in
+      so m room out (subst (λ (j : Lines). StoppedIn how many j k t m room out) (sym (line_split b from c.to a.0)) (inr (u, subst (λ (j : List ℕ). Takes how many j t u) is z, rest)))
+
+  pub stop_here : (c : Cut) (m : Lent) (room out : List ℕ) → (c ≡ cut_at k b from) × Fits c.held → c.unended ≡ false → Unchanged t.memory m t.room room t.out out → StoppedIn how many (lines b) g s m room out
+  unfolding StopsFor StoppedIn
+  stop_here c m room out e o w =
+      let a = cut_ended k b from c e.0 o in
+      so m room out (subst (λ (j : Lines). StoppedIn how many j k t m room out) (sym (line_split b from c.to a.0)) (inl w))
+
 -- ---- chunks of a file
 pub none_read : (how : How) (many : Bool) (s : Standing) (g : Held) → Read how many g s s g
 unfolding TookAll
@@ -79,3 +107,35 @@ all_read how many s u g h e w = subst (λ (z : Held). Read how many z s u h) e w
 
 pub ran_here : (how : How) (many : Bool) (m w i room out room' out' : List ℕ) (t : Square) (f : Flow) (u : Standing) (h : Held) (n : ℕ) → f ≡ fresh_flow 0 → t ≡ no_edges → Read how many no_line (stand f (lent m w i t) room out) u h → Closed how u.flow.reader u.flow.marks h u.memory.table u.room room' u.out out' n → Ran how many (lent m w i no_edges) u.memory room out room' out'
 ran_here how many m w i room out room' out' t f u h n e g r c = record { last = u; held = h; filled = n; read = subst (λ (z : Flow). Read how many no_line (stand z (lent m w i no_edges) room out) u h) e (subst (λ (z : Square). Read how many no_line (stand f (lent m w i z) room out) u h) g r); closed = c; memory = refl }
+
+-- ---- a file, up to an error
+pub first_read : (how : How) (many : Bool) (s : Standing) (h : Held) → h ≡ no_line → Read how many no_line s s h
+first_read how many s h e = subst (λ (z : Held). Read how many no_line s s z) (sym e) (none_read how many s no_line)
+
+pub stopped_between : (how : How) (many : Bool) (s : Standing) (g h : Held) (f : Flow) (k : Lent) (room out : List ℕ) → Read how many g s (stand f k room out) h → Stopped how many g s k room out
+unfolding StoppedIn lines
+stopped_between how many s g h f k room out r = record { last = stand f k room out; held = h; read = r; chunk = []; stopped = record { memory = refl; room_same = refl; out_same = refl } }
+
+pub stopped_inside : (how : How) (many : Bool) (p : List ℕ) (s t : Standing) (g h : Held) (k : Lent) (room out : List ℕ) → Read how many g s t h → StoppedIn how many (lines p) h t k room out → Stopped how many g s k room out
+stopped_inside how many p s t g h k room out r w = record { last = t; held = h; read = r; chunk = p; stopped = w }
+
+-- of a run: before its end, at its end, and after it
+module _ (how : How) (many : Bool) (m w i room out : List ℕ) (t : Square) (f : Flow) (e : f ≡ fresh_flow 0) (g : t ≡ no_edges) where
+  from_fresh : (k : Lent) (room' out' : List ℕ) → Stopped how many no_line (stand f (lent m w i t) room out) k room' out' → Stopped how many no_line (stand (fresh_flow 0) (lent m w i no_edges) room out) k room' out'
+  from_fresh k room' out' x =
+      subst (λ (z : Flow). Stopped how many no_line (stand z (lent m w i no_edges) room out) k room' out') e
+      (subst (λ (z : Square). Stopped how many no_line (stand f (lent m w i z) room out) k room' out') g x)
+
+  pub stopped_before : (k : Lent) (room' out' : List ℕ) → Stopped how many no_line (stand f (lent m w i t) room out) k room' out' →
+      Stopped how many no_line (stand (fresh_flow 0) (lent m w i no_edges) room out) k room' out' ⊎ Ran how many (lent m w i no_edges) k room out room' out'
+  stopped_before k room' out' x = inl (from_fresh k room' out' x)
+
+  pub stopped_at_end : (l : Flow) (h : Held) (k : Lent) (room₁ out₁ room' out' : List ℕ) → Read how many no_line (stand f (lent m w i t) room out) (stand l k room₁ out₁) h → (room' ≡ room₁) × (out' ≡ out₁) →
+      Stopped how many no_line (stand (fresh_flow 0) (lent m w i no_edges) room out) k room' out' ⊎ Ran how many (lent m w i no_edges) k room out room' out'
+  stopped_at_end l h k room₁ out₁ room' out' r x =
+      let y = from_fresh k room₁ out₁ (stopped_between how many (stand f (lent m w i t) room out) no_line h l k room₁ out₁ r) in
+      let first = stand (fresh_flow 0) (lent m w i no_edges) room out in
+      inl (subst (λ (z : List ℕ). Stopped how many no_line first k z out') (sym x.0) (subst (λ (z : List ℕ). Stopped how many no_line first k room₁ z) (sym x.1) y))
+
+pub stopped_after : (how : How) (many : Bool) (first : Standing) (before k : Lent) (room out room' out' : List ℕ) → Ran how many before k room out room' out' → Stopped how many no_line first k room' out' ⊎ Ran how many before k room out room' out'
+stopped_after how many first before k room out room' out' x = inr x

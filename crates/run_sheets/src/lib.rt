@@ -1,18 +1,20 @@
-// Sheets from an open file: chunks, and the lines in them, each taken as `run_lines` says, and the answers in large writes to standard output.
+// Sheets from an open file: chunks, and the lines in them, each taken as `run_lines` says, and the answers in large writes.
 // proofs/Sheet.antt has what the contracts come to: of one sheet `check` writes the findings.
 #![tactic(auto)]
 
-ghost use Rattle.std.specs.Prelude.{◌≡◌, Bool};
+ghost use Rattle.std.specs.Prelude.{◌≡◌, ◌⊎◌, Bool, IfOk, OnOk, OnErr};
 ghost use Rattle.paper.specs.Layout.{lines};
 ghost use Rattle.sheet_lines.specs.Held.{no_line};
 ghost use Rattle.term_table.specs.Table.{no_edges};
 ghost use Rattle.sheet_reader.specs.State.{lent};
-ghost use Rattle.run_sheets.specs.Chunks.{stand, TookLines, Read, Ran};
+ghost use Rattle.run_lines.specs.Taken.{fresh_flow};
+ghost use Rattle.run_sheets.specs.Chunks.{stand, TookLines, StoppedIn, Read, Stopped, Ran};
 
 use paper::TERMS;
 use run_answers::How;
 use run_lines::{Flow, end_sheet, fresh, take_text};
 use sheet_lines::{Held, cut_line, line_of, nothing, part};
+use std::io;
 use term_table::WORDS;
 
 // Room for answers.
@@ -26,7 +28,8 @@ struct Left {
 }
 
 // The lines of a chunk, one after the other; the first goes on from what is held.
-fn feed(
+fn feed<W: io::Write>(
+    output: &mut W,
     how: How,
     many: bool,
     f: Flow,
@@ -38,12 +41,16 @@ fn feed(
     table: &mut [[u64; WORDS]; TERMS],
     room: &mut [u8],
     out: &mut [u8],
-) -> Left
-    ensures { let before = lent m.old words.old items.old table.old in
+) -> io::Result<Left>
+    ensures took { let before = lent m.old words.old items.old table.old in
         let after = lent m.new words.new items.new table.new in
         let first = stand f before room.old out.old in
-        let last = stand result.flow after room.new out.new in
-        TookLines how many (lines bytes.now) h first last result.held }
+        let took = TookLines how many (lines bytes.now) h first in
+        IfOk result (λ left. took (stand left.flow after room.new out.new) left.held) }
+    ensures stopped { let before = lent m.old words.old items.old table.old in
+        let after = lent m.new words.new items.new table.new in
+        let first = stand f before room.old out.old in
+        OnErr result (StoppedIn how many (lines bytes.now) h first after room.new out.new) }
 {
     let mut flow = f;
     let mut held = h;
@@ -52,23 +59,25 @@ fn feed(
         let c = cut_line(held, bytes, from);
         let line = c.held;
         if c.unended {
-            return Left { flow, held: line };
+            return Ok(Left { flow, held: line });
         }
         let to = c.to;
         let before = line.bytes;
         let here = part(bytes, from, to);
         let text = line_of(part(&before, 0, line.length), here);
-        let next = take_text(how, many, flow, text, m, words, items, table, room, out);
-        flow = next;
+        flow = take_text(
+            output, how, many, flow, text, m, words, items, table, room, out,
+        )?;
         held = nothing();
         from = to + 1;
     }
-    Left { flow, held }
+    Ok(Left { flow, held })
 }
 
 // A proved loop has to end, and nothing says that a file does: the turns count down from a number that no run uses up.
-fn read_all(
-    fd: i32,
+fn read_all<R: io::Read, W: io::Write>(
+    input: &mut R,
+    output: &mut W,
     how: How,
     many: bool,
     f: Flow,
@@ -79,12 +88,16 @@ fn read_all(
     room: &mut [u8],
     out: &mut [u8],
     bytes: &mut [u8],
-) -> Left
-    ensures { let before = lent m.old words.old items.old table.old in
+) -> io::Result<Left>
+    ensures read { let before = lent m.old words.old items.old table.old in
         let after = lent m.new words.new items.new table.new in
         let first = stand f before room.old out.old in
-        let last = stand result.flow after room.new out.new in
-        Read how many no_line first last result.held }
+        let read = Read how many no_line first in
+        IfOk result (λ left. read (stand left.flow after room.new out.new) left.held) }
+    ensures stopped { let before = lent m.old words.old items.old table.old in
+        let after = lent m.new words.new items.new table.new in
+        let first = stand f before room.old out.old in
+        OnErr result (Stopped how many no_line first after room.new out.new) }
 {
     let mut g = Left {
         flow: f,
@@ -92,25 +105,26 @@ fn read_all(
     };
     let mut turns = u64::MAX;
     while 0 < turns {
-        let n = io::read_full(fd, bytes);
+        let n = input.read(bytes)?;
         if n == 0 {
-            return g;
+            return Ok(g);
         }
         let flow = g.flow;
         let held = g.held;
         let chunk = part(bytes, 0, n);
-        let next = feed(
-            how, many, flow, held, chunk, m, words, items, table, room, out,
-        );
-        g = next;
+        g = feed(
+            output, how, many, flow, held, chunk, m, words, items, table, room, out,
+        )?;
         turns -= 1;
     }
-    g
+    Ok(g)
 }
 
-// Answers the sheets that the open file fd has, one sheet, or many with a line ---- between two, in lent memory: from the first byte to the last answer.
-pub fn run_in(
-    fd: i32,
+// Answers the sheets that an open file has, one sheet, or many with a line ---- between two, in lent memory: from the first byte to the last answer. After a read
+// or a write that failed the memory is as the lines before it left it, or, where the last answers could not be written out, as all of them did.
+pub fn run_in<R: io::Read, W: io::Write>(
+    input: &mut R,
+    output: &mut W,
     how: How,
     many: bool,
     m: &mut [u8],
@@ -120,17 +134,24 @@ pub fn run_in(
     room: &mut [u8],
     out: &mut [u8],
     bytes: &mut [u8],
-)
-    ensures { let before = lent m.old words.old items.old no_edges in
+) -> io::Result<()>
+    ensures ran { let before = lent m.old words.old items.old no_edges in
         let after = lent m.new words.new items.new table.new in
-        Ran how many before after room.old out.old room.new out.new }
+        OnOk result (Ran how many before after room.old out.old room.new out.new) }
+    ensures stopped { let before = lent m.old words.old items.old no_edges in
+        let after = lent m.new words.new items.new table.new in
+        let first = stand (fresh_flow 0) before room.old out.old in
+        let ran = Ran how many before after room.old out.old room.new out.new in
+        OnErr result (Stopped how many no_line first after room.new out.new ⊎ ran) }
 {
     let f = fresh(table, 0);
-    let g = read_all(fd, how, many, f, m, words, items, table, room, out, bytes);
+    let g = read_all(
+        input, output, how, many, f, m, words, items, table, room, out, bytes,
+    )?;
     let flow = g.flow;
     let reader = flow.reader;
     let marks = flow.marks;
     let held = g.held;
-    let n = end_sheet(how, reader, marks, held, table, room, out);
-    io::write_all(libc::STDOUT_FILENO, part(out, 0, n));
+    let n = end_sheet(output, how, reader, marks, held, table, room, out)?;
+    output.write_all(part(out, 0, n))
 }
