@@ -1,6 +1,6 @@
 -- The items of a rule in words, four to an item: the first site, which of an equality has 65,536 added, and the three words of the constraint or the
 -- second site.
-use Rattle.std.specs.Prelude.{◌≡◌, List, [], ◌∷◌, ℕ, zero, suc, ◌+◌, ◌*◌, ◌%◌, ◌<◌, min, length, get_or, set, replicate, leb, ltb}
+use Rattle.std.specs.Prelude.{List, ℕ, zero, suc, ◌+◌, ◌*◌, ◌%◌, ◌<◌, min, length, get_or, set, replicate, leb, ltb}
 use Rattle.paper.specs.declared.Item.{Item}
 use Rattle.paper.specs.declared.Item.TheVariants.{Is, Equal}
 use Rattle.paper.specs.declared.Entry.{Entry}

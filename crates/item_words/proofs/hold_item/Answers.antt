@@ -1,6 +1,5 @@
 use Rattle.item_words.proofs.Laws.{is_held, equal_held}
 use mathlib.Core.Path.{refl}
-use borrow.Author.Rules.{rules}
 use Rattle.item_words.proofs.hold_item.Goals as goal
 
 pub returns-in-Is : goal.returns-in-Is

@@ -1,5 +1,4 @@
 use Rattle.item_words.proofs.Laws.{is_item, equal_item}
-use borrow.Author.Rules.{rules}
 use Rattle.item_words.proofs.item_at.Goals as goal
 
 pub returns-then-a-lt-EQUAL : goal.returns-then-a-lt-EQUAL

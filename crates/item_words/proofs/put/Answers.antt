@@ -1,7 +1,6 @@
 use native.Mathlib.Omega.{arith}
 use lib.ListN.{length-set}
 use Rattle.item_words.proofs.Laws.{short_words, long_words}
-use borrow.Author.Rules.{rules}
 use Rattle.item_words.proofs.put.Goals as goal
 
 pub returns-then-words-at : goal.returns-then-words-at

@@ -1,5 +1,4 @@
 use Rattle.item_words.proofs.Laws.{in_variant, in_struct, in_bool, in_int, in_prim, in_some}
-use borrow.Author.Rules.{rules}
 use Rattle.item_words.proofs.range_of.Goals as goal
 
 pub returns-in-Variant : goal.returns-in-Variant
