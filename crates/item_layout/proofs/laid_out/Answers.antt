@@ -1,5 +1,4 @@
 use Rattle.item_layout.proofs.Laying.{laid_is, laid_equal}
-use borrow.Author.Rules.{rules}
 use Rattle.item_layout.proofs.laid_out.Goals as goal
 
 pub returns-then-a-lt-EQUAL : goal.returns-then-a-lt-EQUAL

@@ -1,5 +1,4 @@
 use Rattle.item_layout.proofs.Laying.{one_other, other_other, zero_other, last_tells}
-use borrow.Author.Rules.{rules}
 use Rattle.item_layout.proofs.paired.Goals as goal
 
 pub returns-then-a : goal.returns-then-a

@@ -1,5 +1,4 @@
 use Rattle.item_layout.proofs.Laying.{head_other, second_other, third_tells}
-use borrow.Author.Rules.{rules}
 use Rattle.item_layout.proofs.shaped.Goals as goal
 
 pub returns-then-p-b : goal.returns-then-p-b

@@ -1,8 +1,5 @@
-use mathlib.Core.Path.{◌≡◌, sym, ◌∙◌}
-use Prim.Native.Nat.{◌-◌, ◌≤◌}
+use mathlib.Core.Path.{sym, ◌∙◌}
 use native.Mathlib.Omega.{arith}
-use Rattle.paper.proofs.Lists.{not_true}
-use Rattle.item_layout.specs.Layout.{stray_from, stray}
 use Rattle.item_layout.proofs.Laying.{walk_begins, walk_stops, walk_goes, walk_ends}
 use Rattle.item_layout.proofs.stray.Goals as goal
 

@@ -1,9 +1,6 @@
-use mathlib.Core.Path.{◌≡◌, sym, ◌∙◌}
+use mathlib.Core.Path.{◌≡◌}
 use Prim.Native.Nat.{◌-◌, ◌≤◌}
-use native.Mathlib.Omega.{arith}
-use Rattle.paper.proofs.Lists.{not_true}
 use Rattle.item_layout.specs.Layout.{stray_from, stray}
-use Rattle.item_layout.proofs.Laying.{walk_begins, walk_stops, walk_goes, walk_ends}
 use Rattle.item_layout.proofs.stray.Given as goal
 
 abbrev pub invariant-loop-k : goal.invariant-loop-k
