@@ -1,23 +1,21 @@
 -- Adding a site: what each return of `add` cites, and what the memory then holds.
 use mathlib.Core.Path.{◌≡◌, refl, sym, ap, ◌∙◌}
-use mathlib.Core.Bool.{Bool, true, false, ◌&&◌, not}
+use mathlib.Core.Bool.{Bool, true, false, not}
 use mathlib.Core.Option.{Option, none, some}
 use mathlib.Core.List.{List, [], ◌∷◌, ◌++◌}
-use Prim.Native.Nat.{ℕ, suc, ◌+◌, ◌-◌, ◌*◌, ◌≤◌, ◌<◌}
+use Prim.Native.Nat.{ℕ, suc, ◌+◌, ◌*◌, ◌≤◌, ◌<◌}
 use native.Mathlib.Omega.{arith}
 use lib.ListN.{length, drop, length-append}
 use lib.Seq.{drop_at, drop-length}
 use lib.Dec.{ltb, leb}
 use borrow.Author.Tests.{lt-ltb, le-ltb, le-leb, lt-leb, leb-true}
 use Rattle.paper.specs.declared.Found.{Found}
-use Rattle.paper.specs.declared.Found.TheVariants.{At, Nothing}
 use Rattle.paper.specs.declared.Refusal.{Refusal}
 use Rattle.paper.specs.declared.Refusal.TheVariants.{Layout, TooManySites, TooManySources}
-use Rattle.std.specs.Prelude.{if◌then◌else◌}
 use Rattle.paper.specs.Words.{first}
 use Rattle.paper.specs.Numbers.{max_sites, max_sources, Outcome, done, refused, ◌>>=◌, demand}
 use Rattle.paper.specs.Layout.{whole, site_read}
-use Rattle.paper.specs.Sites.{Site, Sites, body, sources, term_of, known, number_of, missing_source, term_fits, or_next, add}
+use Rattle.paper.specs.Sites.{Site, Sites, sources, term_of, known, number_of, missing_source, term_fits, or_next, add}
 use Rattle.paper.proofs.Laws.{number_some, at_inside, first_here}
 use Rattle.site_body.specs.Body.{admits, admits_body, found_as, is_body, is_there, missing, site_of, verdict_as}
 use Rattle.site_body.proofs.Back.{Bytes}

@@ -14,7 +14,7 @@ use Rattle.paper.proofs.Laws.{same_site_true, same_site_refl, number_here, numbe
 use Rattle.site_slots.specs.Seeking.{Held, Finds}
 use Rattle.site_body.specs.Body.{is_body, site_of}
 use Rattle.site_body.proofs.Back.{Bytes}
-use Rattle.sites.specs.Slots.{slot, slot_body, site_in, sites_in, Findable, store, length_below}
+use Rattle.sites.specs.Slots.{slot, slot_body, site_in, sites_in, Findable, length_below}
 use Rattle.sites.proofs.Held.{slot_is, slot_bytes, held, held_body}
 use Rattle.site_body.proofs.Bodies.{laid_in, site_none}
 

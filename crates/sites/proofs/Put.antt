@@ -2,18 +2,17 @@
 use mathlib.Core.Path.{◌≡◌, refl, sym, ap, ◌∙◌}
 use mathlib.Core.Bool.{Bool, true, false}
 use mathlib.Core.List.{List, [], ◌∷◌, ◌++◌, append_assoc, append-nil}
-use Prim.Native.Nat.{ℕ, ◌+◌, ◌-◌, ◌*◌, ◌≤◌, ◌<◌}
+use Prim.Native.Nat.{ℕ, ◌+◌, ◌≤◌, ◌<◌}
 use native.Mathlib.Numerals.{add-one}
 use native.Mathlib.Omega.{arith}
 use lib.ListN.{length, take, drop, set, length-append, length-take, length-drop, take-append-drop}
-use lib.Seq.{take_at, drop-append-add, drop-drop, drop-set-lt, take-suc-set, append_snoc, take_all}
+use lib.Seq.{take_at, drop-append-add, drop-drop, drop-set-lt, take-suc-set, append_snoc}
 use lib.Dec.{leb}
 use borrow.Author.Tests.{le-leb, lt-leb, leb-true, leb-false}
 use Rattle.sites.specs.declared.Wrote.{Wrote}
 use Rattle.sites.specs.declared.Wrote.TheVariants.{To, Full}
 use Rattle.sites.specs.Slots.{put, end_at, Writes}
 use Rattle.std.specs.Prelude.{if◌then◌else◌}
-use Rattle.paper.proofs.Lists.{rest_of}
 
 -- a byte, and then the others after it
 pub put_cons : (m : List ℕ) (at x : ℕ) (s : List ℕ) → at < length m → put (set m at x) (at + 1) s ≡ put m at (x ∷ s)

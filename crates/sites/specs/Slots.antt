@@ -3,7 +3,7 @@
 use Rattle.std.specs.Prelude.{◌&&◌, true, ◌≡◌, refl, length, get_or, take, drop, ltb, leb}
 use Rattle.std.proofs.Math.Option.{Option, none, some}
 use mathlib.Core.List.{List, [], ◌∷◌, ◌++◌}
-use Prim.Native.Nat.{ℕ, zero, suc, ◌+◌, ◌-◌, ◌*◌, ◌≤◌, ◌<◌}
+use Prim.Native.Nat.{ℕ, zero, suc, ◌+◌, ◌*◌, ◌≤◌, ◌<◌}
 use Rattle.std.proofs.Common.{◌∙◌, arith, length-append}
 use Rattle.paper.specs.declared.Refusal.TheVariants.{Layout, TooManySites}
 use Rattle.std.specs.Prelude.{if◌then◌else◌}

@@ -1,9 +1,6 @@
 use lib.Seq.{length-take-le}
-use mathlib.Core.Path.{refl, sym, ◌∙◌}
-use Prim.Native.Nat.{ℕ, ◌+◌, ◌*◌, ◌<◌}
+use mathlib.Core.Path.{sym, ◌∙◌}
 use native.Mathlib.Omega.{arith}
-use borrow.Author.Rules.{rules}
-use borrow.Author.Tests.{not-true, not-false}
 use Rattle.sites.proofs.Unfolds.{unfolded_alone, head_fits, stop_head, stop_sources, all_three, end_inside, bytes_as, none_left, skip_source, stop_source, go_on}
 use Rattle.sites.proofs.+unfold_site_unfold_sources.Goals as goal
 

@@ -1,6 +1,5 @@
 use native.Mathlib.Omega.{arith}
 use Rattle.sites.proofs.Adds.{add_refused, findable, short, add_cut, add_known, add_over, add_full, add_fresh}
-use borrow.Author.Rules.{rules}
 use Rattle.sites.proofs.add.Goals as goal
 
 pub returns-in-Refused : goal.returns-in-Refused

@@ -3,7 +3,6 @@ use Prim.Native.Nat.{◌*◌}
 use native.Mathlib.Omega.{arith}
 use Rattle.sites.proofs.Held.{slot_cut, slot_over}
 use Rattle.sites.proofs.Places.{slot_part}
-use borrow.Author.Rules.{rules}
 use Rattle.sites.proofs.body.Goals as goal
 
 pub returns-then-m-at : goal.returns-then-m-at

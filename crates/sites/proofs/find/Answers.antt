@@ -2,7 +2,6 @@ use mathlib.Core.Path.{sym, ap}
 use native.Mathlib.Omega.{arith}
 use Rattle.site_body.specs.Body.{found_as}
 use Rattle.sites.proofs.Places.{find_here, find_none}
-use borrow.Author.Rules.{rules}
 use Rattle.sites.proofs.find.Goals as goal
 
 pub returns-then-i-count : goal.returns-then-i-count

@@ -1,9 +1,8 @@
-use Prim.Native.Nat.{◌-◌, ◌≤◌}
 use mathlib.Core.Path.{◌≡◌, refl}
 use native.Mathlib.Omega.{arith}
 use native.Mathlib.Numerals.{add-one}
 use lib.ListN.{length, length-set}
-use lib.Seq.{paste, paste-zero, paste-suc, take-length}
+use lib.Seq.{paste-zero, paste-suc, take-length}
 use Rattle.sites.specs.Slots.{put}
 use Rattle.sites.proofs.put_at.Goals as goal
 

@@ -3,7 +3,6 @@ use Prim.Native.Nat.{◌*◌}
 use native.Mathlib.Omega.{arith}
 use lib.ListN.{length-set}
 use Rattle.sites.proofs.Put.{put_cons}
-use borrow.Author.Rules.{rules}
 use Rattle.sites.proofs.store.Goals as goal
 
 pub put_at-requires : goal.put_at-requires

@@ -1,5 +1,4 @@
 use Rattle.sites.proofs.Unfolds.{over_limit, over_room}
-use borrow.Author.Rules.{rules}
 use Rattle.sites.proofs.too_long.Goals as goal
 
 pub returns-then-room-ge-UNFOLDING : goal.returns-then-room-ge-UNFOLDING

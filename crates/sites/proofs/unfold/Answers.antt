@@ -2,7 +2,6 @@ use mathlib.Core.Path.{refl, sym}
 use native.Mathlib.Omega.{arith}
 use lib.Seq.{length-take-le}
 use Rattle.sites.proofs.Unfolds.{unfold_unknown, unfold_long, ends, unfold_short, unfold_done}
-use borrow.Author.Rules.{rules}
 use Rattle.sites.proofs.unfold.Goals as goal
 
 pub returns-then-count-s : goal.returns-then-count-s

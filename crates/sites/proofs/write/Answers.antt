@@ -1,6 +1,5 @@
 use native.Mathlib.Omega.{arith}
 use Rattle.sites.proofs.Put.{writes_short, writes_put}
-use borrow.Author.Rules.{rules}
 use Rattle.sites.proofs.write.Goals as goal
 
 pub returns-then-out-at : goal.returns-then-out-at
