@@ -1,5 +1,5 @@
 -- A set's table on its way through one rule: the sites in lent memory, then the children that the rule adds, each as one word of a tail.
-use Rattle.std.specs.Prelude.{◌≡◌, ◌&&◌, List, [], ◌∷◌, ◌++◌, map, ℕ, zero, suc, ◌+◌, ◌-◌, ◌*◌, ◌/◌, ◌%◌, ◌<◌, ◌≤◌, min, length, get_or, drop, set, eqb, ltb, leb}
+use Rattle.std.specs.Prelude.{◌≡◌, List, [], ◌∷◌, ◌++◌, map, ℕ, zero, suc, ◌+◌, ◌-◌, ◌*◌, ◌/◌, ◌%◌, ◌<◌, ◌≤◌, min, length, get_or, drop, set, eqb, ltb, leb}
 use Rattle.std.proofs.Math.Option.{none, some}
 use Rattle.std.proofs.lemmas.List.Edits.{sets}
 use Rattle.paper.specs.declared.Constraint.{Constraint}

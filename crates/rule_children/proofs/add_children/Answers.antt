@@ -1,6 +1,5 @@
 use native.Mathlib.Omega.{arith}
 use Rattle.rule_children.proofs.AnswerLaws.{answer_short, answer_high, answer_fields, answer_none, answer_unknown}
-use borrow.Author.Rules.{rules}
 use Rattle.rule_children.proofs.add_children.Goals as goal
 
 pub returns-then-tail-needed : goal.returns-then-tail-needed

@@ -1,5 +1,4 @@
 use Rattle.rule_children.proofs.NextLaws.{begins_as}
-use borrow.Author.Rules.{rules}
 use Rattle.rule_children.proofs.beginning.Goals as goal
 
 pub returns-in-Variant : goal.returns-in-Variant

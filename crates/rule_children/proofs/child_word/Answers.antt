@@ -1,7 +1,6 @@
 use mathlib.Core.Path.{sym, ap}
 use Rattle.rule_children.proofs.WordLaws.{spelt_as}
 use Rattle.paper.specs.Sites.{child}
-use borrow.Author.Rules.{rules}
 use Rattle.rule_children.proofs.child_word.Goals as goal
 
 pub returns-in-Variant : goal.returns-in-Variant

@@ -1,6 +1,5 @@
 use native.Mathlib.Omega.{arith}
 use Rattle.rule_children.proofs.AnswerLaws.{answer_full, answer_ready, answer_done}
-use borrow.Author.Rules.{rules}
 use Rattle.rule_children.proofs.grow.Goals as goal
 
 pub returns-then-room-missing : goal.returns-then-room-missing

@@ -1,5 +1,4 @@
 use Rattle.rule_children.proofs.WordLaws.{is_child}
-use borrow.Author.Rules.{rules}
 use Rattle.rule_children.proofs.is_child.Goals as goal
 
 pub returns : goal.returns

@@ -1,5 +1,4 @@
 use Rattle.rule_children.proofs.NextLaws.{on_tail, on_slot, on_both}
-use borrow.Author.Rules.{rules}
 use Rattle.rule_children.proofs.next_site.Goals as goal
 
 pub returns-then-n-i : goal.returns-then-n-i

@@ -1,6 +1,5 @@
 use mathlib.Core.Path.{refl}
 use native.Mathlib.Omega.{arith}
-use borrow.Author.Rules.{rules}
 use Rattle.rule_children.proofs.note.Goals as goal
 
 pub returns-then-count-f : goal.returns-then-count-f

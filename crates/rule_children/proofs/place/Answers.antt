@@ -1,7 +1,5 @@
 use native.Mathlib.Omega.{arith}
-use Rattle.rule_children.proofs.GrowLaws.{Placing, place_start, place_room, place_inside, next_new, next_old, place_length, place_end, Whole, whole_start, whole_new, whole_old, whole_end}
-use Prim.Native.Nat.{◌-◌}
-use borrow.Author.Rules.{rules}
+use Rattle.rule_children.proofs.GrowLaws.{place_start, place_room, place_inside, next_new, next_old, place_length, place_end, whole_start, whole_new, whole_old, whole_end}
 use Rattle.rule_children.specs.Tail.{table}
 use Rattle.rule_children.proofs.place.Goals as goal
 use Rattle.rule_children.proofs.place.Goals.{then-old, else-old}

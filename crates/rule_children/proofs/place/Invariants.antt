@@ -1,8 +1,5 @@
-use native.Mathlib.Omega.{arith}
-use Rattle.rule_children.proofs.GrowLaws.{Placing, place_start, place_room, place_inside, next_new, next_old, place_length, place_end, Whole, whole_start, whole_new, whole_old, whole_end}
+use Rattle.rule_children.proofs.GrowLaws.{Placing, Whole}
 use Prim.Native.Nat.{◌-◌}
-use borrow.Author.Rules.{rules}
-use mathlib.Core.Logic.{⊎_elim}
 use Rattle.rule_children.specs.Tail.{table}
 use Rattle.rule_children.proofs.place.Given as goal
 

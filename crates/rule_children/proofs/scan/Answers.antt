@@ -1,7 +1,5 @@
-use Prim.Native.Nat.{◌+◌, ◌-◌, ◌≤◌}
 use native.Mathlib.Omega.{arith}
-use borrow.Author.Rules.{rules}
-use Rattle.rule_children.proofs.ScanLaws.{walk_early, walk_end, Walking, walking_start, walking_on, walking_less, walking_turn}
+use Rattle.rule_children.proofs.ScanLaws.{walk_early, walk_end, walking_start, walking_on, walking_less, walking_turn}
 use Rattle.rule_children.proofs.scan.Goals as goal
 
 pub loop-missing-init : goal.loop-missing-init

@@ -1,7 +1,5 @@
 use Prim.Native.Nat.{◌+◌, ◌-◌, ◌≤◌}
-use native.Mathlib.Omega.{arith}
-use borrow.Author.Rules.{rules}
-use Rattle.rule_children.proofs.ScanLaws.{walk_early, walk_end, Walking, walking_start, walking_on, walking_less, walking_turn}
+use Rattle.rule_children.proofs.ScanLaws.{Walking}
 use Rattle.rule_children.proofs.scan.Given as goal
 
 abbrev pub invariant-loop-missing : goal.invariant-loop-missing

@@ -1,7 +1,5 @@
 use Prim.Native.Nat.{◌-◌, ◌≤◌}
-use native.Mathlib.Omega.{arith}
-use borrow.Author.Rules.{rules}
-use Rattle.rule_children.proofs.NextLaws.{Past, past_start, past_more, word_here, word_none, word_out}
+use Rattle.rule_children.proofs.NextLaws.{Past}
 use Rattle.rule_children.proofs.seek_word.Given as goal
 
 abbrev pub invariant-loop-j : goal.invariant-loop-j

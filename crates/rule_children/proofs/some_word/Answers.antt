@@ -1,6 +1,5 @@
 use native.Mathlib.Omega.{arith}
 use Rattle.rule_children.proofs.WordLaws.{spelt_some}
-use borrow.Author.Rules.{rules}
 use Rattle.rule_children.proofs.some_word.Goals as goal
 
 pub returns : goal.returns

@@ -1,6 +1,5 @@
 use native.Mathlib.Omega.{arith}
 use Rattle.rule_children.proofs.WordLaws.{spelt_struct}
-use borrow.Author.Rules.{rules}
 use Rattle.rule_children.proofs.struct_word.Goals as goal
 
 pub returns : goal.returns

@@ -1,6 +1,5 @@
 use native.Mathlib.Omega.{arith}
 use Rattle.rule_children.proofs.WordLaws.{spelt_variant}
-use borrow.Author.Rules.{rules}
 use Rattle.rule_children.proofs.variant_word.Goals as goal
 
 pub returns : goal.returns

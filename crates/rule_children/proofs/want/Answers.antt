@@ -1,4 +1,3 @@
-use borrow.Author.Rules.{rules}
 use Rattle.rule_children.proofs.want.Goals as goal
 
 pub returns : goal.returns

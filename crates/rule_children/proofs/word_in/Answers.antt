@@ -1,6 +1,5 @@
 use Rattle.rule_children.proofs.WordLaws.{spelt_as, spelt_none, told_as, told_in}
 use Rattle.sites.specs.Slots.{site_in}
-use borrow.Author.Rules.{rules}
 use Rattle.rule_children.proofs.word_in.Goals as goal
 
 pub returns-in-Variant : goal.returns-in-Variant

@@ -1,6 +1,5 @@
 use native.Mathlib.Omega.{arith}
 use Rattle.rule_children.proofs.WordLaws.{there_low, there_high, there_out}
-use borrow.Author.Rules.{rules}
 use Rattle.rule_children.proofs.word_of.Goals as goal
 
 pub returns-then-x-n : goal.returns-then-x-n
