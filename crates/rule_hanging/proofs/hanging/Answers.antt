@@ -1,18 +1,9 @@
 -- `rule_hanging::hanging` meets its contract. Assumes nothing.
-use borrow.Author.Rules.{rules}
 use Rattle.rule_hanging.proofs.Childless.{lowest_none, lowest_step, lowest_all}
 use Rattle.item_words.proofs.Laws.{items_length}
 use Rattle.rule_hanging.proofs.Names.{held_read}
-use Rattle.rule_hanging.specs.Seen.{names, Sees, Known}
 use Rattle.item_words.specs.Items.{items_in as held_items}
-use Rattle.rule_lists.specs.Entries.{found_as}
-use Rattle.paper.specs.Loading.{Loading, hangs}
-use Rattle.paper.specs.Words.{keep, least}
-use lib.ListN.{take}
 use native.Mathlib.Omega.{arith}
-use Prim.Native.Nat.{◌≤◌, ◌-◌}
-use mathlib.Core.List.{[]}
-use mathlib.Core.Path.{◌≡◌}
 use Rattle.rule_hanging.proofs.hanging.Goals as goal
 
 pub loop-i-init : goal.loop-i-init

@@ -1,7 +1,6 @@
 -- `rule_hanging::hangs` meets its contract. Assumes nothing.
 use Rattle.rule_hanging.proofs.Childless.{hangs_none, hangs_far, hangs_free, hangs_held}
 use native.Mathlib.Omega.{arith}
-use borrow.Author.Rules.{rules}
 use Rattle.rule_hanging.proofs.hangs.Goals as goal
 
 pub returns-then-w-eq0 : goal.returns-then-w-eq0

@@ -1,10 +1,7 @@
 -- `rule_hanging::lower` meets its contract. Assumes nothing.
--- `rule_hanging::lower` meets its contract. Assumes nothing.
 use native.Mathlib.Omega.{arith}
 use Rattle.rule_hanging.proofs.Childless.{lower_off, lower_first, lower_low, lower_high}
-use borrow.Author.Tests.{not-true, not-false}
 use mathlib.Core.Path.{sym, ◌∙◌}
-use borrow.Author.Rules.{rules}
 use Rattle.rule_hanging.proofs.lower.Goals as goal
 
 pub returns-then-not-yes : goal.returns-then-not-yes

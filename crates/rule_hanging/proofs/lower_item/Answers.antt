@@ -1,6 +1,5 @@
 -- `rule_hanging::lower_item` meets its contract. Assumes nothing.
 use Rattle.rule_hanging.proofs.Childless.{lowest_is, lowest_equal}
-use borrow.Author.Rules.{rules}
 use Rattle.rule_hanging.proofs.lower_item.Goals as goal
 
 pub returns-in-Is : goal.returns-in-Is
