@@ -14,7 +14,7 @@ use Rattle.paper.specs.declared.Refusal.{Refusal}
 use Rattle.std.specs.Prelude.{if◌then◌else◌}
 use Rattle.paper.specs.Words.{or_else, below, put}
 use Rattle.paper.specs.Numbers.{max_sites, max_fields, max_items, done, refused}
-use Rattle.paper.specs.Sites.{Sites, child, child_count, children, child_number, number_of, known, add_all}
+use Rattle.paper.specs.Sites.{Sites, child, child_count, children, child_number, number_of, add_all}
 use Rattle.paper.specs.Loading.{Loading, constrain}
 use Rattle.rule_words.specs.Packing.{InRange, head, second, third}
 use Rattle.rule_children.specs.Tail.{children_as}

@@ -19,7 +19,7 @@ use Rattle.sites.specs.Slots.{sites_in}
 use Rattle.rule_lists.specs.Entries.{found_as}
 use Rattle.paper.specs.declared.Verdict.TheVariants as verdict
 use Rattle.rule_items.specs.Shown.{Told, Rowed, roomy, items_in}
-use Rattle.rule_hanging.specs.Seen.{shown, names, Sees, Known}
+use Rattle.rule_hanging.specs.Seen.{names, Sees, Known}
 use Rattle.rule_items.specs.Way.{Way, Walk}
 use Rattle.rule_items.specs.declared.Progress.{Progress}
 use Rattle.rule_hanging.proofs.Names.{found_nothing, found_there}

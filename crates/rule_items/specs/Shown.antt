@@ -2,7 +2,6 @@
 use Rattle.std.specs.Prelude.{◌≡◌, Bool, ◌&&◌, List, ℕ, ◌+◌, ◌*◌, ◌<◌, ◌≤◌, length, get_or, take, leb}
 use Rattle.paper.specs.declared.Item.{Item}
 use Rattle.paper.specs.declared.Refusal.TheVariants.{TooManySites, TooManyItems}
-use Rattle.paper.specs.Words.{below}
 use Rattle.paper.specs.Numbers.{max_sites, max_fields, max_items, Outcome, done, refused, demand, ◌>>=◌}
 use Rattle.paper.specs.Sites.{child_count, child_number}
 use Rattle.paper.specs.Loading.{Loading, load_items, hanging, no_hanging, no_items}

@@ -9,7 +9,7 @@ use Rattle.paper.specs.Loading.{Loading}
 use Rattle.rule_rows.specs.Holding.{shape_in, kid_in}
 use Rattle.paper.specs.declared.Verdict.TheVariants as verdict
 use Rattle.rule_items.specs.Shown.{Shown}
-use Rattle.rule_hanging.specs.Seen.{shown, names}
+use Rattle.rule_hanging.specs.Seen.{names}
 use Rattle.rule_items.specs.declared.Progress.{Progress}
 
 -- after i items the lists tell l; rows from i on are free

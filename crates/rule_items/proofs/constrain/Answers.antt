@@ -3,7 +3,6 @@ use Rattle.rule_items.proofs.Taking.{way_size, constrain_refused, total_low, kid
 use Rattle.rule_items.proofs.Ranges.{in_range}
 use native.Mathlib.Omega.{arith}
 use mathlib.Core.Path.{refl}
-use borrow.Author.Rules.{rules}
 use Rattle.rule_items.proofs.constrain.Goals as goal
 
 pub set_words-requires : goal.set_words-requires

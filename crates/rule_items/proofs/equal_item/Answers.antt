@@ -3,7 +3,6 @@ use Rattle.rule_items.proofs.Stepping.{equal_first, equal_second, equal_both}
 use lib.ListN.{length-set}
 use native.Mathlib.Omega.{arith}
 use mathlib.Core.Path.{refl}
-use borrow.Author.Rules.{rules}
 use Rattle.rule_items.proofs.equal_item.Goals as goal
 
 pub returns-then-total-size16 : goal.returns-then-total-size16

@@ -1,6 +1,5 @@
 -- `rule_items::has_room` meets its contract. Assumes nothing.
 use Rattle.rule_items.proofs.Telling.{short_tail, short_sites, short_rows, short_words, short_kids, room_rest}
-use borrow.Author.Rules.{rules}
 use Rattle.rule_items.proofs.has_room.Goals as goal
 
 pub returns-then-tail : goal.returns-then-tail

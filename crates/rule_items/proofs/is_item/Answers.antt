@@ -3,7 +3,6 @@ use Rattle.rule_items.proofs.Stepping.{few_children, is_unknown, is_wide, is_new
 use Rattle.rule_items.proofs.Taking.{way_size}
 use native.Mathlib.Omega.{arith}
 use mathlib.Core.Path.{refl}
-use borrow.Author.Rules.{rules}
 use Rattle.rule_items.proofs.is_item.Goals as goal
 
 pub returns-then-size16-clause-turn : goal.returns-then-size16-clause-turn

@@ -4,10 +4,8 @@ use Rattle.rule_items.proofs.Walking.{long_self}
 use Rattle.item_words.specs.Items.{items_in as held_items}
 use Rattle.paper.specs.Numbers.{max_items}
 use Prim.Native.Nat.{min}
-use borrow.Author.Tests.{not-true, not-false}
 use native.Mathlib.Omega.{arith}
 use mathlib.Core.Path.{refl, sym, ◌∙◌}
-use borrow.Author.Rules.{rules}
 use Rattle.rule_items.proofs.load_items.Goals as goal
 
 pub returns-then-size16-gt-SITES-clause-told : goal.returns-then-size16-gt-SITES-clause-told

@@ -2,7 +2,6 @@
 use Rattle.rule_items.proofs.Rows.{row_first, row_second, row_third}
 use Rattle.rule_items.proofs.Ranges.{in_range}
 use native.Mathlib.Omega.{arith}
-use borrow.Author.Rules.{rules}
 use Rattle.rule_items.proofs.same_row.Goals as goal
 
 pub returns-then-p-word : goal.returns-then-p-word

@@ -1,9 +1,6 @@
 -- `rule_items::set_kids` meets its contract. Assumes nothing.
 use Rattle.rule_items.proofs.Rows.{filled_none, filled_step, filled_done}
-use Rattle.rule_items.specs.Way.{Filled}
-use Rattle.paper.specs.Numbers.{max_fields}
 use native.Mathlib.Omega.{arith}
-use Prim.Native.Nat.{◌≤◌, ◌-◌}
 use mathlib.Core.Path.{refl}
 use Rattle.rule_items.proofs.set_kids.Goals as goal
 

@@ -3,7 +3,6 @@ use Rattle.rule_items.proofs.Rows.{worded}
 use lib.ListN.{length-set}
 use native.Mathlib.Omega.{arith}
 use mathlib.Core.Path.{refl}
-use borrow.Author.Rules.{rules}
 use Rattle.rule_items.proofs.set_words.Goals as goal
 
 pub bounds-words-k-2 : goal.bounds-words-k-2

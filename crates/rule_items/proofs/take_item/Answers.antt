@@ -1,6 +1,5 @@
 -- `rule_items::take_item` meets its contract. Assumes nothing.
 use Rattle.rule_items.proofs.Stepping.{taken_as}
-use borrow.Author.Rules.{rules}
 use Rattle.rule_items.proofs.take_item.Goals as goal
 
 pub returns-in-Is-clause-turn : goal.returns-in-Is-clause-turn

@@ -1,8 +1,6 @@
 -- `rule_items::walk` meets its contract. Assumes nothing.
-use Rattle.rule_items.proofs.Walking.{items_long, item_is, long_of, long_self, long_still, walking_none, room_of, walking_done, walking_stop, walking_step, WalkTo}
-use borrow.Author.Rules.{rules}
+use Rattle.rule_items.proofs.Walking.{items_long, item_is, long_of, long_self, long_still, walking_none, room_of, walking_done, walking_stop, walking_step}
 use native.Mathlib.Omega.{arith}
-use Prim.Native.Nat.{◌-◌}
 use mathlib.Core.Path.{refl, ◌∙◌}
 use Rattle.rule_items.proofs.walk.Goals as goal
 

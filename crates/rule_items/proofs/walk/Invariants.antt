@@ -1,8 +1,5 @@
-use Rattle.rule_items.proofs.Walking.{items_long, item_is, long_of, long_self, long_still, walking_none, room_of, walking_done, walking_stop, walking_step, WalkTo}
-use borrow.Author.Rules.{rules}
-use native.Mathlib.Omega.{arith}
+use Rattle.rule_items.proofs.Walking.{WalkTo}
 use Prim.Native.Nat.{◌-◌}
-use mathlib.Core.Path.{refl, ◌∙◌}
 use Rattle.rule_items.proofs.walk.Given as goal
 
 abbrev pub invariant-loop-i : goal.invariant-loop-i
