@@ -3,6 +3,8 @@
 
 mod words;
 
+ghost use Rattle.std.specs.Prelude.{◌≤◌, length};
+
 use item_words::ITEMS_ROOM;
 use paper::SITES;
 use run_answers::How;
@@ -10,83 +12,135 @@ use run_script::{LINE, ROOM};
 use run_sheets::OUT;
 use sheet_read::{KEPT_ROOM, SITES_ROOM};
 use sheet_reader::STEP_ROOM;
+use std::env::{Env, FillError};
+use std::fs::File;
+use std::io::{self, Read, Write};
 use words::Verb;
 
-fn usage(fd: i32) {
-    io::write_all(
-        fd,
-        b"lintelmoth: checks a sheet of rules before it goes into a box\n\n",
-    );
-    io::write_all(
-        fd,
+// What is read at once.
+const CHUNK: usize = 65536;
+
+// Words of a call are at most so long.
+const WORD: usize = 4096;
+
+// Where a verb reads.
+#[derive(Drop)]
+enum Source {
+    Input,
+    Opened(File),
+    Unreadable,
+}
+
+fn usage<W: io::Write>(output: &mut W) -> io::Result<()> {
+    output.write_all(b"lintelmoth: checks a sheet of rules before it goes into a box\n\n")?;
+    output.write_all(
         b"  lintelmoth [check] [FILE]      the findings, a line each, as the box writes them\n",
-    );
-    io::write_all(
-        fd,
+    )?;
+    output.write_all(
         b"  lintelmoth explain [FILE]      the findings in plain words, with what to do\n",
-    );
-    io::write_all(
-        fd,
+    )?;
+    output.write_all(
         b"  lintelmoth kept [FILE]         what is kept of each rule, and which rules overlap\n",
-    );
-    io::write_all(
-        fd,
-        b"  lintelmoth joins [FILE]        the answers to a script of class calls\n",
-    );
-    io::write_all(
-        fd,
+    )?;
+    output.write_all(b"  lintelmoth joins [FILE]        the answers to a script of class calls\n")?;
+    output.write_all(
         b"  lintelmoth many VERB [FILE]    check, explain or kept on many sheets, a line ---- between two\n",
-    );
-    io::write_all(fd, b"  lintelmoth help                this text\n\n");
-    io::write_all(fd, b"Without FILE, or with -, it reads standard input.\n");
+    )?;
+    output.write_all(b"  lintelmoth help                this text\n\n")?;
+    output.write_all(b"Without FILE, or with -, it reads standard input.\n")
+}
+
+// How many words the call has, the program's name among them.
+fn arg_count(rt: &impl Env) -> usize {
+    for i in 0..usize::MAX {
+        if let Err(FillError::NotPresent) = rt.arg(i, &mut []) {
+            return i;
+        }
+    }
+    usize::MAX
+}
+
+// Puts word i at the start of `word`: its length, 0 where it is missing or too long.
+fn arg(rt: &impl Env, i: usize, word: &mut [u8]) -> usize
+    ensures { result ≤ length word.new }
+{
+    match rt.arg(i, word) {
+        Ok(length) => length,
+        Err(_) => 0,
+    }
 }
 
 // Whether an open file can be read: a folder is opened like a file, and refuses even a read of nothing.
-fn is_readable(fd: i32) -> bool {
-    if fd < 0 {
-        return false;
-    }
-    let mut nothing = [0u8; 0];
-    0 <= libc::read(fd, &mut nothing)
+fn is_readable(file: &mut File) -> io::Result<()> {
+    file.read(&mut [])?;
+    Ok(())
 }
 
-// Opens the file that argument i names: a descriptor, or -1 after one plain line on standard error. Without one it is standard input.
-fn open(i: usize) -> i32 {
-    if os::arg_count() <= i {
-        return libc::STDIN_FILENO;
-    }
-    let mut name = io::buffer();
-    let length = os::arg(i, &mut name);
-    if words::is_dash(&name[..length]) {
-        return libc::STDIN_FILENO;
-    }
-    let fd = os::open_read(&name[..length]);
-    if is_readable(fd) {
-        return fd;
-    }
-    io::write_all(libc::STDERR_FILENO, b"lintelmoth: cannot read ");
-    os::fail(&name[..length]);
-    -1
+// The file of this name, open for reading. (A path is text here.)
+fn open_named(rt: &HostRuntime, name: &[u8]) -> io::Result<File> {
+    let Ok(path) = str::from_utf8(name) else {
+        return Err(io::Error::from(io::ErrorKind::InvalidInput));
+    };
+    let mut file = File::open(rt, path)?;
+    is_readable(&mut file)?;
+    Ok(file)
 }
 
-// The verb that argument i is; check where there is none.
-fn verb_at(i: usize) -> Verb {
-    if os::arg_count() <= i {
+// The words of a system's error, without the number that `Display` puts behind them.
+fn plain(told: &str) -> &str {
+    match told.split_once(" (os error ") {
+        Some((words, _)) => words,
+        None => told,
+    }
+}
+
+// One plain line on standard error: which file, and why.
+fn cannot_read(rt: &HostRuntime, name: &[u8], error: io::Error) -> io::Result<()> {
+    let told = format!(in rt.alloc(); "{error}")?;
+    let reason = plain(told.as_str());
+    let mut output = rt.stderr();
+    output.write_all(b"lintelmoth: cannot read ")?;
+    output.write_all(name)?;
+    writeln!(output, ": {reason}")
+}
+
+// Opens the file that word i names. Without one it is standard input.
+fn open(rt: &HostRuntime, i: usize) -> io::Result<Source> {
+    if arg_count(rt) <= i {
+        return Ok(Source::Input);
+    }
+    let mut word = [0u8; WORD];
+    let length = arg(rt, i, &mut word);
+    let name = &word[..length];
+    if words::is_dash(name) {
+        return Ok(Source::Input);
+    }
+    match open_named(rt, name) {
+        Ok(file) => Ok(Source::Opened(file)),
+        Err(error) => {
+            cannot_read(rt, name, error)?;
+            Ok(Source::Unreadable)
+        }
+    }
+}
+
+// The verb that word i is; check where there is none.
+fn verb_at(rt: &impl Env, i: usize) -> Verb {
+    if arg_count(rt) <= i {
         return Verb::Check;
     }
-    let mut word = io::buffer();
-    let length = os::arg(i, &mut word);
+    let mut word = [0u8; WORD];
+    let length = arg(rt, i, &mut word);
     words::verb_of(&word[..length])
 }
 
-// Runs a verb on sheets from the file that argument i names.
-fn on_sheets(how: How, many: bool, i: usize) {
-    let fd = open(i);
-    if fd < 0 {
-        return;
+// Runs a verb on sheets from the file that word i names.
+fn on_sheets(rt: &HostRuntime, how: How, many: bool, i: usize) -> io::Result<()> {
+    match open(rt, i)? {
+        Source::Input => answer_sheets(&mut rt.stdin(), &mut rt.stdout(), how, many),
+        Source::Opened(mut file) => answer_sheets(&mut file, &mut rt.stdout(), how, many),
+        Source::Unreadable => Ok(()),
     }
-    answer_sheets(fd, how, many);
-    libc::close(fd);
 }
 
 // Room for answers. Made apart: where an array of this length stands, a proof writes it out.
@@ -95,29 +149,37 @@ fn answers() -> [u8; OUT] {
 }
 
 // The sheets of an open file, in memory that is made here.
-fn answer_sheets(fd: i32, how: How, many: bool) {
+fn answer_sheets<R: io::Read, W: io::Write>(
+    input: &mut R,
+    output: &mut W,
+    how: How,
+    many: bool,
+) -> io::Result<()> {
     let mut m = [0u8; SITES_ROOM];
     let mut words = [0u64; KEPT_ROOM];
     let mut items = [0u64; ITEMS_ROOM];
     let mut table = term_table::empty();
     let mut room = [0u8; STEP_ROOM];
     let mut out = answers();
-    let mut bytes = io::large_buffer();
+    let mut bytes = [0u8; CHUNK];
     run_sheets::run_in(
-        fd, how, many, &mut m, &mut words, &mut items, &mut table, &mut room, &mut out, &mut bytes,
-    );
+        input, output, how, many, &mut m, &mut words, &mut items, &mut table, &mut room, &mut out,
+        &mut bytes,
+    )
 }
 
 // A script of class calls of an open file, likewise.
-fn answer_script(fd: i32) {
+fn answer_script<R: io::Read, W: io::Write>(input: &mut R, output: &mut W) -> io::Result<()> {
     let mut parents = [0u16; SITES];
     let mut ranks = [0u8; SITES];
     let mut count: u16 = 0;
     let mut members = [0u16; SITES];
     let mut line = [0u8; LINE];
     let mut out = [0u8; ROOM];
-    let mut bytes = io::large_buffer();
+    let mut bytes = [0u8; CHUNK];
     run_script::run_in(
+        input,
+        output,
         &mut parents,
         &mut ranks,
         &mut count,
@@ -125,31 +187,27 @@ fn answer_script(fd: i32) {
         &mut line,
         &mut out,
         &mut bytes,
-        fd,
-    );
+    )
 }
 
-fn on_script(i: usize) {
-    let fd = open(i);
-    if fd < 0 {
-        return;
+fn on_script(rt: &HostRuntime, i: usize) -> io::Result<()> {
+    match open(rt, i)? {
+        Source::Input => answer_script(&mut rt.stdin(), &mut rt.stdout()),
+        Source::Opened(mut file) => answer_script(&mut file, &mut rt.stdout()),
+        Source::Unreadable => Ok(()),
     }
-    answer_script(fd);
-    libc::close(fd);
 }
 
 // `many VERB FILE`
-fn on_many() {
-    if os::arg_count() < 3 {
-        usage(libc::STDERR_FILENO);
-        return;
+fn on_many(rt: &HostRuntime) -> io::Result<()> {
+    if arg_count(rt) < 3 {
+        return usage(&mut rt.stderr());
     }
-    let v = verb_at(2);
-    match v {
-        Verb::Check => on_sheets(How::Check, true, 3),
-        Verb::Kept => on_sheets(How::Kept, true, 3),
-        Verb::Explain => on_sheets(How::Explain, true, 3),
-        _ => usage(libc::STDERR_FILENO),
+    match verb_at(rt, 2) {
+        Verb::Check => on_sheets(rt, How::Check, true, 3),
+        Verb::Kept => on_sheets(rt, How::Kept, true, 3),
+        Verb::Explain => on_sheets(rt, How::Explain, true, 3),
+        _ => usage(&mut rt.stderr()),
     }
 }
 
@@ -163,19 +221,18 @@ fn has_more(v: Verb, words: usize) -> bool {
     }
 }
 
-fn main() {
-    let v = verb_at(1);
-    if has_more(v, os::arg_count()) {
-        usage(libc::STDERR_FILENO);
-        return;
+fn main(rt: HostRuntime) -> io::Result<()> {
+    let v = verb_at(&rt, 1);
+    if has_more(v, arg_count(&rt)) {
+        return usage(&mut rt.stderr());
     }
     match v {
-        Verb::Check => on_sheets(How::Check, false, 2),
-        Verb::Kept => on_sheets(How::Kept, false, 2),
-        Verb::Explain => on_sheets(How::Explain, false, 2),
-        Verb::Joins => on_script(2),
-        Verb::Many => on_many(),
-        Verb::Help => usage(libc::STDOUT_FILENO),
-        Verb::Other => on_sheets(How::Check, false, 1),
+        Verb::Check => on_sheets(&rt, How::Check, false, 2),
+        Verb::Kept => on_sheets(&rt, How::Kept, false, 2),
+        Verb::Explain => on_sheets(&rt, How::Explain, false, 2),
+        Verb::Joins => on_script(&rt, 2),
+        Verb::Many => on_many(&rt),
+        Verb::Help => usage(&mut rt.stdout()),
+        Verb::Other => on_sheets(&rt, How::Check, false, 1),
     }
 }
