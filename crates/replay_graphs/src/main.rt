@@ -6,8 +6,8 @@
 // Any other line is `bad LINE`, counted from 1, and so is a text that ends inside a line or a graph; nothing after it is read.
 #![tactic(auto)]
 
-use libc::{STDIN_FILENO, STDOUT_FILENO};
 use paper::{TERMS, Verdict};
+use std::io;
 use term_table::{Listed, WORDS};
 
 // What has been read of a line.
@@ -91,10 +91,8 @@ fn step(line: Line, b: u8) -> Line {
     }
 }
 
-fn write_bad(number: u64) {
-    io::write_all(STDOUT_FILENO, b"bad ");
-    io::print_decimal(STDOUT_FILENO, number);
-    io::write_all(STDOUT_FILENO, b"\n");
+fn write_bad<W: io::Write>(output: &mut W, number: u64) -> io::Result<()> {
+    writeln!(output, "bad {number}")
 }
 
 // The lowest digit of a number in upper-case hexadecimal.
@@ -103,7 +101,7 @@ fn glyph(n: u16) -> u8 {
     if d < 10 { 48 + d } else { 55 + d }
 }
 
-fn write_term(term: u16) {
+fn write_term<W: io::Write>(output: &mut W, term: u16) -> io::Result<()> {
     let text = [
         b' ',
         glyph(term / 4096),
@@ -111,36 +109,40 @@ fn write_term(term: u16) {
         glyph(term / 16),
         glyph(term),
     ];
-    io::write_all(STDOUT_FILENO, &text);
+    output.write_all(&text)
 }
 
-fn write_terms(found: Listed) {
+fn write_terms<W: io::Write>(output: &mut W, found: Listed) -> io::Result<()> {
     for i in 0..TERMS {
         if i < found.count as usize {
-            write_term(found.terms[i]);
+            write_term(output, found.terms[i])?;
         }
     }
+    Ok(())
 }
 
-fn write_cyclic(t: [[u64; WORDS]; TERMS]) {
-    io::write_all(STDOUT_FILENO, b"cyclic");
-    write_terms(term_table::cyclic_terms(t));
-    io::write_all(STDOUT_FILENO, b"\n");
+fn write_cyclic<W: io::Write>(output: &mut W, t: [[u64; WORDS]; TERMS]) -> io::Result<()> {
+    output.write_all(b"cyclic")?;
+    write_terms(output, term_table::cyclic_terms(t))?;
+    output.write_all(b"\n")
 }
 
-fn add(t: &mut [[u64; WORDS]; TERMS], a: u16, b: u16) {
+fn add<W: io::Write>(
+    output: &mut W,
+    t: &mut [[u64; WORDS]; TERMS],
+    a: u16,
+    b: u16,
+) -> io::Result<()> {
     match term_table::add(t, a, b) {
-        Verdict::Fine => {}
-        Verdict::Refused(_) => {
-            io::write_all(STDOUT_FILENO, b"refused 28\n");
-        }
+        Verdict::Fine => Ok(()),
+        Verdict::Refused(_) => output.write_all(b"refused 28\n"),
     }
 }
 
 fn next(number: u64, open: bool) -> At {
     At {
         line: Line::Start,
-        number: std::num::wrapping_add_u64(number, 1),
+        number: number.wrapping_add(1),
         open,
         stopped: false,
     }
@@ -156,84 +158,104 @@ fn stop() -> At {
 }
 
 // A line has ended.
-fn ended(t: &mut [[u64; WORDS]; TERMS], line: Line, number: u64) -> At {
+fn ended<W: io::Write>(
+    output: &mut W,
+    t: &mut [[u64; WORDS]; TERMS],
+    line: Line,
+    number: u64,
+) -> io::Result<At> {
     match line {
         Line::To(a, b) => {
-            add(t, a, b);
-            next(number, true)
+            add(output, t, a, b)?;
+            Ok(next(number, true))
         }
         Line::End => {
-            let u = *t;
-            write_cyclic(u);
+            write_cyclic(output, *t)?;
             *t = term_table::empty();
-            next(number, false)
+            Ok(next(number, false))
         }
         _ => {
-            write_bad(number);
-            stop()
+            write_bad(output, number)?;
+            Ok(stop())
         }
     }
 }
 
-fn take(t: &mut [[u64; WORDS]; TERMS], at: At, b: u8) -> At {
+fn take<W: io::Write>(
+    output: &mut W,
+    t: &mut [[u64; WORDS]; TERMS],
+    at: At,
+    b: u8,
+) -> io::Result<At> {
     if at.stopped {
-        return at;
+        return Ok(at);
     }
+    let number = at.number;
+    let open = at.open;
     let line = at.line;
     if b == b'\n' {
-        return ended(t, line, at.number);
+        return ended(output, t, line, number);
     }
-    At {
+    Ok(At {
         line: step(line, b),
-        number: at.number,
-        open: at.open,
+        number,
+        open,
         stopped: false,
-    }
+    })
 }
 
-fn take_all(t: &mut [[u64; WORDS]; TERMS], from: At, bytes: &[u8]) -> At {
+fn take_all<W: io::Write>(
+    output: &mut W,
+    t: &mut [[u64; WORDS]; TERMS],
+    from: At,
+    bytes: &[u8],
+) -> io::Result<At> {
     let mut at = from;
-    for i in 0..bytes.len() {
-        let then = take(t, at, bytes[i]);
-        at = then;
+    for b in bytes {
+        at = take(output, t, at, *b)?;
     }
-    at
+    Ok(at)
 }
 
 // The text has ended.
-fn finish(at: At) {
+fn finish<W: io::Write>(output: &mut W, at: At) -> io::Result<()> {
     if at.stopped {
-        return;
+        return Ok(());
     }
-    let line = at.line;
+    let number = at.number;
     if at.open {
-        write_bad(at.number);
-        return;
+        return write_bad(output, number);
     }
-    match line {
-        Line::Start => {}
-        _ => write_bad(at.number),
+    match at.line {
+        Line::Start => Ok(()),
+        _ => write_bad(output, number),
     }
 }
 
-fn read_some(t: &mut [[u64; WORDS]; TERMS], at: At) -> At {
+fn read_some<R: io::Read, W: io::Write>(
+    input: &mut R,
+    output: &mut W,
+    t: &mut [[u64; WORDS]; TERMS],
+    at: At,
+) -> io::Result<At> {
     let mut buffer = [0u8; 4096];
-    let got = libc::read(STDIN_FILENO, &mut buffer);
-    if got <= 0 {
-        finish(at);
-        return stop();
+    let n = input.read(&mut buffer)?;
+    if n == 0 {
+        finish(output, at)?;
+        return Ok(stop());
     }
-    let n = io::count(got, &buffer);
-    take_all(t, at, &buffer[..n])
+    take_all(output, t, at, &buffer[..n])
 }
 
-fn main() {
+fn main(rt: HostRuntime) -> io::Result<()> {
+    let mut input = rt.stdin();
+    let mut output = rt.stdout();
     let mut t = term_table::empty();
     let mut at = next(0, false);
     let mut turns = u64::MAX;
     while turns > 0 && !at.stopped {
-        let then = read_some(&mut t, at);
-        at = then;
+        at = read_some(&mut input, &mut output, &mut t, at)?;
         turns -= 1;
     }
+    Ok(())
 }
