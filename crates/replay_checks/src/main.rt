@@ -6,22 +6,27 @@ use run_answers::How;
 use run_sheets::OUT;
 use sheet_read::{KEPT_ROOM, SITES_ROOM};
 use sheet_reader::STEP_ROOM;
+use std::io;
+
+// What is read at once.
+const CHUNK: usize = 65536;
 
 // Room for answers. Made apart: where an array of this length stands, a proof writes it out.
 fn answers() -> [u8; OUT] {
     [0; OUT]
 }
 
-fn main() {
+fn main(rt: HostRuntime) -> io::Result<()> {
     let mut m = [0u8; SITES_ROOM];
     let mut words = [0u64; KEPT_ROOM];
     let mut items = [0u64; ITEMS_ROOM];
     let mut table = term_table::empty();
     let mut room = [0u8; STEP_ROOM];
     let mut out = answers();
-    let mut bytes = io::large_buffer();
+    let mut bytes = [0u8; CHUNK];
     run_sheets::run_in(
-        libc::STDIN_FILENO,
+        &mut rt.stdin(),
+        &mut rt.stdout(),
         How::Check,
         true,
         &mut m,
@@ -31,5 +36,5 @@ fn main() {
         &mut room,
         &mut out,
         &mut bytes,
-    );
+    )
 }
