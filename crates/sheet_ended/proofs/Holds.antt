@@ -1,24 +1,22 @@
 -- What the code holds of the sets that were ended is what the paper holds. It is so before the first, and each set keeps it so.
 use mathlib.Core.Path.{◌≡◌, refl, sym, ap, ◌∙◌}
-use mathlib.Core.Bool.{Bool, true, false, ◌&&◌, ◌||◌, not}
-use mathlib.Core.Option.{Option, none, some}
+use mathlib.Core.Bool.{Bool, true, false, ◌&&◌, not}
+use mathlib.Core.Option.{some}
 use mathlib.Core.List.Memᴰ
 use mathlib.Core.List.{List, [], ◌∷◌, ◌++◌, map, append_assoc, append-nil, Memᴰ}
-use mathlib.Core.Logic.{◌↔◌, ◌⊎◌, inl, inr, ⊎_elim}
-use Prim.Native.Nat.{ℕ, zero, suc, ◌+◌, ◌*◌, ◌/◌, ◌≤◌, ◌<◌}
+use mathlib.Core.Logic.{inr, ⊎_elim}
+use Prim.Native.Nat.{ℕ, suc, ◌*◌, ◌<◌}
 use native.Mathlib.Omega.{arith}
 use native.Mathlib.Decide.{dec_lt}
 use lib.ListN.{length, get_elem?, length-append, length-replicate}
 use lib.Dec.{eqb, ltb, leb}
 use borrow.Author.Tests.{lt-ltb, le-ltb, le-leb, eqb-true, eq-eqb}
-use Rattle.paper.specs.declared.Refusal.{Refusal}
 use Rattle.paper.specs.declared.Refusal.TheVariants.{Repeated, TooManySets, TermTooHigh}
-use Rattle.std.specs.Prelude.{if◌then◌else◌}
-use Rattle.paper.specs.Words.{any, keep, joined, Edges}
+use Rattle.paper.specs.Words.{any, keep, joined}
 use Rattle.paper.specs.Numbers.{max_sets, max_rules, max_term, Outcome, done, refused, ◌>>=◌, demand}
-use Rattle.paper.specs.Sites.{Site, Sites, Sound, term_of}
-use Rattle.paper.specs.Loading.{Set, Kept, empty_set}
-use Rattle.paper.specs.Terms.{Head, head_of, is_rec, edge_to, edges_of, cyclic_findings}
+use Rattle.paper.specs.Sites.{Site, Sites}
+use Rattle.paper.specs.Loading.{Set, empty_set}
+use Rattle.paper.specs.Terms.{Head, head_of, is_rec, edges_of, cyclic_findings}
 use Rattle.paper.specs.Layout.{hex}
 use Rattle.paper.specs.Sheets as paper
 use Rattle.paper.specs.Sheets.{Stepped, stepped, start, at_sites, term_found, end_found, set_begun}
@@ -34,7 +32,7 @@ use Rattle.term_table.proofs.Sheet.{sheet_findings}
 use Rattle.sheet_findings.specs.Written.{ended_found, end_found_is}
 use Rattle.sheet_ended.specs.declared.EndedSets.{EndedSets}
 use Rattle.sheet_ended.specs.Holds.{term_in, Holds, Endable, with_ended}
-use Rattle.sheet_ended.specs.Sets.{no_sets, may_begin, edge_from, edges_from, marked_by, recs_with, fits_set, one_more, with_set, terms_text, found_text}
+use Rattle.sheet_ended.specs.Sets.{no_sets, may_begin, edges_from, marked_by, recs_with, fits_set, one_more, with_set, terms_text, found_text}
 
 -- ---- none
 pub holds_none : Holds no_sets no_edges start.ended

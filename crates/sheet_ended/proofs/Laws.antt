@@ -1,28 +1,23 @@
 -- What the code of each function asks, over plain variables.
 use mathlib.Core.Path.{◌≡◌, refl, sym, ap, ◌∙◌}
 use mathlib.Core.Bool.{Bool, true, false, ◌&&◌, not}
-use mathlib.Core.Option.{Option, none, some}
 use mathlib.Core.List.{List, [], ◌∷◌, ◌++◌, map, append_assoc, append-nil}
 use Prim.Native.Nat.{ℕ, zero, suc, ◌+◌, ◌-◌, ◌*◌, ◌/◌, ◌≤◌, ◌<◌}
 use native.Mathlib.Omega.{arith}
 use native.Mathlib.Numerals.{add-one}
-use lib.ListN.{length, get_or, take, drop, replicate, length-append, length-take}
+use lib.ListN.{length, get_or, take, replicate, length-append}
 use lib.Seq.{take-suc, take_at, length-take-le}
-use lib.Dec.{eqb, ltb, leb}
 use borrow.Author.Tests.{lt-ltb, le-ltb, le-leb, lt-leb, eq-eqb, ne_eqb}
 use Rattle.paper.specs.declared.Found.{Found}
 use Rattle.paper.specs.declared.Found.TheVariants as found
-use Rattle.paper.specs.declared.Refusal.{Refusal}
 use Rattle.paper.specs.declared.Verdict.TheVariants.{Fine, Refused}
 use Rattle.paper.specs.declared.Refusal.TheVariants.{Repeated, TooManySets, TermTooHigh}
-use Rattle.std.specs.Prelude.{if◌then◌else◌}
-use Rattle.paper.specs.Words.{joined, below, keep, two, Edges, returns}
-use Rattle.paper.specs.Numbers.{max_sets, max_rules, max_term, Outcome, done, refused, ◌>>=◌, demand}
+use Rattle.paper.specs.Words.{joined, below, keep, two, returns}
+use Rattle.paper.specs.Numbers.{max_sets, max_rules, max_term}
 use Rattle.paper.specs.Sites.{Site, Sites, term_of}
-use Rattle.paper.specs.Terms.{edge_to}
-use Rattle.paper.specs.Layout.{hex, digit_of}
+use Rattle.paper.specs.Layout.{hex}
 use Rattle.paper.specs.Sheets.{term_found}
-use Rattle.term_table.specs.Table.{Square, terms, words, in_row, has_term, no_marks, row_with, with_term, with_edge, with_edges, left, numbers, edges_in, unflagged, listed}
+use Rattle.term_table.specs.Table.{Square, terms, in_row, has_term, no_marks, with_term, with_edge, with_edges, left, numbers, edges_in, unflagged, listed}
 use Rattle.term_table.specs.declared.Listed.{Listed}
 use Rattle.term_table.proofs.Adding.{edges_append}
 use Rattle.term_table.proofs.Lists.{keep_in, keep_out, keep_nil}
@@ -33,7 +28,7 @@ use Rattle.sites.specs.Slots.{put, site_of, slot_body, site_in, sites_in, found_
 use Rattle.sites.proofs.Put.{put_put, put_nil, length_put}
 use Rattle.site_body.proofs.Bodies.{found_some, found_none}
 use Rattle.sheet_ended.specs.declared.EndedSets.{EndedSets}
-use Rattle.sheet_ended.specs.Sets.{no_sets, verdict_as, may_begin, edge_from, edges_from, marked_by, recs_with, fits_set, one_more, with_set, terms_text, to_or, end_room, found_text, said_at, written_after}
+use Rattle.sheet_ended.specs.Sets.{no_sets, verdict_as, may_begin, edge_from, edges_from, recs_with, fits_set, with_set, terms_text, to_or, end_room, found_text, said_at, written_after}
 
 -- ---- no set
 pub none_ended : ◌≡◌ {A = EndedSets} (record { sets = 0; kept = 0; used = 0 ∷ 0 ∷ 0 ∷ 0 ∷ []; recs = 0 ∷ 0 ∷ 0 ∷ 0 ∷ [] }) no_sets

@@ -1,5 +1,5 @@
 -- What the code holds of the sets that were ended is what the paper holds; and what the paper's open set is when it is ended.
-use Rattle.std.specs.Prelude.{◌≡◌, false, List, [], ◌∷◌, ◌++◌, map, ℕ, ◌+◌, ◌*◌, ◌≤◌, ◌<◌, length, eqb}
+use Rattle.std.specs.Prelude.{◌≡◌, false, [], ◌∷◌, ◌++◌, map, ℕ, ◌+◌, ◌*◌, ◌≤◌, ◌<◌, length, eqb}
 use Rattle.paper.specs.Words.{any}
 use Rattle.paper.specs.Numbers.{max_sets, max_rules, max_term}
 use Rattle.paper.specs.Sites.{Sound}

@@ -1,6 +1,5 @@
 -- The sets that were ended, as the code holds them, and what is asked of them.
-use Rattle.std.specs.Prelude.{◌≡◌, Bool, true, false, ◌&&◌, not, List, [], ◌∷◌, ◌++◌, map, ℕ, zero, suc, ◌+◌, ◌*◌, ◌/◌, length, eqb, ltb, leb}
-use Rattle.paper.specs.declared.Refusal.{Refusal}
+use Rattle.std.specs.Prelude.{Bool, ◌&&◌, not, List, ◌++◌, map, ℕ, suc, ◌+◌, ◌*◌, ◌/◌, length, eqb, ltb, leb}
 use Rattle.paper.specs.declared.Verdict.{Verdict}
 use Rattle.paper.specs.declared.Verdict.TheVariants.{Fine, Refused}
 use Rattle.paper.specs.declared.Refusal.TheVariants.{Repeated, TooManySets, TermTooHigh}

@@ -1,5 +1,4 @@
 use Rattle.sheet_ended.proofs.Laws.{edge_none, edge_some}
-use borrow.Author.Rules.{rules}
 use Rattle.sheet_ended.proofs.add_edge.Goals as goal
 
 pub returns-in_default : goal.returns-in_default

@@ -1,11 +1,8 @@
 use mathlib.Core.Path.{◌≡◌}
 use Prim.Native.Nat.{◌-◌, ◌≤◌}
-use native.Mathlib.Omega.{arith}
-use borrow.Author.Rules.{rules}
 use Rattle.term_table.specs.Table.{with_edges}
 use Rattle.sites.specs.Slots.{sites_in}
 use Rattle.sheet_ended.specs.Sets.{edges_from}
-use Rattle.sheet_ended.proofs.Laws.{edges_none, edges_turn, edges_done}
 use Rattle.sheet_ended.proofs.add_edges.Given as goal
 
 abbrev pub invariant-loop-i : goal.invariant-loop-i

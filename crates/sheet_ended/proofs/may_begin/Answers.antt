@@ -1,6 +1,5 @@
 use native.Mathlib.Omega.{arith}
 use Rattle.sheet_ended.proofs.Laws.{begins_used, begins_many, begins_high, begins_fine}
-use borrow.Author.Rules.{rules}
 use Rattle.sheet_ended.proofs.may_begin.Goals as goal
 
 pub returns-then-has_term : goal.returns-then-has_term

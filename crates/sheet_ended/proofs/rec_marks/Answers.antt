@@ -1,5 +1,4 @@
 use Rattle.sheet_ended.proofs.Laws.{recs_not, recs_so}
-use borrow.Author.Rules.{rules}
 use Rattle.sheet_ended.proofs.rec_marks.Goals as goal
 
 pub returns-then-flags-ne1 : goal.returns-then-flags-ne1

@@ -1,5 +1,4 @@
 use Rattle.sheet_ended.proofs.Laws.{set_many, set_rules, set_kept, set_more}
-use borrow.Author.Rules.{rules}
 use Rattle.sheet_ended.proofs.with_set.Goals as goal
 
 pub returns-then-e-ge-SETS : goal.returns-then-e-ge-SETS

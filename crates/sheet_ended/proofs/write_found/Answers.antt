@@ -1,6 +1,5 @@
 use native.Mathlib.Omega.{arith}
 use Rattle.sheet_ended.proofs.Laws.{no_room, all_found, terms_fit}
-use borrow.Author.Rules.{rules}
 use Rattle.sheet_ended.proofs.write_found.Goals as goal
 
 pub returns-then-room-lt-END_ROOM : goal.returns-then-room-lt-END_ROOM

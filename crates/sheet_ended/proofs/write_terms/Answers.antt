@@ -1,7 +1,5 @@
-use Prim.Native.Nat.{◌-◌, ◌≤◌}
 use native.Mathlib.Omega.{arith}
-use borrow.Author.Rules.{rules}
-use Rattle.sheet_ended.proofs.Laws.{Listing, listing_none, listing_turn, listing_done}
+use Rattle.sheet_ended.proofs.Laws.{listing_none, listing_turn, listing_done}
 use Rattle.sheet_ended.proofs.write_terms.Goals as goal
 
 pub loop-k-init : goal.loop-k-init
