@@ -16,7 +16,7 @@ use Rattle.paper.proofs.Making.{load_sound}
 use Rattle.meaning.specs.Grow.{input_part, input_more}
 use Rattle.meaning.specs.RuleSites.{rule_sites, FourOrSix, OnlyFourOrSix, SameOn}
 use Rattle.meaning.specs.Answers as A
-use Rattle.meaning.specs.Demand3.{Keeps, HoldsEqual, demand_2, demand_2_old, demand_3, demand_4}
+use Rattle.meaning.specs.Demand3.{Keeps, HoldsEqual, demand_2, demand_2_old}
 
 -- A kept rule has a matching input.
 pub kept_matched : (g : Set) (r : Written) (h : Set) (k : Kept) → Sound g.sites → Keeps g r h k → (at : Given) × Input h.sites at × Matches at r.items
@@ -95,9 +95,9 @@ module _ (g g' : Set) (r r' : Written) (h h' : Set) (k k' : Kept) (S : Sound g.s
   -- and an old site has the same constraint in both
   pub grew_constraints : (n : ℕ) (c : Constraint) → n < length g.sites → (look k.constraints n ≡ some c) ↔ (look k'.constraints n ≡ some c)
   grew_constraints n c inside =
-      let x = demand_3 g r h k S K n c in
+      let x = A.shapes g r S h k K.loaded K.last n c in
       let y : (look k'.constraints n ≡ some c) ↔ ((at : Given) → Input h'.sites at → Matches at r.items → Meets at n c) =
-      rw one-rule at (demand_3 g' r' h' k' S' K' n c) in (
+      rw one-rule at (A.shapes g' r' S' h' k' K'.loaded K'.last n c) in (
         λ e. y.1 (λ at' I M.
             let w = from_h' at' I in
             moved w.0 at' (sym (w.2 n inside)) (x.0 e w.0 w.1 (across at' w.0 w.2 M))),
@@ -114,9 +114,9 @@ module _ (g g' : Set) (r r' : Written) (h h' : Set) (k k' : Kept) (S : Sound g.s
       look k'.constraints a ≡ none → look k'.constraints b ≡ none →
       HoldsEqual k a b ↔ HoldsEqual k' a b
   grew_equal a b la lb d p q p' q' =
-      let x = demand_4 g r h k S K a b d p q in
+      let x = A.equals g r S h k K.loaded K.last a b d p q in
       let y : HoldsEqual k' a b ↔ ((at : Given) → Input h'.sites at → Matches at r.items → Agree at a b) =
-      rw one-rule at (demand_4 g' r' h' k' S' K' a b d p' q') in (
+      rw one-rule at (A.equals g' r' S' h' k' K'.loaded K'.last a b d p' q') in (
         λ e. y.1 (λ at' I M.
             let w = from_h' at' I in
             moved w.0 at' (sym (w.2 a la)) (sym (w.2 b lb)) (x.0 e w.0 w.1 (across at' w.0 w.2 M))),

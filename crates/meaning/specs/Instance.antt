@@ -18,8 +18,10 @@ use Rattle.paper.specs.Loading.{Set, Written, Kept, load, Made, begun, site_adde
 use Rattle.paper.proofs.Making.{made_sound}
 use Rattle.paper.proofs.Labels.{never}
 use Rattle.paper.specs.Rules.{all_rules}
-use Rattle.meaning.specs.Overlaps.{no_means, subset_exactly, Answers, masked_silent}
-use Rattle.meaning.specs.Demand3.{Unmatched, Keeps, demand_1, demand_2, demand_3, demand_4}
+use Rattle.meaning.specs.Answers as A
+use Rattle.meaning.specs.Pairs.{masks_covers}
+use Rattle.meaning.specs.Overlaps.{no_means, subset_exactly, Answers}
+use Rattle.meaning.specs.Demand3.{Unmatched, Keeps, demand_2}
 
 -- "Sites 0 and 1 are Arguments 0 and 1."
 abbrev two_arguments : Set
@@ -55,23 +57,23 @@ pair_keeps = record { loaded = refl; last = refl }
 -- every matching input has a structure of two fields at site 1, which no item constrains
 pub pair_shape : (at : Given) → Input pair_set.sites at → Matches at pair_rule.items → Meets at 1 (Struct 7 2)
 unfolding look
-pair_shape = (demand_3 two_arguments pair_rule pair_set pair_kept sound pair_keeps 1 (Struct 7 2)).0 refl
+pair_shape = (A.shapes two_arguments pair_rule sound pair_set pair_kept pair_keeps.loaded pair_keeps.last 1 (Struct 7 2)).0 refl
 
 -- and equal first fields, sites 2 and 4
 pub pair_fields : (at : Given) → Input pair_set.sites at → Matches at pair_rule.items → Agree at 2 4
 unfolding look
 pair_fields =
-    (demand_4 two_arguments pair_rule pair_set pair_kept sound pair_keeps 2 4 (λ e. let z : ◌≡◌ {A = ℕ} 0 1 = cc in omega arith) refl refl).0 (2, refl, refl)
+    (A.equals two_arguments pair_rule sound pair_set pair_kept pair_keeps.loaded pair_keeps.last 2 4 (λ e. let z : ◌≡◌ {A = ℕ} 0 1 = cc in omega arith) refl refl).0 (2, refl, refl)
 
 -- but no shape there, and not the first field equal to the second
 pub pair_no_shape : (c : Constraint) → ((at : Given) → Input pair_set.sites at → Matches at pair_rule.items → Meets at 2 c) → ⊥
 unfolding look
-pair_no_shape c h = never ((demand_3 two_arguments pair_rule pair_set pair_kept sound pair_keeps 2 c).1 h)
+pair_no_shape c h = never ((A.shapes two_arguments pair_rule sound pair_set pair_kept pair_keeps.loaded pair_keeps.last 2 c).1 h)
 
 pub pair_no_equal : ((at : Given) → Input pair_set.sites at → Matches at pair_rule.items → Agree at 2 3) → ⊥
 unfolding look
 pair_no_equal h =
-    let w = (demand_4 two_arguments pair_rule pair_set pair_kept sound pair_keeps 2 3 (λ e. omega arith) refl refl).1 h in
+    let w = (A.equals two_arguments pair_rule sound pair_set pair_kept pair_keeps.loaded pair_keeps.last 2 3 (λ e. omega arith) refl refl).1 h in
     let a : some 2 ≡ some w.0 = w.1 in
     let b : some 3 ≡ some w.0 = w.2 in
     let z : ◌≡◌ {A = ℕ} 2 3 = cc in
@@ -116,8 +118,7 @@ circle_refused = refl
 -- so no finite input matches it
 pub circle_unmatched : Unmatched two_arguments circle_rule
 unfolding number
-circle_unmatched = (demand_1 two_arguments circle_rule sound (λ x e. let q : refused x ≡ refused (Endless 0) = sym e ∙ circle_refused in
-    let z : Endless 0 ≡ x = cc in rw (← z) (inr refl))).0 (Endless 0, circle_refused, inr refl)
+circle_unmatched = A.refused_unmatched two_arguments circle_rule sound (Endless 0) circle_refused (inr refl)
 
 -- ---- 01's sheet given whole: rule 10 (priority 1) is "0 is 5", rule 20 (priority 0) is "0 is 5 and 1 is true"; and a rule 30, "0 is 6"
 
@@ -156,4 +157,8 @@ sheet_subset = (subset_exactly sheet_set sheet_made kept_10 kept_20 (Memᴰ.head
 -- "13 0000000A 0001 00000014": so rule 20 never answers
 pub sheet_silent : (at : Given) → Answers sheet_set.kept at kept_20 → ⊥
 unfolding all_rules
-sheet_silent = masked_silent sheet_set.kept kept_10 kept_20 (Memᴰ.head refl) refl
+sheet_silent at w =
+    let c = masks_covers kept_10 kept_20 refl in
+    let h = w.1 kept_10 (Memᴰ.head refl) (c.1 at w.0) in
+    let l = c.0 in
+    omega arith
