@@ -20,7 +20,7 @@ use tell_text::{put, put_text};
 use term_table::WORDS;
 use widths::size16;
 
-#[derive(Drop)]
+#[derive(Clone, Copy)]
 pub enum How {
     Check,
     Explain,
