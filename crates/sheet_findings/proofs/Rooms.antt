@@ -1,10 +1,10 @@
 -- Laws of lines in lent memory.
 use mathlib.Core.Path.{◌≡◌, refl, sym, ap, ◌∙◌}
-use mathlib.Core.Bool.{Bool, true, false}
+use mathlib.Core.Bool.{true, false}
 use mathlib.Core.List.{List, [], ◌∷◌, ◌++◌}
-use Prim.Native.Nat.{ℕ, zero, suc, ◌+◌, ◌-◌, ◌*◌, ◌/◌, ◌%◌, ◌≤◌, ◌<◌}
+use Prim.Native.Nat.{ℕ, zero, suc, ◌+◌, ◌*◌, ◌/◌, ◌%◌, ◌≤◌, ◌<◌}
 use native.Mathlib.Omega.{arith}
-use lib.ListN.{length, get_or, take, drop, set, length-append, length-set}
+use lib.ListN.{length, get_or, take, drop, set, length-append}
 use lib.Seq.{sets, paste, paste-zero, paste-suc, take_at, get_or_at}
 use lib.Dec.{leb}
 use borrow.Author.Tests.{le-leb, lt-leb}

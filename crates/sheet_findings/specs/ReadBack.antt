@@ -1,9 +1,8 @@
 -- A finding's line is read back: it is one line of upper-case hexadecimal, and its digits write the finding's bytes.
-use Rattle.std.specs.Prelude.{◌≡◌, refl, Bool, true, false, ◌&&◌, List, [], ◌∷◌, ◌++◌, ℕ, zero, suc, ◌+◌, ◌-◌, ◌*◌, ◌/◌, ◌%◌, ◌≤◌, ◌<◌, eqb, ltb}
-use Rattle.std.proofs.Common.{sym, ap, ◌∙◌, arith, lt-ltb, le-ltb, ne_eqb, ltb-true, ltb-false}
-use Rattle.std.proofs.Math.Option.{Option, none, some}
-use Rattle.std.specs.Prelude.{if◌then◌else◌}
-use Rattle.paper.specs.Layout.{Lines, line, lines, push, digit, digit_of, with_byte, bytes, hex}
+use Rattle.std.specs.Prelude.{◌≡◌, refl, Bool, true, false, List, [], ◌∷◌, ◌++◌, ℕ, ◌+◌, ◌*◌, ◌/◌, ◌%◌, ◌≤◌, ◌<◌, eqb, ltb}
+use Rattle.std.proofs.Common.{arith, lt-ltb, le-ltb, ne_eqb, ltb-true, ltb-false}
+use Rattle.std.proofs.Math.Option.{some}
+use Rattle.paper.specs.Layout.{line, lines, digit, digit_of, bytes, hex}
 use Rattle.sheet_findings.specs.Written.{digits_of}
 
 abbrev pub AllBytes : List ℕ → Type 0

@@ -1,6 +1,5 @@
 use mathlib.Core.Path.{sym, ap}
 use Rattle.paper.specs.Numbers.{number}
-use borrow.Author.Rules.{rules}
 use Rattle.sheet_findings.proofs.number_of.Goals as goal
 
 pub returns-in-Layout : goal.returns-in-Layout

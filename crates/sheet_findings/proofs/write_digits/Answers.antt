@@ -1,9 +1,5 @@
-use mathlib.Core.Path.{◌≡◌, refl}
-use Prim.Native.Nat.{◌≤◌, ◌-◌, ◌*◌}
+use mathlib.Core.Path.{refl}
 use native.Mathlib.Omega.{arith}
-use lib.ListN.{length}
-use lib.Seq.{paste}
-use Rattle.sheet_digits.specs.Digits.{digits_of}
 use Rattle.sheet_findings.proofs.Rooms.{none_written, byte_written, all_written}
 use Rattle.sheet_findings.proofs.write_digits.Goals as goal
 

@@ -1,10 +1,8 @@
-use mathlib.Core.Path.{◌≡◌, refl}
+use mathlib.Core.Path.{◌≡◌}
 use Prim.Native.Nat.{◌≤◌, ◌-◌, ◌*◌}
-use native.Mathlib.Omega.{arith}
 use lib.ListN.{length}
 use lib.Seq.{paste}
 use Rattle.sheet_digits.specs.Digits.{digits_of}
-use Rattle.sheet_findings.proofs.Rooms.{none_written, byte_written, all_written}
 use Rattle.sheet_findings.proofs.write_digits.Given as goal
 
 abbrev pub invariant-loop-j : goal.invariant-loop-j

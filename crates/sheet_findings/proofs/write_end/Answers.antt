@@ -1,6 +1,5 @@
 use Rattle.paper.specs.Words.{two}
 use Rattle.sheet_findings.specs.Written.{ended_found}
-use borrow.Author.Rules.{rules}
 use Rattle.sheet_findings.proofs.write_end.Goals as goal
 
 pub returns : goal.returns

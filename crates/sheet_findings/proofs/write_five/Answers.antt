@@ -1,6 +1,5 @@
 use Rattle.paper.specs.Words.{four}
 use Rattle.sheet_findings.specs.Written.{five_found}
-use borrow.Author.Rules.{rules}
 use Rattle.sheet_findings.proofs.write_five.Goals as goal
 
 pub returns : goal.returns

@@ -1,7 +1,6 @@
 use native.Mathlib.Omega.{arith}
 use lib.ListN.{length-set}
 use Rattle.sheet_findings.proofs.Rooms.{short_room, long_room}
-use borrow.Author.Rules.{rules}
 use Rattle.sheet_findings.proofs.write_line.Goals as goal
 
 pub returns-then-out-at : goal.returns-then-out-at

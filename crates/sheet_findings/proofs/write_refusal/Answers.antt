@@ -1,5 +1,4 @@
 use Rattle.sheet_findings.proofs.Rooms.{same_line, refusal_is}
-use borrow.Author.Rules.{rules}
 use Rattle.sheet_findings.proofs.write_refusal.Goals as goal
 
 pub returns : goal.returns

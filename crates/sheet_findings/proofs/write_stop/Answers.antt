@@ -1,5 +1,4 @@
 use Rattle.sheet_findings.proofs.Rooms.{same_line, stop_is}
-use borrow.Author.Rules.{rules}
 use Rattle.sheet_findings.proofs.write_stop.Goals as goal
 
 pub returns : goal.returns

@@ -1,6 +1,5 @@
 use Rattle.paper.specs.Words.{two}
 use Rattle.paper.specs.Sheets.{term_found}
-use borrow.Author.Rules.{rules}
 use Rattle.sheet_findings.proofs.write_term.Goals as goal
 
 pub returns : goal.returns
