@@ -6,159 +6,150 @@ use paper::{Constraint, Item};
 use sheet_findings::Room;
 use sheet_frames::Frame;
 use sheet_lines::{Ends, Held};
+use std::io::{self, Read};
 
-const OUT: i32 = 1;
-
-fn field(n: u64) {
-    io::write_all(OUT, b" ");
-    io::print_decimal(OUT, n);
+fn field<W: io::Write>(output: &mut W, n: u64) -> io::Result<()> {
+    write!(output, " {n}")
 }
 
-fn show_constraint(c: Constraint) {
+fn show_constraint<W: io::Write>(output: &mut W, c: Constraint) -> io::Result<()> {
     match c {
         Constraint::Variant {
             ty,
             variant,
             fields,
         } => {
-            io::write_all(OUT, b" variant");
-            field(ty as u64);
-            field(variant as u64);
-            field(fields as u64);
+            output.write_all(b" variant")?;
+            field(output, u64::from(ty))?;
+            field(output, u64::from(variant))?;
+            field(output, u64::from(fields))
         }
         Constraint::Struct { ty, fields } => {
-            io::write_all(OUT, b" struct");
-            field(ty as u64);
-            field(fields as u64);
+            output.write_all(b" struct")?;
+            field(output, u64::from(ty))?;
+            field(output, u64::from(fields))
         }
         Constraint::ConstBool { ty, val } => {
-            io::write_all(OUT, b" bool");
-            field(ty as u64);
-            field(val as u64);
+            output.write_all(b" bool")?;
+            field(output, u64::from(ty))?;
+            field(output, val as u64)
         }
         Constraint::ConstInt { ty, high, low } => {
-            io::write_all(OUT, b" int");
-            field(ty as u64);
-            field(high);
-            field(low);
+            output.write_all(b" int")?;
+            field(output, u64::from(ty))?;
+            field(output, high)?;
+            field(output, low)
         }
         Constraint::ConstPrim { val } => {
-            io::write_all(OUT, b" prim");
-            field(val as u64);
+            output.write_all(b" prim")?;
+            field(output, val as u64)
         }
-        Constraint::Some => {
-            io::write_all(OUT, b" some");
-        }
+        Constraint::Some => output.write_all(b" some"),
     }
 }
 
-fn show_item(i: Item) {
+fn show_item<W: io::Write>(output: &mut W, i: Item) -> io::Result<()> {
     match i {
         Item::Is { site, constraint } => {
-            io::write_all(OUT, b"04");
-            field(site as u64);
-            show_constraint(constraint);
+            output.write_all(b"04")?;
+            field(output, u64::from(site))?;
+            show_constraint(output, constraint)
         }
         Item::Equal { one, other } => {
-            io::write_all(OUT, b"05");
-            field(one as u64);
-            field(other as u64);
+            output.write_all(b"05")?;
+            field(output, u64::from(one))?;
+            field(output, u64::from(other))
         }
     }
 }
 
 // The body of a site, as digits, with the end of the line.
-fn show_body(s: &[u8]) {
+fn show_body<W: io::Write>(output: &mut W, s: &[u8]) -> io::Result<()> {
     let mut out = [0u8; 80];
     let room = sheet_findings::write_line(s, &mut out, 0);
     let Room::To(e) = room else {
-        return;
+        return Ok(());
     };
-    io::write_all(OUT, b"02 ");
-    if e <= 80 {
-        io::write_all(OUT, &out[..e]);
+    output.write_all(b"02 ")?;
+    if 80 < e {
+        return Ok(());
     }
+    output.write_all(&out[..e])
 }
 
-fn show(line: &[u8]) {
+fn show<W: io::Write>(output: &mut W, line: &[u8]) -> io::Result<()> {
     let got = sheet_frames::read_line(line);
     let n = got.length;
     let bytes = got.bytes;
     let frame = got.frame;
     match frame {
         Frame::Begin { term, flags } => {
-            io::write_all(OUT, b"01");
-            field(term as u64);
-            field(flags as u64);
+            output.write_all(b"01")?;
+            field(output, u64::from(term))?;
+            field(output, u64::from(flags))?;
         }
         Frame::Site => {
-            if 1 <= n {
-                show_body(&bytes[1..n]);
+            if n == 0 {
+                return Ok(());
             }
-            return;
+            return show_body(output, &bytes[1..n]);
         }
         Frame::Rule {
             place,
             priority,
             count,
         } => {
-            io::write_all(OUT, b"03");
-            field(place as u64);
-            field(priority);
-            field(count as u64);
+            output.write_all(b"03")?;
+            field(output, u64::from(place))?;
+            field(output, priority)?;
+            field(output, u64::from(count))?;
         }
-        Frame::Item(i) => {
-            show_item(i);
-        }
-        Frame::End => {
-            io::write_all(OUT, b"06");
-        }
-        Frame::Wrong => {
-            io::write_all(OUT, b"bad");
-        }
+        Frame::Item(i) => show_item(output, i)?,
+        Frame::End => output.write_all(b"06")?,
+        Frame::Wrong => output.write_all(b"bad")?,
     }
-    io::write_all(OUT, b"\n");
+    output.write_all(b"\n")
 }
 
-fn show_held(h: Held) {
+fn show_held<W: io::Write>(output: &mut W, h: Held) -> io::Result<()> {
     let n = h.length;
     let bytes = h.bytes;
     if sheet_lines::HELD < n {
-        return;
+        return Ok(());
     }
-    show(&bytes[..n]);
+    show(output, &bytes[..n])
 }
 
 // A piece: shows the lines that end in it, and answers what is held of the next.
-fn feed(h: Held, s: &[u8]) -> Held {
+fn feed<W: io::Write>(output: &mut W, h: Held, s: &[u8]) -> io::Result<Held> {
     let mut held = h;
     let mut at = 0;
     while at <= s.len() {
         let end = sheet_lines::line_end(s, at);
         let Ends::At(e) = end else {
-            return sheet_lines::hold(held, &s[at..]);
+            return Ok(sheet_lines::hold(held, &s[at..]));
         };
         let line = sheet_lines::hold(held, &s[at..e]);
-        show_held(line);
-        let none = sheet_lines::nothing();
-        held = none;
+        show_held(output, line)?;
+        held = sheet_lines::nothing();
         at = e + 1;
     }
-    held
+    Ok(held)
 }
 
-fn main() {
+fn main(rt: HostRuntime) -> io::Result<()> {
+    let mut input = rt.stdin();
+    let mut output = rt.stdout();
     let mut held = sheet_lines::nothing();
     let mut turns = u64::MAX;
     while turns > 0 {
         let mut buf = [0u8; 48];
-        let got = libc::read(0, &mut buf);
-        if got <= 0 {
-            return;
+        let n = input.read(&mut buf)?;
+        if n == 0 {
+            return Ok(());
         }
-        let n = io::count(got, &buf);
-        let next = feed(held, &buf[..n]);
-        held = next;
+        held = feed(&mut output, held, &buf[..n])?;
         turns -= 1;
     }
+    Ok(())
 }
