@@ -11,8 +11,12 @@
 
 use paper::{CONSTRAINED, EQUALS, RULES};
 use rule_words::STRIDE;
+use std::io::{self, Read};
 use tell_plan::{put_check, put_plan};
 use widths::word8;
+
+// So much of the input is read.
+const TEXT: u64 = 65536;
 
 // The words of a set's kept rules, and of the constraints of a rule, three to a constraint.
 const KEPT_ROOM: usize = RULES * STRIDE;
@@ -71,7 +75,7 @@ fn digit(x: u8) -> u64 {
 
 fn with_digit(s: State, v: u64) -> State {
     State {
-        value: std::num::wrapping_add_u64((s.value % 1152921504606846976) * 16, v),
+        value: ((s.value % 1152921504606846976) * 16).wrapping_add(v),
         a: s.a,
         b: s.b,
         c: s.c,
@@ -208,21 +212,33 @@ fn propose(s: State, priorities: &mut [u64]) -> State {
     with_proposed(s, n + 1)
 }
 
-fn show(room: &[u8], k: usize) {
-    if k <= room.len() {
-        io::write_all(1, &room[..k]);
+fn show<W: io::Write>(output: &mut W, room: &[u8], k: usize) -> io::Result<()> {
+    if room.len() < k {
+        return Ok(());
     }
+    output.write_all(&room[..k])
 }
 
-fn planned(s: State, words: &[u64], room: &mut [u8]) {
+fn planned<W: io::Write>(
+    output: &mut W,
+    s: State,
+    words: &[u64],
+    room: &mut [u8],
+) -> io::Result<()> {
     let k = put_plan(room, 0, 0, words, s.rules, (s.d % 256) as u8);
-    show(room, k);
+    show(output, room, k)
 }
 
-fn checked(s: State, words: &[u64], priorities: &[u64], room: &mut [u8]) {
+fn checked<W: io::Write>(
+    output: &mut W,
+    s: State,
+    words: &[u64],
+    priorities: &[u64],
+    room: &mut [u8],
+) -> io::Result<()> {
     let n = s.proposed;
     if n > priorities.len() {
-        return;
+        return Ok(());
     }
     let k = put_check(
         room,
@@ -233,10 +249,11 @@ fn checked(s: State, words: &[u64], priorities: &[u64], room: &mut [u8]) {
         (s.d % 256) as u8,
         &priorities[..n],
     );
-    show(room, k);
+    show(output, room, k)
 }
 
-fn step(
+fn step<W: io::Write>(
+    output: &mut W,
     s: State,
     x: u8,
     words: &mut [u64],
@@ -246,41 +263,32 @@ fn step(
     low: &mut [u16],
     priorities: &mut [u64],
     room: &mut [u8],
-) -> State {
+) -> io::Result<State> {
     let v = digit(x);
     if v < 16 {
-        return with_digit(s, v);
+        return Ok(with_digit(s, v));
     }
-    if x == b' ' {
-        return pushed(s);
+    match x {
+        b' ' => Ok(pushed(s)),
+        b'c' => Ok(constrained(s, sites, shapes)),
+        b'e' => Ok(equals(s, equal, low)),
+        b'k' => Ok(keep(s, words, sites, shapes, equal, low)),
+        b'p' => {
+            planned(output, s, words, room)?;
+            Ok(s)
+        }
+        b'a' => Ok(propose(s, priorities)),
+        b'v' => {
+            checked(output, s, words, priorities, room)?;
+            Ok(with_proposed(s, 0))
+        }
+        b'n' => Ok(with_counts(s, 0, 0, 0)),
+        _ => Ok(s),
     }
-    if x == b'c' {
-        return constrained(s, sites, shapes);
-    }
-    if x == b'e' {
-        return equals(s, equal, low);
-    }
-    if x == b'k' {
-        return keep(s, words, sites, shapes, equal, low);
-    }
-    if x == b'p' {
-        planned(s, words, room);
-        return s;
-    }
-    if x == b'a' {
-        return propose(s, priorities);
-    }
-    if x == b'v' {
-        checked(s, words, priorities, room);
-        return with_proposed(s, 0);
-    }
-    if x == b'n' {
-        return with_counts(s, 0, 0, 0);
-    }
-    s
 }
 
-fn run(
+fn run<W: io::Write>(
+    output: &mut W,
     text: &[u8],
     words: &mut [u64],
     sites: &mut [u16],
@@ -289,21 +297,19 @@ fn run(
     low: &mut [u16],
     priorities: &mut [u64],
     room: &mut [u8],
-) {
+) -> io::Result<()> {
     let mut s = begin();
-    let mut i: usize = 0;
-    while i < text.len() {
-        let t = step(
-            s, text[i], words, sites, shapes, equal, low, priorities, room,
-        );
-        s = t;
-        i += 1;
+    for x in text {
+        s = step(
+            output, s, *x, words, sites, shapes, equal, low, priorities, room,
+        )?;
     }
+    Ok(())
 }
 
-fn main() {
-    let mut text = io::large_buffer();
-    let n = io::read_full(0, &mut text);
+fn main(rt: HostRuntime) -> io::Result<()> {
+    let mut text = Vec::new(rt.alloc());
+    rt.stdin().take(TEXT).read_to_end(&mut text)?;
     let mut words = [0u64; KEPT_ROOM];
     let mut sites = [0u16; CONSTRAINED];
     let mut shapes = [0u64; SHAPES_ROOM];
@@ -312,7 +318,8 @@ fn main() {
     let mut priorities = [0u64; PROPOSED];
     let mut room = [0u8; PLAN_ROOM];
     run(
-        &text[..n],
+        &mut rt.stdout(),
+        &text,
         &mut words,
         &mut sites,
         &mut shapes,
@@ -320,5 +327,5 @@ fn main() {
         &mut low,
         &mut priorities,
         &mut room,
-    );
+    )
 }
