@@ -1,6 +1,5 @@
 use borrow.Author.Tests.{not-true, not-false}
 use Rattle.sheet_frames.proofs.Whole.{wrong_read, taken_read, taken_lent, taken_fits}
-use borrow.Author.Rules.{rules}
 use Rattle.sheet_frames.proofs.read_line.Goals as goal
 
 pub returns-then-not-got : goal.returns-then-not-got

@@ -1,7 +1,6 @@
 use borrow.Author.Tests.{not-true, not-false}
 use Rattle.sheet_frames.proofs.Decoded.{bytes_none}
 use Rattle.sheet_frames.proofs.Whole.{taken_bytes}
-use borrow.Author.Rules.{rules}
 use Rattle.sheet_frames.proofs.digits.bytes_of.Goals as goal
 
 pub returns-then-not-t : goal.returns-then-not-t

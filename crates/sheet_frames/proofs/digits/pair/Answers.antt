@@ -1,6 +1,5 @@
 use native.Mathlib.Omega.{arith}
 use Rattle.sheet_frames.proofs.Decoded.{pair_first, pair_second, pair_both}
-use borrow.Author.Rules.{rules}
 use Rattle.sheet_frames.proofs.digits.pair.Goals as goal
 
 pub returns-then-a-ge16 : goal.returns-then-a-ge16

@@ -1,10 +1,6 @@
-use borrow.Author.Rules.{rules}
-use mathlib.Core.Path.{◌≡◌, refl}
-use Prim.Native.Nat.{◌≤◌, ◌-◌, ◌/◌}
+use mathlib.Core.Path.{refl}
 use native.Mathlib.Omega.{arith}
-use lib.ListN.{length}
-use Rattle.sheet_frames.specs.Said.{values_said}
-use Rattle.sheet_frames.proofs.Decoded.{Decoding, decoding_start, decoding_more, decoding_wrong, line_long, line_odd, line_wrong, line_right, taken_none, taken_right}
+use Rattle.sheet_frames.proofs.Decoded.{decoding_start, decoding_more, decoding_wrong, line_long, line_odd, line_wrong, line_right, taken_none, taken_right}
 use Rattle.sheet_frames.proofs.digits.take_bytes.Goals as goal
 
 pub returns-then-n-gt-DIGITS : goal.returns-then-n-gt-DIGITS

@@ -1,10 +1,8 @@
-use borrow.Author.Rules.{rules}
-use mathlib.Core.Path.{◌≡◌, refl}
+use mathlib.Core.Path.{◌≡◌}
 use Prim.Native.Nat.{◌≤◌, ◌-◌, ◌/◌}
-use native.Mathlib.Omega.{arith}
 use lib.ListN.{length}
 use Rattle.sheet_frames.specs.Said.{values_said}
-use Rattle.sheet_frames.proofs.Decoded.{Decoding, decoding_start, decoding_more, decoding_wrong, line_long, line_odd, line_wrong, line_right, taken_none, taken_right}
+use Rattle.sheet_frames.proofs.Decoded.{Decoding}
 use Rattle.sheet_frames.proofs.digits.take_bytes.Given as goal
 
 abbrev pub invariant-loop-j : goal.invariant-loop-j

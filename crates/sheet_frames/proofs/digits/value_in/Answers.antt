@@ -1,6 +1,5 @@
 use native.Mathlib.Omega.{arith}
 use Rattle.sheet_frames.proofs.Values.{value_in, value_low, value_high}
-use borrow.Author.Rules.{rules}
 use Rattle.sheet_frames.proofs.digits.value_in.Goals as goal
 
 pub returns-then-d-lt48 : goal.returns-then-d-lt48

@@ -1,7 +1,6 @@
 use native.Mathlib.Omega.{arith}
 use mathlib.Core.Path.{sym}
 use Rattle.sheet_frames.proofs.Frames.{frame_wrong, t_begin, frame_flags, frame_begin}
-use borrow.Author.Rules.{rules}
 use Rattle.sheet_frames.proofs.layout.begin_of.Goals as goal
 
 pub returns-then-s-ne4 : goal.returns-then-s-ne4

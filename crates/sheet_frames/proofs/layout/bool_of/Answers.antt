@@ -1,7 +1,6 @@
 use native.Mathlib.Omega.{arith}
 use mathlib.Core.Path.{sym}
 use Rattle.sheet_frames.proofs.Frames.{shape_bool, shape_no_bool}
-use borrow.Author.Rules.{rules}
 use Rattle.sheet_frames.proofs.layout.bool_of.Goals as goal
 
 pub returns-then-b-ge2 : goal.returns-then-b-ge2

@@ -1,7 +1,6 @@
 use native.Mathlib.Omega.{arith}
 use mathlib.Core.Path.{sym}
 use Rattle.sheet_frames.proofs.Frames.{frame_wrong, t_equal, equal_said}
-use borrow.Author.Rules.{rules}
 use Rattle.sheet_frames.proofs.layout.equal_of.Goals as goal
 
 pub returns-then-s-ne5 : goal.returns-then-s-ne5

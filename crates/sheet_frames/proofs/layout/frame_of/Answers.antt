@@ -1,6 +1,5 @@
 use mathlib.Core.Path.{sym}
 use Rattle.sheet_frames.proofs.Frames.{frame_none, frame_other}
-use borrow.Author.Rules.{rules}
 use Rattle.sheet_frames.proofs.layout.frame_of.Goals as goal
 
 pub returns-then-s-eq0 : goal.returns-then-s-eq0

@@ -1,5 +1,4 @@
 use Rattle.sheet_frames.proofs.Frames.{shape_int}
-use borrow.Author.Rules.{rules}
 use Rattle.sheet_frames.proofs.layout.int_of.Goals as goal
 
 pub returns : goal.returns

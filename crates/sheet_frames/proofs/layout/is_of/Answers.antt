@@ -2,7 +2,6 @@ use native.Mathlib.Omega.{arith}
 use mathlib.Core.Path.{sym}
 use Rattle.sheet_frames.specs.declared.layout.Shape.TheVariants.{Are, NoShape}
 use Rattle.sheet_frames.proofs.Frames.{frame_short, item_is}
-use borrow.Author.Rules.{rules}
 use Rattle.sheet_frames.proofs.layout.is_of.Goals as goal
 
 pub returns-then-s-lt3 : goal.returns-then-s-lt3

@@ -1,7 +1,6 @@
 use native.Mathlib.Omega.{arith}
 use mathlib.Core.Path.{sym}
 use Rattle.sheet_frames.proofs.Frames.{frame_wrong, t_rule, frame_rule}
-use borrow.Author.Rules.{rules}
 use Rattle.sheet_frames.proofs.layout.rule_of.Goals as goal
 
 pub returns-then-s-ne14 : goal.returns-then-s-ne14

@@ -3,7 +3,6 @@ use mathlib.Core.Path.{◌≡◌, sym}
 use Prim.Native.Nat.{◌≤◌}
 use lib.ListN.{length, get_or}
 use Rattle.sheet_frames.proofs.Frames.{kind_at, shape_none, shape_past, shape_size, shape_variant, shape_struct, shape_prim, shape_some}
-use borrow.Author.Rules.{rules}
 use Rattle.sheet_frames.proofs.layout.shape_of.Goals as goal
 
 pub returns-then-s-eq0 : goal.returns-then-s-eq0

@@ -1,7 +1,6 @@
 use mathlib.Core.Path.{sym}
 use mathlib.Core.Bool.{true, false}
 use Rattle.sheet_frames.proofs.Frames.{site_body_is}
-use borrow.Author.Rules.{rules}
 use Rattle.sheet_frames.proofs.layout.site_of.Goals as goal
 
 pub returns-then-is_body : goal.returns-then-is_body

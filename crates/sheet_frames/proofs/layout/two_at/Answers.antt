@@ -1,5 +1,4 @@
 use Rattle.sheet_frames.proofs.Turns.{two_law}
-use borrow.Author.Rules.{rules}
 use Rattle.sheet_frames.proofs.layout.two_at.Goals as goal
 
 pub returns : goal.returns
