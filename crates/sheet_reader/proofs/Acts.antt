@@ -1,21 +1,16 @@
 -- The two ways to answer a line: the sheet stops, or it goes on.
 use mathlib.Core.Path.{◌≡◌, refl, sym, ap, ◌∙◌}
-use mathlib.Core.Bool.{Bool, true, false}
 use mathlib.Core.List.{List, [], ◌∷◌, append-nil}
-use Prim.Native.Nat.{ℕ, ◌+◌, ◌-◌, ◌≤◌, ◌<◌}
+use Prim.Native.Nat.{ℕ, ◌+◌, ◌≤◌, ◌<◌}
 use native.Mathlib.Omega.{arith}
 use lib.ListN.{length}
-use lib.Dec.{ltb}
 use borrow.Author.Tests.{lt-ltb, le-ltb}
 use Rattle.paper.specs.declared.Refusal.{Refusal}
-use Rattle.std.specs.Prelude.{if◌then◌else◌}
 use Rattle.paper.specs.Words.{joined, four}
-use Rattle.paper.specs.Numbers.{last_line, Outcome, done, refused, ◌>>=◌}
+use Rattle.paper.specs.Numbers.{last_line, Outcome, done, refused}
 use Rattle.paper.specs.Layout.{hex}
-use Rattle.paper.specs.Loading.{written}
 use Rattle.paper.specs.Sheets as paper
 use Rattle.paper.specs.Sheets.{stepped, Open, refusal_found, stop_found}
-use Rattle.paper.proofs.Lists.{no_way}
 use Rattle.sheet_findings.specs.Written.{written_at, room_said, room_after}
 use Rattle.sheet_findings.specs.declared.Room.{Room}
 use Rattle.sheet_lines.specs.Fed.{after_line}

@@ -1,14 +1,11 @@
 -- Where the reader stands, by its variants.
 use mathlib.Core.Path.{◌≡◌}
-use mathlib.Core.List.{[]}
-use Prim.Native.Nat.{ℕ, ◌-◌}
-use native.Mathlib.Omega.{arith}
+use Prim.Native.Nat.{ℕ}
 use Rattle.sheet_reader.specs.Answers.{site_set, rule_set, open_rule}
 use Rattle.sheet_reader.specs.declared.OpenSet.{OpenSet}
 use Rattle.sheet_reader.specs.declared.Awaited.{Awaited}
 use Rattle.sheet_reader.specs.declared.Stands.{Stands}
 use Rattle.sheet_reader.specs.declared.Stands.TheVariants.{Sites, Rules, Items}
-use Rattle.sheet_reader.specs.declared.Where.{Where}
 use Rattle.sheet_reader.specs.declared.Where.TheVariants.{In}
 use Rattle.sheet_reader.specs.declared.Awaits.TheVariants.{Rule}
 

@@ -1,7 +1,7 @@
 -- Where a frame may stand, and what is asked of a set there.
 use mathlib.Core.Path.{◌≡◌, refl, sym, ap}
 use mathlib.Core.List.{List, []}
-use Prim.Native.Nat.{ℕ, zero, suc, ◌-◌}
+use Prim.Native.Nat.{ℕ, zero, suc}
 use native.Mathlib.Omega.{arith}
 use lib.ListN.{length}
 use Rattle.paper.specs.declared.Refusal.TheVariants.{Layout}
@@ -17,7 +17,6 @@ use Rattle.sheet_reader.specs.declared.OpenSet.{OpenSet}
 use Rattle.sheet_reader.specs.declared.Stands.{Stands}
 use Rattle.sheet_reader.specs.declared.Stands.TheVariants.{Outside, Sites, Rules, Items}
 use Rattle.sheet_reader.specs.declared.Event.TheVariants as event
-use Rattle.sheet_reader.specs.declared.Where.{Where}
 use Rattle.sheet_reader.specs.declared.Where.TheVariants.{In, Not}
 
 pub where_not : {A : Type 0} {x : OpenSet} → In x ≡ Not → A

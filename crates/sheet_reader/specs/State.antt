@@ -1,5 +1,5 @@
 -- The paper's reader, out of the code's reader and the lent memory.
-use Rattle.std.specs.Prelude.{List, [], ℕ, ◌+◌, ◌-◌, ◌*◌, ◌≤◌, ◌<◌, min, length}
+use Rattle.std.specs.Prelude.{List, ℕ, ◌+◌, ◌-◌, ◌*◌, ◌≤◌, ◌<◌, min, length}
 use Rattle.paper.specs.Numbers.{max_items, max_sites, max_rules, last_line}
 use Rattle.paper.specs.Loading.{Set, Written}
 use Rattle.paper.specs.Sheets as paper

@@ -1,5 +1,4 @@
 use Rattle.sheet_reader.proofs.Acts.{next_same, next_more}
-use borrow.Author.Rules.{rules}
 use Rattle.sheet_reader.proofs.next_line.Goals as goal
 
 pub returns-then-n-gt-LAST_LINE : goal.returns-then-n-gt-LAST_LINE

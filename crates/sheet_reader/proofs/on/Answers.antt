@@ -1,5 +1,4 @@
 use Rattle.sheet_reader.proofs.Acts.{goes_as}
-use borrow.Author.Rules.{rules}
 use Rattle.sheet_reader.proofs.on.Goals as goal
 
 pub returns : goal.returns

@@ -1,5 +1,4 @@
 use Rattle.sheet_reader.proofs.Small.{at_item}
-use borrow.Author.Rules.{rules}
 use Rattle.sheet_reader.proofs.open_rule.Goals as goal
 
 pub returns-in-Items : goal.returns-in-Items

@@ -1,5 +1,4 @@
 use Rattle.sheet_reader.proofs.Small.{at_rule_1, at_rule_2}
-use borrow.Author.Rules.{rules}
 use Rattle.sheet_reader.proofs.rule_set.Goals as goal
 
 pub returns-in-Sites : goal.returns-in-Sites

@@ -1,5 +1,4 @@
 use Rattle.sheet_reader.proofs.Small.{at_site}
-use borrow.Author.Rules.{rules}
 use Rattle.sheet_reader.proofs.site_set.Goals as goal
 
 pub returns-in-Sites : goal.returns-in-Sites

@@ -1,5 +1,4 @@
 use Rattle.sheet_reader.proofs.Acts.{stops_as}
-use borrow.Author.Rules.{rules}
 use Rattle.sheet_reader.proofs.stop.Goals as goal
 
 pub returns : goal.returns
