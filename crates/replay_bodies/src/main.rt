@@ -3,9 +3,12 @@
 
 ghost use Rattle.std.specs.Prelude.{◌<◌};
 
-use libc::{STDIN_FILENO, STDOUT_FILENO};
 use paper::{Refusal, SITES, UNFOLDING};
 use sites::{Numbered, SLOT, Unfolded};
+use std::io::{self, Read};
+
+// So much of the input is read.
+const TEXT: u64 = 4096;
 
 // A full set.
 const MEMORY: usize = SITES * SLOT;
@@ -35,115 +38,125 @@ fn digit(d: u8) -> u8
     0
 }
 
-fn told(text: &[u8], n: u64) {
-    io::write_all(STDOUT_FILENO, text);
-    io::print_decimal(STDOUT_FILENO, n);
+fn told<W: io::Write>(output: &mut W, text: &str, n: u64) -> io::Result<()> {
+    write!(output, "{text}{n}")
 }
 
-fn refused(r: Refusal) {
-    if let Refusal::Layout { line } = r {
-        told(b"refused 1 line ", line as u64);
-        return;
-    }
-    if let Refusal::Unknown { site } = r {
-        told(b"refused 2 site ", site as u64);
-        return;
-    }
-    if let Refusal::TooManySources { asked, at } = r {
-        told(b"refused 21 sources ", asked as u64);
-        told(b" line ", at as u64);
-        return;
-    }
-    if let Refusal::TermTooHigh { asked } = r {
-        told(b"refused 28 term ", asked as u64);
-        return;
-    }
-    if let Refusal::TooManySites { asked, at } = r {
-        told(b"refused 20 sites ", asked as u64);
-        told(b" line ", at as u64);
-    }
-}
-
-fn show_byte(b: u8) {
-    let pair = [sheet_digits::high_digit(b), sheet_digits::low_digit(b)];
-    io::write_all(STDOUT_FILENO, &pair);
-}
-
-fn show(bytes: &[u8]) {
-    let mut i = 0;
-    while i < bytes.len() {
-        show_byte(bytes[i]);
-        i += 1;
-    }
-}
-
-fn unfolded(m: &[u8], count: u16, site: u16, room: &mut [u8]) {
-    let u = sites::unfold(m, count, site, room);
-    if let Unfolded::Bytes(n) = u {
-        io::write_all(STDOUT_FILENO, b" unfolds ");
-        if n <= room.len() {
-            show(&room[..n]);
+fn refused<W: io::Write>(output: &mut W, r: Refusal) -> io::Result<()> {
+    match r {
+        Refusal::Layout { line } => told(output, "refused 1 line ", u64::from(line)),
+        Refusal::Unknown { site } => told(output, "refused 2 site ", u64::from(site)),
+        Refusal::TooManySources { asked, at } => {
+            told(output, "refused 21 sources ", u64::from(asked))?;
+            told(output, " line ", u64::from(at))
         }
+        Refusal::TermTooHigh { asked } => told(output, "refused 28 term ", u64::from(asked)),
+        Refusal::TooManySites { asked, at } => {
+            told(output, "refused 20 sites ", u64::from(asked))?;
+            told(output, " line ", u64::from(at))
+        }
+        _ => Ok(()),
     }
+}
+
+fn show_byte<W: io::Write>(output: &mut W, b: u8) -> io::Result<()> {
+    let pair = [sheet_digits::high_digit(b), sheet_digits::low_digit(b)];
+    output.write_all(&pair)
+}
+
+fn show<W: io::Write>(output: &mut W, bytes: &[u8]) -> io::Result<()> {
+    for b in bytes {
+        show_byte(output, *b)?;
+    }
+    Ok(())
+}
+
+fn unfolded<W: io::Write>(
+    output: &mut W,
+    m: &[u8],
+    count: u16,
+    site: u16,
+    room: &mut [u8],
+) -> io::Result<()> {
+    let u = sites::unfold(m, count, site, room);
+    let Unfolded::Bytes(n) = u else {
+        return Ok(());
+    };
+    output.write_all(b" unfolds ")?;
+    if room.len() < n {
+        return Ok(());
+    }
+    show(output, &room[..n])
 }
 
 // The count of sites after the line.
-fn line(m: &mut [u8], room: &mut [u8], count: u16, b: &[u8]) -> u16 {
+fn line<W: io::Write>(
+    output: &mut W,
+    m: &mut [u8],
+    room: &mut [u8],
+    count: u16,
+    b: &[u8],
+) -> io::Result<u16> {
     let a = sites::add(m, count, b, 1);
     match a {
         Numbered::Known(i) => {
-            told(b"known ", i as u64);
-            count
+            told(output, "known ", u64::from(i))?;
+            Ok(count)
         }
         Numbered::Fresh(i) => {
-            told(b"new ", i as u64);
+            told(output, "new ", u64::from(i))?;
             if i == 65535 {
-                return count;
+                return Ok(count);
             }
-            unfolded(m, i + 1, i, room);
-            i + 1
+            unfolded(output, m, i + 1, i, room)?;
+            Ok(i + 1)
         }
         Numbered::Refused(r) => {
-            refused(r);
-            count
+            refused(output, r)?;
+            Ok(count)
         }
     }
 }
 
 // One byte of the text: a digit of the line, or its end.
-fn feed(m: &mut [u8], room: &mut [u8], text: &mut [u8], s: State, c: u8) -> State {
+fn feed<W: io::Write>(
+    output: &mut W,
+    m: &mut [u8],
+    room: &mut [u8],
+    text: &mut [u8],
+    s: State,
+    c: u8,
+) -> io::Result<State> {
     let n = s.digits;
     let count = s.count;
     let k = n / 2;
     if text.len() <= k {
-        return s;
+        return Ok(s);
     }
-    if c == 10 {
-        let next = line(m, room, count, &text[..k]);
-        io::write_all(STDOUT_FILENO, b"\n");
-        return State {
+    if c == b'\n' {
+        let next = line(output, m, room, count, &text[..k])?;
+        output.write_all(b"\n")?;
+        return Ok(State {
             count: next,
             digits: 0,
-        };
+        });
     }
     let d = digit(c);
     if n % 2 == 0 {
         text[k] = d * 16;
-        return State {
-            count,
-            digits: n + 1,
-        };
+    } else {
+        text[k] = text[k].wrapping_add(d);
     }
-    text[k] = std::num::wrapping_add_u8(text[k], d);
-    State {
+    Ok(State {
         count,
         digits: n + 1,
-    }
+    })
 }
 
-fn main() {
-    let mut input = io::buffer();
-    let got = io::read_full(STDIN_FILENO, &mut input);
+fn main(rt: HostRuntime) -> io::Result<()> {
+    let mut input = Vec::new(rt.alloc());
+    rt.stdin().take(TEXT).read_to_end(&mut input)?;
+    let mut output = rt.stdout();
     let mut m = [0u8; MEMORY];
     let mut room = [0u8; UNFOLDING];
     let mut text = [0u8; 64];
@@ -151,10 +164,8 @@ fn main() {
         count: 0,
         digits: 0,
     };
-    let mut i = 0;
-    while i < got {
-        let t = feed(&mut m, &mut room, &mut text, s, input[i]);
-        s = t;
-        i += 1;
+    for c in &input {
+        s = feed(&mut output, &mut m, &mut room, &mut text, s, *c)?;
     }
+    Ok(())
 }
