@@ -11,7 +11,11 @@
 use paper::{CONSTRAINED, EQUALS, Overlap, RULES};
 use report::{REPORT_ROOM, Reported};
 use rule_words::STRIDE;
+use std::io::{self, Read};
 use widths::word8;
+
+// So much of the input is read.
+const TEXT: u64 = 65536;
 
 // The words of a set's kept rules, and of the constraints of a rule, three to a constraint.
 const KEPT_ROOM: usize = RULES * STRIDE;
@@ -62,7 +66,7 @@ fn digit(x: u8) -> u64 {
 
 fn with_digit(s: State, v: u64) -> State {
     State {
-        value: std::num::wrapping_add_u64((s.value % 1152921504606846976) * 16, v),
+        value: ((s.value % 1152921504606846976) * 16).wrapping_add(v),
         a: s.a,
         b: s.b,
         c: s.c,
@@ -173,46 +177,42 @@ fn keep(
     with_counts(s, 0, 0, i)
 }
 
-fn compared(s: State, words: &[u64]) {
+fn compared<W: io::Write>(output: &mut W, s: State, words: &[u64]) -> io::Result<()> {
     let o = overlap::may_overlap(words, low32(s.c), low32(s.d));
     match o {
-        Overlap::No => {
-            io::write_all(1, b"No\n");
-        }
-        Overlap::Yes => {
-            io::write_all(1, b"Yes\n");
-        }
-        Overlap::Subset => {
-            io::write_all(1, b"Subset\n");
-        }
+        Overlap::No => output.write_all(b"No\n"),
+        Overlap::Yes => output.write_all(b"Yes\n"),
+        Overlap::Subset => output.write_all(b"Subset\n"),
     }
 }
 
-fn totalled(s: State, words: &[u64]) {
+fn totalled<W: io::Write>(output: &mut W, s: State, words: &[u64]) -> io::Result<()> {
     let t = overlap::total_constraints(words, low32(s.d));
-    io::print_decimal(1, t as u64);
-    io::write_all(1, b"\n");
+    writeln!(output, "{t}")
 }
 
-fn reported(s: State, words: &[u64], room: &mut [u8]) {
+fn reported<W: io::Write>(
+    output: &mut W,
+    s: State,
+    words: &[u64],
+    room: &mut [u8],
+) -> io::Result<()> {
     let r = report::report(words, s.rules, (s.d % 256) as u8, room);
     match r {
         Reported::Done(n) => {
             let k = n as usize;
-            if k <= room.len() {
-                io::write_all(1, &room[..k]);
+            if room.len() < k {
+                return Ok(());
             }
+            output.write_all(&room[..k])
         }
-        Reported::TooManyRules(_) => {
-            io::write_all(1, b"too many rules\n");
-        }
-        Reported::NoRoom => {
-            io::write_all(1, b"no room\n");
-        }
+        Reported::TooManyRules(_) => output.write_all(b"too many rules\n"),
+        Reported::NoRoom => output.write_all(b"no room\n"),
     }
 }
 
-fn step(
+fn step<W: io::Write>(
+    output: &mut W,
     s: State,
     x: u8,
     words: &mut [u64],
@@ -221,39 +221,34 @@ fn step(
     equal: &mut [u16],
     low: &mut [u16],
     room: &mut [u8],
-) -> State {
+) -> io::Result<State> {
     let v = digit(x);
     if v < 16 {
-        return with_digit(s, v);
+        return Ok(with_digit(s, v));
     }
-    if x == b' ' {
-        return pushed(s);
+    match x {
+        b' ' => Ok(pushed(s)),
+        b'c' => Ok(constrained(s, sites, shapes)),
+        b'e' => Ok(equals(s, equal, low)),
+        b'k' => Ok(keep(s, words, sites, shapes, equal, low)),
+        b'o' => {
+            compared(output, s, words)?;
+            Ok(s)
+        }
+        b't' => {
+            totalled(output, s, words)?;
+            Ok(s)
+        }
+        b'p' => {
+            reported(output, s, words, room)?;
+            Ok(with_counts(s, 0, 0, 0))
+        }
+        _ => Ok(s),
     }
-    if x == b'c' {
-        return constrained(s, sites, shapes);
-    }
-    if x == b'e' {
-        return equals(s, equal, low);
-    }
-    if x == b'k' {
-        return keep(s, words, sites, shapes, equal, low);
-    }
-    if x == b'o' {
-        compared(s, words);
-        return s;
-    }
-    if x == b't' {
-        totalled(s, words);
-        return s;
-    }
-    if x == b'p' {
-        reported(s, words, room);
-        return with_counts(s, 0, 0, 0);
-    }
-    s
 }
 
-fn run(
+fn run<W: io::Write>(
+    output: &mut W,
     text: &[u8],
     words: &mut [u64],
     sites: &mut [u16],
@@ -261,19 +256,17 @@ fn run(
     equal: &mut [u16],
     low: &mut [u16],
     room: &mut [u8],
-) {
+) -> io::Result<()> {
     let mut s = begin();
-    let mut i: usize = 0;
-    while i < text.len() {
-        let t = step(s, text[i], words, sites, shapes, equal, low, room);
-        s = t;
-        i += 1;
+    for x in text {
+        s = step(output, s, *x, words, sites, shapes, equal, low, room)?;
     }
+    Ok(())
 }
 
-fn main() {
-    let mut text = io::large_buffer();
-    let n = io::read_full(0, &mut text);
+fn main(rt: HostRuntime) -> io::Result<()> {
+    let mut text = Vec::new(rt.alloc());
+    rt.stdin().take(TEXT).read_to_end(&mut text)?;
     let mut words = [0u64; KEPT_ROOM];
     let mut sites = [0u16; CONSTRAINED];
     let mut shapes = [0u64; SHAPES_ROOM];
@@ -281,12 +274,13 @@ fn main() {
     let mut low = [0u16; EQUALS];
     let mut room = [0u8; REPORT_ROOM];
     run(
-        &text[..n],
+        &mut rt.stdout(),
+        &text,
         &mut words,
         &mut sites,
         &mut shapes,
         &mut equal,
         &mut low,
         &mut room,
-    );
+    )
 }
