@@ -2,7 +2,7 @@
 use mathlib.Core.Path.{◌≡◌, refl, sym, ap, ◌∙◌}
 use mathlib.Core.Bool.{Bool, true, false, not}
 use mathlib.Core.List.{List, []}
-use Prim.Native.Nat.{ℕ, suc, ◌-◌}
+use Prim.Native.Nat.{ℕ, suc}
 use native.Mathlib.Omega.{arith}
 use lib.Dec.{ltb, leb}
 use borrow.Author.Tests.{ltb-true, leb-true, not-true}
@@ -25,7 +25,7 @@ use Rattle.paper.specs.declared.Verdict.TheVariants as verdict
 use Rattle.paper.proofs.Lists.{no_way}
 use Rattle.sheet_ended.specs.Holds.{Holds, Endable}
 use Rattle.sheet_ended.proofs.Holds.{used_is, begun_is}
-use Rattle.sheet_reader.specs.State.{Lent, set_in, stands_in, Fine, Tells}
+use Rattle.sheet_reader.specs.State.{Lent, set_in, stands_in, Tells}
 use Rattle.sheet_reader.specs.Answers.{Acts, Stops, went, act_event, is_outside}
 use Rattle.sheet_reader.specs.declared.OpenSet.{OpenSet}
 use Rattle.sheet_reader.specs.declared.Stands.{Stands}

@@ -1,7 +1,7 @@
 -- 01 and 02: what each return leaves.
-use mathlib.Core.Path.{◌≡◌, refl, sym, ap, ◌∙◌}
+use mathlib.Core.Path.{◌≡◌, sym, ap, ◌∙◌}
 use mathlib.Core.Bool.{Bool, true, false}
-use mathlib.Core.List.{List, []}
+use mathlib.Core.List.{List}
 use Prim.Native.Nat.{ℕ, ◌-◌}
 use lib.ListN.{length, take, drop}
 use lib.Dec.{eqb}
@@ -10,7 +10,6 @@ use Rattle.paper.specs.declared.Refusal.{Refusal}
 use Rattle.paper.specs.declared.Refusal.TheVariants.{Layout, Repeated}
 use Rattle.paper.specs.declared.Verdict.{Verdict}
 use Rattle.paper.specs.declared.Verdict.TheVariants as verdict
-use Rattle.std.specs.Prelude.{if◌then◌else◌}
 use Rattle.paper.proofs.Lists.{rest_of}
 use Rattle.sites.specs.Slots.{added_in, numbered_as, after_add}
 use Rattle.sites.specs.declared.Numbered.{Numbered}
@@ -19,7 +18,7 @@ use Rattle.term_table.specs.Table.{Square}
 use Rattle.sheet_ended.specs.Sets.{verdict_as, may_begin}
 use Rattle.sheet_reader.specs.State.{Lent, lent}
 use Rattle.sheet_reader.specs.Answers.{is_outside, site_set}
-use Rattle.sheet_reader.specs.Leaves.{After, after, gone_on, stop_in}
+use Rattle.sheet_reader.specs.Leaves.{after, gone_on, stop_in}
 use Rattle.sheet_reader.specs.declared.OpenSet.{OpenSet}
 use Rattle.sheet_reader.specs.declared.Reader.{Reader}
 use Rattle.sheet_reader.specs.declared.Event.TheVariants as event

@@ -1,9 +1,7 @@
-use borrow.Author.Tests.{not-true, not-false}
 use mathlib.Core.Path.{refl}
 use Rattle.sheet_reader.proofs.Acts.{stop_stops, on_went}
 use Rattle.sheet_sites.proofs.Leaving.{begins_not, begins_refused, begins_fine}
 use Rattle.sheet_sites.proofs.Begun.{begin_not, begin_refused, begin_fine}
-use borrow.Author.Rules.{rules}
 use Rattle.sheet_sites.proofs.begin_frame.Goals as goal
 
 pub returns-then-not-outside-clause-room_after : goal.returns-then-not-outside-clause-room_after

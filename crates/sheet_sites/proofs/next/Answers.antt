@@ -1,5 +1,4 @@
 use Rattle.sheet_sites.proofs.Small.{next_more, next_same}
-use borrow.Author.Rules.{rules}
 use Rattle.sheet_sites.proofs.next.Goals as goal
 
 pub returns-then-n-lt65535 : goal.returns-then-n-lt65535

@@ -2,7 +2,6 @@ use mathlib.Core.Path.{refl}
 use Rattle.sheet_reader.proofs.Acts.{stop_stops, on_went}
 use Rattle.sheet_sites.proofs.Leaving.{sites_not, sites_known, sites_refused, sites_fresh}
 use Rattle.sheet_sites.proofs.Sited.{site_not, site_known, site_refused, site_fresh}
-use borrow.Author.Rules.{rules}
 use Rattle.sheet_sites.proofs.site_frame.Goals as goal
 
 pub returns-in_default-clause-by_index : goal.returns-in_default-clause-by_index

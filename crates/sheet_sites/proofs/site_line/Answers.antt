@@ -1,6 +1,5 @@
 use Rattle.sheet_sites.proofs.Leaving.{lines_none, lines_body}
 use Rattle.sheet_sites.proofs.Sited.{no_site}
-use borrow.Author.Rules.{rules}
 use Rattle.sheet_sites.proofs.site_line.Goals as goal
 
 pub returns-then-bytes-eq0-clause-by_index : goal.returns-then-bytes-eq0-clause-by_index
