@@ -1,15 +1,12 @@
 -- 03, 04, 05: what each return leaves.
-use mathlib.Core.Path.{◌≡◌, refl, sym, ap, ◌∙◌}
-use mathlib.Core.Bool.{Bool, true, false}
-use mathlib.Core.List.{List, []}
+use mathlib.Core.Path.{◌≡◌, sym, ap, ◌∙◌}
+use mathlib.Core.List.{List}
 use Prim.Native.Nat.{ℕ, ◌-◌, ◌<◌, ◌≤◌}
-use lib.ListN.{length}
 use lib.Dec.{eqb, ltb}
 use borrow.Author.Tests.{eq-eqb, ne_eqb, lt-ltb, le-ltb}
 use Rattle.paper.specs.declared.Item.{Item}
 use Rattle.paper.specs.declared.Refusal.{Refusal}
 use Rattle.paper.specs.declared.Refusal.TheVariants.{Layout}
-use Rattle.std.specs.Prelude.{if◌then◌else◌}
 use Rattle.paper.specs.Layout.{hex}
 use Rattle.paper.specs.Sheets.{refusal_found}
 use Rattle.term_table.specs.Table.{Square}
@@ -22,7 +19,7 @@ use Rattle.sheet_findings.specs.declared.Room.{Room}
 use Rattle.sheet_ended.specs.Sets.{to_or}
 use Rattle.sheet_reader.specs.State.{Lent, lent}
 use Rattle.sheet_reader.specs.Answers.{rule_set, open_rule}
-use Rattle.sheet_reader.specs.Leaves.{After, after, gone_on, stop_in}
+use Rattle.sheet_reader.specs.Leaves.{after, gone_on, stop_in}
 use Rattle.sheet_reader.specs.declared.OpenSet.{OpenSet}
 use Rattle.sheet_reader.specs.declared.Awaited.{Awaited}
 use Rattle.sheet_reader.specs.declared.Reader.{Reader}

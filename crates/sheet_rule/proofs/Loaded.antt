@@ -13,7 +13,7 @@ use Rattle.paper.specs.declared.Rule.{Rule}
 use Rattle.paper.specs.Numbers.{max_rules, max_items, Outcome, done, refused, ◌>>=◌, demand}
 use Rattle.paper.proofs.Outcomes.{done_once, bind_done, demand_done}
 use Rattle.paper.specs.Sites.{Sound}
-use Rattle.paper.specs.Loading.{Written, written, Kept, Set, Loading, Solving, load_items, normalise, with_rule, used, load}
+use Rattle.paper.specs.Loading.{Written, written, Set, Loading, Solving, load_items, normalise, with_rule, used, load}
 use Rattle.paper.proofs.Making.{load_sound}
 use Rattle.sites.specs.Slots.{sites_in}
 use Rattle.rule_words.specs.Stored.{base, kept_first}

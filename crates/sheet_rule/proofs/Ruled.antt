@@ -1,7 +1,7 @@
 -- A rule with all its items: what each return asks.
 use mathlib.Core.Path.{◌≡◌, refl, ap, ◌∙◌}
 use mathlib.Core.List.{List, [], ◌∷◌}
-use Prim.Native.Nat.{ℕ, ◌+◌, ◌-◌, ◌≤◌, ◌<◌, min}
+use Prim.Native.Nat.{ℕ, ◌+◌, ◌≤◌, ◌<◌, min}
 use native.Mathlib.Omega.{arith}
 use lib.ListN.{length}
 use borrow.Author.Tests.{lt-ltb}
@@ -28,7 +28,6 @@ use Rattle.sheet_reader.specs.declared.Stands.TheVariants.{Rules}
 use Rattle.sheet_reader.specs.declared.Reader.{Reader}
 use Rattle.sheet_reader.specs.declared.Event.TheVariants as event
 use Rattle.sheet_reader.specs.declared.Stepped.{Stepped}
-use Rattle.sheet_reader.specs.declared.Awaits.TheVariants.{Rule}
 use Rattle.paper.specs.declared.Rule as declared
 use Rattle.item_words.specs.Items as handed
 use Rattle.item_words.proofs.Laws.{rule_written}

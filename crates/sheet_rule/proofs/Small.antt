@@ -1,8 +1,6 @@
 -- Numbers.
 use mathlib.Core.Path.{◌≡◌}
-use mathlib.Core.List.{[]}
 use Prim.Native.Nat.{ℕ, ◌+◌, ◌-◌, ◌≤◌, ◌<◌}
-use native.Mathlib.Omega.{arith}
 use borrow.Author.Tests.{lt-ltb, le-ltb, le-leb, lt-leb}
 use Rattle.paper.specs.Numbers.{max_rules}
 use Rattle.sheet_rule.specs.Rules.{next_rule_of, minus_of}

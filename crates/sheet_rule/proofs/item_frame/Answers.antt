@@ -2,7 +2,6 @@ use mathlib.Core.Path.{refl}
 use Rattle.sheet_reader.proofs.Acts.{stop_stops, on_went}
 use Rattle.sheet_rule.proofs.Leaving.{items_not, items_last, items_go}
 use Rattle.sheet_rule.proofs.Itemed.{item_not, item_last, item_goes}
-use borrow.Author.Rules.{rules}
 use Rattle.sheet_rule.proofs.item_frame.Goals as goal
 
 pub returns-in_default-clause-room_after : goal.returns-in_default-clause-room_after

@@ -1,5 +1,4 @@
 use Rattle.sheet_rule.proofs.Itemed.{item_past, item_here}
-use borrow.Author.Rules.{rules}
 use Rattle.sheet_rule.proofs.keep_item.Goals as goal
 
 pub returns-then-k-ge-ITEMS : goal.returns-then-k-ge-ITEMS

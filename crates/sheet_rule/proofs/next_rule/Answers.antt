@@ -1,5 +1,4 @@
 use Rattle.sheet_rule.proofs.Small.{rule_more, rule_same}
-use borrow.Author.Rules.{rules}
 use Rattle.sheet_rule.proofs.next_rule.Goals as goal
 
 pub returns-then-n-ge-RULES : goal.returns-then-n-ge-RULES

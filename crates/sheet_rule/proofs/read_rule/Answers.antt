@@ -2,7 +2,6 @@ use mathlib.Core.Path.{refl}
 use Rattle.sheet_reader.proofs.Acts.{on_went}
 use Rattle.sheet_rule.proofs.Leaving.{loads_kept, loads_refused}
 use Rattle.sheet_rule.proofs.Ruled.{reads_kept, reads_refused}
-use borrow.Author.Rules.{rules}
 use Rattle.sheet_rule.proofs.read_rule.Goals as goal
 
 pub returns-in-Kept-clause-room_after : goal.returns-in-Kept-clause-room_after

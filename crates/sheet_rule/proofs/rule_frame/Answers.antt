@@ -2,7 +2,6 @@ use mathlib.Core.Path.{refl}
 use Rattle.sheet_reader.proofs.Acts.{stop_stops, on_went}
 use Rattle.sheet_rule.proofs.Leaving.{rules_not, rules_at_once, rules_await}
 use Rattle.sheet_rule.proofs.Itemed.{rule_not, rule_at_once, rule_awaits}
-use borrow.Author.Rules.{rules}
 use Rattle.sheet_rule.proofs.rule_frame.Goals as goal
 
 pub returns-in_default-clause-room_after : goal.returns-in_default-clause-room_after
