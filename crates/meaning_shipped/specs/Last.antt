@@ -6,11 +6,10 @@ use mathlib.Core.List.{List, [], ◌∷◌, ◌++◌, map, Memᴰ, append_assoc}
 use Rattle.paper.specs.declared.Refusal.{Refusal}
 use Rattle.paper.specs.declared.Refusal.TheVariants.{Layout}
 use Rattle.paper.specs.Numbers.{Outcome, done, refused}
-use Rattle.paper.specs.Loading.{Set}
 use Rattle.paper.specs.Rules.{Listed, report}
 use Rattle.paper.specs.Terms.{cyclic_findings}
 use Rattle.paper.specs.Layout.{Lines, nothing, unended, line, lines}
-use Rattle.paper.specs.Sheets.{Open, outside, at_sites, at_rules, at_items, Ended, Reader, start, Stepped, refusal_found, listed_found, term_found, end_found, stop_found, set_ended, step, sheet_ended, read_on}
+use Rattle.paper.specs.Sheets.{Open, outside, at_sites, at_rules, at_items, Ended, Reader, start, Stepped, listed_found, term_found, end_found, stop_found, set_ended, step, sheet_ended, read_on}
 use Rattle.meaning_shipped.specs.Words.{Reads, found_in, first, next, ClosesSheet}
 use Rattle.meaning_shipped.specs.Reports.{map_from}
 use Rattle.meaning_shipped.specs.Line.{Does, stops, begins, adds, waits, keeps, refuses, ends, step_does}

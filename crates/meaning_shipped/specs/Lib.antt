@@ -1,10 +1,9 @@
--- What the shipped functions' answers mean. Shipped is the page of statements, and Words has its words; the others are proofs.
+-- What the shipped functions' answers mean. Shipped is the page of statements, and Words has its words; the others are proofs. (What rests on lent memory that
+-- calls made, and on the count of rules, stands on the page proofs/Shipped.antt.)
 pub mod Shipped
 pub mod Words
 -- lent memory that calls made
 pub mod Keeping
-pub mod Made
-pub mod Lent
 pub mod Origin
 -- sheets
 pub mod Reports
@@ -15,5 +14,4 @@ pub mod Cycles
 pub mod Counts
 pub mod Last
 pub mod Memory
-pub mod Bytes
 pub mod Text

@@ -29,7 +29,7 @@ use Rattle.meaning.specs.Answers as A
 use Rattle.meaning.specs.Overlaps as O
 use Rattle.meaning_shipped.specs.Words.{sites_now, rule_now, MadeIn, loaded_in}
 use Rattle.meaning_shipped.specs.Keeping.{loaded_so, kept_last}
-use Rattle.meaning_shipped.specs.Made.{made_in}
+use Rattle.meaning_shipped.proofs.Made.{made_in}
 
 -- ---- the kept rules in the words
 run_at : {A : Type 0} (f : ℕ → A) (d : A) (j k i : ℕ) → i < k → get_or (run f j k) i d ≡ f (j + i)

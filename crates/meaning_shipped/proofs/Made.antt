@@ -1,13 +1,11 @@
 -- Lent memory that the calls made: m holds n sites, ws holds k kept rules. It is one of paper's `Made` sets.
-use Rattle.std.specs.Prelude.{◌≡◌, refl, List, ℕ, suc, ◌*◌, ◌<◌, min, length, leb}
+use Rattle.std.specs.Prelude.{◌≡◌, refl, List, ℕ, suc, ◌*◌, ◌<◌, length, leb}
 use Rattle.std.proofs.Common.{sym, ap, ◌∙◌}
 use Rattle.std.proofs.Math.Option.{Option, none, some}
-use Rattle.paper.specs.declared.Item.{Item}
-use Rattle.paper.specs.declared.Item.TheVariants.{Is, Equal}
 use Rattle.paper.specs.declared.Rule.{Rule}
 use Rattle.paper.specs.declared.Refusal.TheVariants.{TooManySites}
 use Rattle.paper.specs.Words.{below}
-use Rattle.paper.specs.Numbers.{max_items, Outcome, done, refused}
+use Rattle.paper.specs.Numbers.{Outcome, done, refused}
 use Rattle.paper.specs.Sites.{Site, Sound, Added, add}
 use Rattle.paper.specs.Loading.{Set, written, Made, begun, site_added, rule_loaded, empty_set, with_sites, with_rule}
 use Rattle.paper.specs.Layout.{whole, site_read}
@@ -17,13 +15,13 @@ use Rattle.rule_words.specs.Stored.{run, kept_first}
 use Rattle.site_slots.specs.Seeking.{slot}
 use Rattle.sites.specs.Slots.{sites_in, held_by, add_body, added_in, after_add}
 use Rattle.sites.proofs.After.{count_add, after_add_is}
-use Rattle.item_words.specs.Items.{Ranged, items_in, rule_in}
-use Rattle.item_words.proofs.Laws.{rule_written, items_ranged}
+use Rattle.item_words.specs.Items.{rule_in}
 use Rattle.rule_load.specs.Whole.{set_in, load_in, sites_after, words_after}
-use Rattle.rule_load.proofs.Ranging.{RuleFits, ItemFits}
+use Rattle.rule_load.proofs.Ranging.{RuleFits}
 use Rattle.rule_load.proofs.Afterwards.{kept_comes, after_sites, after_kept}
 use Rattle.meaning_shipped.specs.Words.{sites_then, rules_then, MadeIn, started, site_in, loaded_in}
 use Rattle.meaning_shipped.specs.Keeping.{loaded_so}
+use Rattle.meaning_shipped.proofs.Handed.{handed_fits}
 
 -- ---- any answer: a refused call changes nothing
 pub after_adding : (m : List ℕ) (n : ℕ) (ws : List ℕ) (k at : ℕ) (b : List ℕ) → MadeIn m n ws k →
@@ -42,24 +40,6 @@ after_loading m n ws k r F M = go (load_in m n ws k r) refl
     go : (o : Outcome Set) → load_in m n ws k r ≡ o → MadeIn (sites_after m n o) (sites_then n o) (words_after ws k o) (rules_then k o)
     go (done g) e = loaded_in r g M F e
     go (refused x) e = M
-
--- A rule whose items cross as words, as C hands it over: its numbers are cut to their widths as they are read. Only the place and the priority are left,
--- a uint32_t and a uint64_t.
-pub handed_fits : (items : List ℕ) (place priority count : ℕ) → place < 4294967296 → priority < 18446744073709551616 →
-    RuleFits (rule_in items place priority count)
-unfolding rule_in
-handed_fits items place priority count p q = record {
-  place = p;
-  priority = q;
-  items = λ i j. item_fits i (items_ranged items (min count max_items) i (rw items_are at j));
-}
-  where
-    item_fits : (i : Item) → Ranged i → ItemFits i
-    item_fits (Is s c) r = r.1
-    item_fits (Equal x y) r = tt
-
-    items_are : (written (rule_in items place priority count)).items ≡ items_in items (min count max_items)
-    items_are = ap (λ x. x.items) (rule_written items place priority count)
 
 pub after_handing : (m : List ℕ) (n : ℕ) (ws : List ℕ) (k : ℕ) (items : List ℕ) (place priority count : ℕ) → place < 4294967296 →
     priority < 18446744073709551616 → MadeIn m n ws k →

@@ -14,7 +14,7 @@ use Rattle.paper.specs.declared.Verdict.{Verdict}
 use Rattle.paper.specs.declared.Verdict.TheVariants as verdict
 use Rattle.std.specs.Prelude.{if◌then◌else◌}
 use Rattle.paper.specs.Numbers.{max_digits, max_rules, last_line, Outcome, done, refused}
-use Rattle.paper.specs.Sites.{Site, Added}
+use Rattle.paper.specs.Sites.{Added}
 use Rattle.paper.specs.Layout as layout
 use Rattle.paper.specs.Layout.{digit, with_byte, bytes, line_bytes, then_read, give, refuse, byte, number_from, two_bytes, four_bytes, eight_bytes, flags_byte, site_read, constraint_read, frame_readers, frame_read, whole, framed, frame_of, begin_set, a_site, a_rule, an_item}
 use Rattle.paper.specs.Loading.{Set}
@@ -60,7 +60,8 @@ use Rattle.sheet_read.specs.Leaves.{Leaves, leaves, fed_to, line_text, line_step
 use Rattle.sheet_read.specs.declared.Fed.{Fed}
 use Rattle.sheet_read.specs.declared.State.{State}
 use Rattle.meaning_shipped.specs.Words.{MadeIn, started, site_in as site-more, loaded_in, MadeAt, FedTo, from_begin, then_fed}
-use Rattle.meaning_shipped.specs.Made.{the_site, handed_fits}
+use Rattle.meaning_shipped.proofs.Made.{the_site}
+use Rattle.meaning_shipped.proofs.Handed.{handed_fits}
 
 -- ---- the numbers of a rule's line: its place has four bytes and its priority eight
 abbrev Small : List ℕ → Type 0
