@@ -2,4 +2,3 @@ pub mod Before
 pub mod Renumbered
 pub mod Old
 pub mod Told
-pub mod Shipped

@@ -13,10 +13,10 @@ use Rattle.paper.specs.declared.Refusal.{Refusal}
 use Rattle.paper.specs.declared.Refusal.TheVariants.{Layout, Repeated, TooManySets, TermTooHigh}
 use Rattle.paper.specs.Words.{any}
 use Rattle.paper.specs.Numbers.{last_line, max_sets, max_term, Outcome, done, refused, ◌>>=◌, demand}
-use Rattle.paper.specs.Sites.{Site, Added, same_site, add}
-use Rattle.paper.specs.Loading.{Written, Set, load, empty_set, with_sites}
+use Rattle.paper.specs.Sites.{Site, same_site, add}
+use Rattle.paper.specs.Loading.{Written, Set, load}
 use Rattle.paper.specs.Rules.{Listed, report}
-use Rattle.paper.specs.Terms.{Head, head_of, edges_of, cyclic_findings}
+use Rattle.paper.specs.Terms.{head_of, edges_of, cyclic_findings}
 use Rattle.paper.specs.Layout.{Lines, nothing, unended, line, Frame, begin_set, a_site, a_rule, an_item, end_set, frame_of}
 use Rattle.paper.specs.Sheets.{Open, outside, at_sites, at_rules, at_items, Ended, Reader, Stepped, stepped, refusal_found, listed_found, term_found, end_found, stop_found, rule_read, items_left, with_item, set_begun, site_read_in, rule_begun, set_ended, item_read, act, act_on, step, sheet_ended, read_on}
 use Rattle.old_numbers.specs.Before.{refusal_by, stop_by, rule_read_by, items_left_by, rule_begun_by, item_read_by, act_by, act_on_by, step_by, sheet_ended_by, read_by}

@@ -1,19 +1,19 @@
 -- [3]: "The number told is above the limit"; "The item told is the first, in item order, that is refused, and all items before it were taken."
-use Rattle.std.specs.Prelude.{◌≡◌, refl, Bool, true, false, ◌&&◌, length, eqb, ltb, leb}
-use Rattle.std.proofs.Common.{sym, ap, ◌∙◌, arith, ltb-false, leb-false}
+use Rattle.std.specs.Prelude.{◌≡◌, refl, Bool, true, false, length, ltb, leb}
+use Rattle.std.proofs.Common.{ap, ◌∙◌, arith, ltb-false, leb-false}
 use Rattle.std.proofs.Math.Bool.{not}
 use Rattle.std.proofs.Math.Option.{Option, none, some}
-use mathlib.Core.List.{List, [], ◌∷◌, ◌++◌, map}
-use Prim.Native.Nat.{ℕ, zero, suc, ◌+◌, ◌<◌, ◌≤◌}
+use mathlib.Core.List.{List, [], ◌∷◌, ◌++◌}
+use Prim.Native.Nat.{ℕ, zero, suc, ◌+◌, ◌<◌}
 use Rattle.paper.specs.declared.Constraint.{Constraint}
 use Rattle.paper.specs.declared.Item.{Item}
 use Rattle.paper.specs.declared.Item.TheVariants.{Is, Equal}
 use Rattle.paper.specs.declared.Refusal.{Refusal}
 use Rattle.paper.specs.declared.Refusal.TheVariants.{Layout, Unknown, Itself, Unreachable, Hanging, Endless, TooManySites, TooManySources, TooManyFields, TooManyRules, TooManyItems, TooManyConstrained, TooManyEqual, TooManySets, TermTooHigh, UnfoldingTooLong, PlaceUsed, Repeated}
-use Rattle.paper.specs.Words.{any, first, look}
+use Rattle.paper.specs.Words.{first, look}
 use Rattle.paper.specs.Numbers.{max_sites, max_sources, max_fields, max_rules, max_items, max_constrained, max_equal, max_sets, max_term, most_rounds, Outcome, done, refused, ◌>>=◌, demand}
-use Rattle.paper.specs.Sites.{Site, Sites, Added, sources, term_of, same_constraint, fields, children, known, number_of, missing_source, term_fits, or_next, add, add_all}
-use Rattle.paper.specs.Loading.{Written, Set, Constraints, Loading, Solving, Labels, Holder, no_items, constrain, load_item, load_items, hanging, closure, holders, first_holder, lowest, conflict, told_4, check_4, steps, endless, no_hanging, no_endless, take_class, members, grow_all, round, rounds, started, normalise, with_rule, used, load}
+use Rattle.paper.specs.Sites.{Site, Sites, sources, term_of, same_constraint, fields, children, known, number_of, missing_source, term_fits, or_next, add, add_all}
+use Rattle.paper.specs.Loading.{Written, Set, Loading, Solving, Labels, Holder, no_items, constrain, load_item, load_items, hanging, closure, holders, first_holder, lowest, conflict, told_4, check_4, steps, endless, no_hanging, no_endless, take_class, members, grow_all, round, rounds, started, normalise, used, load}
 
 -- ---- what is told is above the limit
 

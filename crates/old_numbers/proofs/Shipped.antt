@@ -8,7 +8,8 @@ use Rattle.sheet_findings.specs.Written.{written_at}
 use Rattle.sheet_read.specs.Whole.{Checks}
 use Rattle.sheet_read.specs.declared.Checked.TheVariants as checked
 use Rattle.old_numbers.specs.Before.{old_frame, findings_before}
-use Rattle.old_numbers.specs.Old.{found_in, findings_now, findings_old}
+use Rattle.old_numbers.specs.Old.{found_in, findings_now}
+use Rattle.old_numbers.proofs.Frames.{findings_old}
 
 pub check_old : (sheet m ws i room room' : List ℕ) (n : ℕ) → Checks sheet m ws i room room' (checked.Done n)
     → (room' ≡ written_at room 0 (joined (map hex (found_in sheet)))) × (joined (map hex (map old_frame (found_in sheet))) ≡ findings_before sheet)
