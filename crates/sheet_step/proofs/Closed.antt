@@ -13,7 +13,7 @@ use Rattle.paper.specs.Loading.{Set}
 use Rattle.paper.specs.Sheets as paper
 use Rattle.paper.specs.Sheets.{stepped, outside, set_ended, act, listed_found}
 use Rattle.term_table.specs.Table.{Square}
-use Rattle.sheet_findings.specs.Written.{written_at, room_after}
+use Rattle.sheet_findings.specs.Written.{written_at}
 use Rattle.sites.specs.Slots.{sites_in}
 use Rattle.rule_words.specs.Stored.{kept_first}
 use Rattle.sheet_ended.specs.Holds.{Holds}

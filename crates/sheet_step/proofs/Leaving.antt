@@ -1,14 +1,11 @@
 -- A line: what each return leaves.
-use mathlib.Core.Path.{◌≡◌, refl, sym, ap, ◌∙◌}
-use mathlib.Core.Bool.{Bool, true, false}
-use mathlib.Core.List.{List, []}
-use Prim.Native.Nat.{ℕ, ◌+◌, ◌-◌, ◌<◌, ◌≤◌}
-use lib.ListN.{length, take, drop}
+use mathlib.Core.Path.{◌≡◌, sym, ap, ◌∙◌}
+use mathlib.Core.List.{List}
+use Prim.Native.Nat.{ℕ, ◌+◌, ◌<◌, ◌≤◌}
+use lib.ListN.{length, take}
 use lib.Dec.{leb}
 use borrow.Author.Tests.{le-leb, lt-leb}
-use Rattle.paper.specs.declared.Item.{Item}
 use Rattle.paper.specs.declared.Refusal.TheVariants.{Layout}
-use Rattle.std.specs.Prelude.{if◌then◌else◌}
 use Rattle.paper.specs.Numbers.{last_line}
 use Rattle.term_table.specs.Table.{Square, with_edges}
 use Rattle.sites.specs.Slots.{sites_in}
@@ -16,11 +13,10 @@ use Rattle.sheet_ended.specs.Sets.{edges_from, with_set}
 use Rattle.sheet_ended.specs.declared.EndedSets.{EndedSets}
 use Rattle.sheet_frames.specs.Said.{reading_of}
 use Rattle.sheet_frames.specs.declared.Frame.{Frame}
-use Rattle.sheet_frames.specs.declared.Frame.TheVariants as said
 use Rattle.sheet_frames.specs.declared.Read.{Read}
 use Rattle.sheet_reader.specs.State.{Lent, lent, step_room}
 use Rattle.sheet_reader.specs.Answers.{rule_set, unread}
-use Rattle.sheet_reader.specs.Leaves.{After, after, stop_in}
+use Rattle.sheet_reader.specs.Leaves.{after, stop_in}
 use Rattle.sheet_reader.specs.declared.OpenSet.{OpenSet}
 use Rattle.sheet_reader.specs.declared.Reader.{Reader}
 use Rattle.sheet_reader.specs.declared.Event.TheVariants as event
@@ -29,8 +25,6 @@ use Rattle.sheet_reader.specs.declared.Stepped.{Stepped}
 use Rattle.sheet_reader.specs.declared.Where.{Where}
 use Rattle.sheet_reader.specs.declared.Where.TheVariants.{In, Not}
 use Rattle.sheet_reader.proofs.Leaving.{if_yes, if_no}
-use Rattle.sheet_sites.specs.Leaves.{begin_in, site_line_in}
-use Rattle.sheet_rule.specs.Leaves.{rule_in, item_in}
 use Rattle.sheet_step.specs.Parts.{report_end, report_after}
 use Rattle.sheet_step.specs.Leaves.{set_closed, with_its_edges, end_where, end_in, frame_in, line_in, numbered_in, step_in}
 

@@ -18,11 +18,10 @@ use Rattle.sheet_reader.specs.State.{Lent, lent, Tells, step_room}
 use Rattle.sheet_reader.specs.Answers.{Acts, Stops}
 use Rattle.sheet_reader.specs.declared.Reader.{Reader}
 use Rattle.sheet_reader.specs.declared.Stepped.{Stepped}
-use Rattle.sheet_reader.specs.declared.Awaits.TheVariants.{Rule}
 use lib.ListN.{take, drop, length-take}
 use lib.Seq.{take_all}
 use Rattle.paper.specs.Words.{or_else}
-use Rattle.paper.specs.Numbers.{last_line, ◌>>=◌}
+use Rattle.paper.specs.Numbers.{last_line}
 use Rattle.paper.specs.Layout as layout
 use Rattle.paper.specs.Layout.{frame_of}
 use Rattle.paper.specs.Sites.{const_prim}

@@ -2,7 +2,6 @@ use mathlib.Core.Path.{refl}
 use Rattle.sheet_reader.proofs.Acts.{stop_stops}
 use Rattle.sheet_step.proofs.Leaving.{ends_not, ends_ended}
 use Rattle.sheet_step.proofs.Closed.{end_not, end_ended}
-use borrow.Author.Rules.{rules}
 use Rattle.sheet_step.proofs.end_frame.Goals as goal
 
 pub returns-in_default-clause-by_index : goal.returns-in_default-clause-by_index

@@ -1,5 +1,4 @@
 use Rattle.sheet_step.proofs.Closed.{report_says}
-use borrow.Author.Rules.{rules}
 use Rattle.sheet_step.proofs.report_at.Goals as goal
 
 pub returns : goal.returns

@@ -2,7 +2,6 @@ use mathlib.Core.Path.{refl}
 use native.Mathlib.Omega.{arith}
 use Rattle.sheet_step.proofs.Lined.{no_room}
 use Rattle.sheet_step.proofs.Leaving.{leaves_unread, leaves_read}
-use borrow.Author.Rules.{rules}
 use Rattle.sheet_step.proofs.step.Goals as goal
 
 pub returns-then-room-lt-STEP_ROOM-clause-room_after : goal.returns-then-room-lt-STEP_ROOM-clause-room_after

@@ -3,7 +3,6 @@ use native.Mathlib.Omega.{arith}
 use Rattle.sheet_reader.proofs.Acts.{stop_stops}
 use Rattle.sheet_step.proofs.Leaving.{leaves_late, leaves_frame}
 use Rattle.sheet_step.proofs.Lined.{step_late, step_wrong, step_begin, step_rule, step_item, step_end, step_site, prefix_fits, prefix_long}
-use borrow.Author.Rules.{rules}
 use Rattle.sheet_step.proofs.take_line.Goals as goal
 
 pub returns-then-line-gt-LAST_LINE-clause-room_after : goal.returns-then-line-gt-LAST_LINE-clause-room_after
