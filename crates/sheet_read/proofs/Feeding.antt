@@ -2,12 +2,12 @@
 use mathlib.Core.Path.{◌≡◌, refl, sym, ap, ◌∙◌}
 use mathlib.Core.Bool.{Bool, true, false}
 use mathlib.Core.Option.{Option, none, some}
-use mathlib.Core.List.{List, [], ◌∷◌, ◌++◌, map, append_assoc, append-nil}
-use mathlib.Core.Logic.{◌⊎◌, inl, inr, ⊎_elim}
+use mathlib.Core.List.{List, [], ◌∷◌, ◌++◌, append-nil}
+use mathlib.Core.Logic.{inl, inr, ⊎_elim}
 use Prim.Native.Nat.{ℕ, zero, suc, ◌+◌, ◌-◌, ◌≤◌, ◌<◌}
 use native.Mathlib.Omega.{arith}
-use lib.ListN.{length, take, drop, length-take, length-drop, length-append}
-use lib.Seq.{take_all, drop-drop}
+use lib.ListN.{length, take, drop, length-take, length-append}
+use lib.Seq.{take_all}
 use Rattle.paper.specs.Words.{joined}
 use Rattle.paper.specs.Numbers.{Outcome, done, refused}
 use Rattle.paper.specs.Layout as layout
@@ -17,21 +17,21 @@ use Rattle.paper.specs.Sheets as paper
 use Rattle.paper.specs.Sheets.{Open, outside, at_sites, at_rules, at_items, step, with_item}
 use Rattle.paper.proofs.Lists.{no_way, rest_of}
 use Rattle.sheet_findings.specs.Written.{written_at}
-use Rattle.sheet_ended.proofs.Laws.{written_none, written_then, written_length}
+use Rattle.sheet_ended.proofs.Laws.{written_none, written_then}
 use Rattle.sheet_ended.proofs.Holds.{holds_none}
 use Rattle.sheet_ended.specs.Sets.{no_sets}
 use Rattle.term_table.specs.Table.{no_edges}
 use native.Mathlib.Numerals.{add-one}
-use Rattle.sheet_lines.specs.Fed.{Reading, going, stopped, Fed, begun, max_held, line_feed, held_of, after_line, fed, behind, fed_all, ended}
+use Rattle.sheet_lines.specs.Fed.{Reading, going, stopped, Fed, begun, max_held, line_feed, held_of, after_line, behind, fed_all}
 use Rattle.sheet_lines.specs.Pieces.{as_lines, lines_append, fed_append}
-use Rattle.sheet_lines.specs.Ends.{line_end, Free, Ending, ends_at, open_free, fed_part, fed_line, rest_of_piece}
+use Rattle.sheet_lines.specs.Ends.{line_end, ends_at, fed_line, rest_of_piece}
 use Rattle.sheet_lines.specs.declared.Ends.TheVariants as ends
 use Rattle.sheet_lines.specs.Held.{held_in, no_line, Holds, nothing_holds, more_holds}
 use Rattle.sheet_lines.specs.Cut.{part_of, Fits, line_from, line_with, cut_at, part_there, line_inside, cut_open, cut_ended, line_cut, step_with}
 use Rattle.sheet_lines.specs.declared.Cut.{Cut}
 use Rattle.sheet_lines.specs.declared.Held.{Held}
-use Rattle.sheet_reader.specs.State.{Lent, lent, Roomy, Tells, reader_of, stands_in, step_room}
-use Rattle.sheet_reader.specs.Answers.{Answers, Steps, Stepping, Goes, told, text_of, line_event, act_event, frame_event, items_event, item_event, rule_event}
+use Rattle.sheet_reader.specs.State.{Lent, Roomy, reader_of, stands_in, step_room}
+use Rattle.sheet_reader.specs.Answers.{Answers, Stepping, line_event, act_event, frame_event, items_event, item_event, rule_event}
 use Rattle.sheet_reader.specs.declared.Reader.{Reader}
 use Rattle.sheet_reader.specs.declared.Event.{Event}
 use Rattle.sheet_reader.specs.declared.Event.TheVariants as event

@@ -1,12 +1,11 @@
 -- The end of a sheet: what `end` asks.
 use mathlib.Core.Path.{◌≡◌, refl, sym, ap, ◌∙◌}
 use mathlib.Core.Bool.{Bool, true, false}
-use mathlib.Core.List.{List, [], ◌∷◌, ◌++◌, map, append-nil}
-use mathlib.Core.Logic.{◌⊎◌, inl, inr, ⊎_elim}
-use Prim.Native.Nat.{ℕ, zero, suc, ◌+◌, ◌≤◌, ◌<◌}
+use mathlib.Core.List.{List, [], ◌∷◌, append-nil}
+use mathlib.Core.Logic.{◌⊎◌, inl, inr}
+use Prim.Native.Nat.{ℕ, ◌+◌, ◌≤◌, ◌<◌}
 use native.Mathlib.Omega.{arith}
-use lib.ListN.{length, take, drop, length-take, length-append, take-append-drop}
-use lib.Seq.{take_all}
+use lib.ListN.{length, length-take}
 use borrow.Author.Tests.{le-leb}
 use Rattle.paper.specs.declared.Refusal.TheVariants.{Layout}
 use Rattle.paper.specs.Words.{joined, four}
@@ -14,22 +13,21 @@ use Rattle.paper.specs.Layout.{hex}
 use Rattle.paper.specs.Sheets as paper
 use Rattle.paper.specs.Sheets.{Open, outside, at_sites, at_rules, at_items, stop_found, sheet_ended, findings}
 use Rattle.paper.proofs.Lists.{no_way, none_in}
-use Rattle.term_table.specs.Table.{Square, no_edges}
 use Rattle.sheet_findings.specs.Written.{written_at, room_said, room_after}
 use Rattle.sheet_findings.specs.declared.Room.{Room}
 use Rattle.sheet_findings.specs.declared.Room.TheVariants.{To, Short}
 use Rattle.sheet_ended.specs.Sets.{end_room, found_text, said_at, written_after}
-use Rattle.sheet_ended.proofs.Laws.{length_hex, written_none, written_then, written_length, said_to, after_is}
+use Rattle.sheet_ended.proofs.Laws.{length_hex, written_none, said_to, after_is}
 use Rattle.sheet_ended.proofs.Holds.{found_is}
-use Rattle.sheet_lines.specs.Fed.{Reading, going, stopped, Fed, begun, fed, behind, fed_all, ended, closed, findings_fed}
-use Rattle.sheet_lines.specs.Pieces.{as_lines, lines_append, fed_append}
+use Rattle.sheet_lines.specs.Fed.{Reading, going, stopped, ended}
+use Rattle.sheet_lines.specs.Pieces.{as_lines}
 use Rattle.sheet_lines.specs.Held.{held_in}
-use Rattle.sheet_reader.specs.State.{Lent, lent, Roomy, Tells, stands_in, step_room}
+use Rattle.sheet_reader.specs.State.{Lent, stands_in, step_room}
 use Rattle.sheet_reader.specs.declared.Stands.{Stands}
 use Rattle.sheet_reader.specs.declared.Stands.TheVariants.{Outside, Sites, Rules, Items}
 use Rattle.sheet_read.specs.declared.State.{State}
 use Rattle.sheet_reader.specs.Answers.{is_outside}
-use Rattle.sheet_read.specs.Whole.{first_state, Going, Shows, Fedding, Feeds, Ending, Ends, Pauses, Enough}
+use Rattle.sheet_read.specs.Whole.{Going, Shows, Ending, Ends}
 
 stop_long : (at : ℕ) → length (hex (stop_found at (Layout at))) ≡ 13
 unfolding stop_found four

@@ -1,18 +1,17 @@
 -- What feed, end and check leave: what each return asks.
 use mathlib.Core.Path.{◌≡◌, refl, sym, ap, ◌∙◌}
 use mathlib.Core.Bool.{Bool, true, false, ◌&&◌, ◌||◌, not}
-use mathlib.Core.List.{List, []}
+use mathlib.Core.List.{List}
 use mathlib.Core.Logic.{◌⊎◌, inl, inr}
 use Prim.Native.Nat.{ℕ, zero, suc, ◌+◌, ◌≤◌, ◌<◌}
 use native.Mathlib.Omega.{arith}
 use lib.ListN.{length}
 use lib.Dec.{ltb, leb}
-use borrow.Author.Tests.{lt-ltb, le-ltb, le-leb, lt-leb, ltb-true}
+use borrow.Author.Tests.{lt-ltb, le-ltb, le-leb, lt-leb}
 use Rattle.paper.specs.declared.Refusal.TheVariants.{Layout}
 use Rattle.std.specs.Prelude.{if◌then◌else◌}
 use Rattle.paper.specs.Layout.{hex}
 use Rattle.paper.specs.Sheets.{stop_found}
-use Rattle.paper.proofs.Lists.{no_way}
 use Rattle.term_table.specs.Table.{Square, no_edges}
 use Rattle.sheet_findings.specs.Written.{room_said, room_after}
 use Rattle.sheet_findings.specs.declared.Room.{Room}
@@ -24,7 +23,7 @@ use Rattle.sheet_lines.specs.declared.Held.{Held}
 use Rattle.sheet_ended.specs.Sets.{end_room, found_text, said_at, written_after}
 use Rattle.sheet_reader.specs.State.{Lent, lent, step_room, sites_room, kept_room, items_room}
 use Rattle.sheet_reader.specs.Answers.{is_outside}
-use Rattle.sheet_reader.specs.Leaves.{After, after}
+use Rattle.sheet_reader.specs.Leaves.{after}
 use Rattle.sheet_reader.specs.declared.Stepped.{Stepped}
 use Rattle.sheet_reader.proofs.Leaving.{if_yes, if_no}
 use Rattle.sheet_step.specs.Leaves.{step_in}

@@ -1,15 +1,13 @@
 -- A sheet that is there whole: what `check` asks.
 use mathlib.Core.Path.{◌≡◌, refl, sym, ap, ◌∙◌}
 use mathlib.Core.Bool.{Bool, true, false}
-use mathlib.Core.List.{List, [], ◌∷◌, ◌++◌, map, append-nil, append_assoc}
-use mathlib.Core.Logic.{◌⊎◌, inl, inr, ⊎_elim}
+use mathlib.Core.List.{List, [], ◌∷◌, ◌++◌, append_assoc}
+use mathlib.Core.Logic.{◌⊎◌, ⊎_elim}
 use Prim.Native.Nat.{ℕ, zero, suc, ◌+◌, ◌≤◌, ◌<◌}
 use native.Mathlib.Omega.{arith}
 use lib.ListN.{length, take, drop, length-append, take-append-drop}
-use lib.Seq.{take_all}
 use lib.Dec.{leb}
 use borrow.Author.Tests.{leb-true, leb-false}
-use Rattle.paper.specs.Words.{joined}
 use Rattle.paper.specs.Sheets.{findings}
 use Rattle.paper.proofs.Lists.{no_way}
 use Rattle.term_table.specs.Table.{Square, no_edges}
@@ -17,12 +15,12 @@ use Rattle.sheet_findings.specs.Written.{written_at}
 use Rattle.sheet_findings.specs.declared.Room.{Room}
 use Rattle.sheet_findings.specs.declared.Room.TheVariants.{To, Short}
 use Rattle.sheet_ended.specs.Sets.{end_room}
-use Rattle.sheet_ended.proofs.Laws.{written_then, written_length}
-use Rattle.sheet_lines.specs.Fed.{Reading, going, stopped, Fed, begun, fed, behind, fed_all, ended, closed, findings_fed}
+use Rattle.sheet_ended.proofs.Laws.{written_then}
+use Rattle.sheet_lines.specs.Fed.{Reading, going, stopped, begun, fed, behind, fed_all, ended, closed, findings_fed}
 use Rattle.sheet_lines.specs.Pieces.{as_lines, lines_append, fed_append}
-use Rattle.sheet_reader.specs.State.{Lent, lent, Roomy, step_room, sites_room, kept_room, items_room}
+use Rattle.sheet_reader.specs.State.{Lent, lent, step_room, sites_room, kept_room, items_room}
 use Rattle.sheet_read.specs.declared.State.{State}
-use Rattle.sheet_read.specs.Whole.{first_state, Going, Shows, Fedding, Feeds, Ending, Ends, Pauses, Checks}
+use Rattle.sheet_read.specs.Whole.{first_state, Shows, Fedding, Feeds, Ending, Ends, Pauses, Checks}
 use Rattle.sheet_read.specs.declared.Checked.TheVariants as checked
 use Rattle.sheet_read.proofs.Feeding.{shows_first}
 

@@ -1,5 +1,5 @@
 -- What feed, end and check leave, whatever the state and the lent memory hold: `feed_in`, `end_in`, `check_in`.
-use Rattle.std.specs.Prelude.{Bool, true, false, ◌&&◌, ◌||◌, not, List, ℕ, zero, suc, ◌+◌, length, ltb, leb}
+use Rattle.std.specs.Prelude.{Bool, false, ◌&&◌, ◌||◌, not, List, ℕ, zero, suc, ◌+◌, length, ltb, leb}
 use Rattle.paper.specs.declared.Refusal.TheVariants.{Layout}
 use Rattle.std.specs.Prelude.{if◌then◌else◌}
 use Rattle.paper.specs.Layout.{hex}

@@ -1,21 +1,18 @@
 -- The code's state tells where the reading of `sheet_lines` stands; feeding is `fed_all`.
-use Rattle.std.specs.Prelude.{◌≡◌, Bool, true, false, List, [], ◌∷◌, ◌++◌, ℕ, zero, suc, ◌+◌, ◌≤◌, ◌<◌, length, take, leb, ◌⊎◌}
+use Rattle.std.specs.Prelude.{◌≡◌, Bool, true, false, List, ℕ, ◌+◌, ◌≤◌, ◌<◌, length, leb, ◌⊎◌}
 use Rattle.paper.specs.Sheets as paper
 use Rattle.paper.specs.Sheets.{findings}
 use Rattle.sheet_findings.specs.Written.{written_at}
 use Rattle.sheet_findings.specs.declared.Room.{Room}
 use Rattle.sheet_findings.specs.declared.Room.TheVariants.{To, Short}
-use Rattle.sheet_lines.specs.Fed.{Reading, going, stopped, fed_all, ended, max_held, held_of}
+use Rattle.sheet_lines.specs.Fed.{Reading, going, stopped, fed_all, ended, max_held}
 use Rattle.sheet_lines.specs.Pieces.{as_lines}
 use Rattle.sheet_lines.specs.Held.{held_in, no_line}
-use Rattle.sheet_lines.specs.declared.Held.{Held}
 use Rattle.sheet_ended.specs.Sets.{no_sets, end_room}
 use Rattle.sheet_reader.specs.State.{Lent, Tells, stands_in, step_room, sites_room, kept_room, items_room}
-use Rattle.sheet_reader.specs.declared.Reader.{Reader}
 use Rattle.sheet_reader.specs.declared.Event.{Event}
 use Rattle.sheet_reader.specs.declared.Event.TheVariants as event
-use Rattle.sheet_reader.specs.declared.Stands.{Stands}
-use Rattle.sheet_reader.specs.declared.Stands.TheVariants.{Outside, Sites, Rules, Items}
+use Rattle.sheet_reader.specs.declared.Stands.TheVariants.{Outside}
 use Rattle.sheet_read.specs.declared.State.{State}
 use Rattle.sheet_read.specs.declared.Checked.{Checked}
 use Rattle.sheet_read.specs.declared.Checked.TheVariants as checked

@@ -1,5 +1,4 @@
 use Rattle.sheet_read.proofs.Feeding.{first_is}
-use borrow.Author.Rules.{rules}
 use Rattle.sheet_read.proofs.begin.Goals as goal
 
 pub returns : goal.returns

@@ -3,7 +3,6 @@ use native.Mathlib.Omega.{arith}
 use Rattle.sheet_read.specs.Leaves.{checked_as}
 use Rattle.sheet_read.proofs.Leaving.{lacks_sites, lacks_words, lacks_items, leaves_left, leaves_closed}
 use Rattle.sheet_read.proofs.Sheeted.{check_left, check_done, check_short}
-use borrow.Author.Rules.{rules}
 use Rattle.sheet_read.proofs.check.Goals as goal
 
 pub returns-then-m-lt-SITES_ROOM-clause-room_after : goal.returns-then-m-lt-SITES_ROOM-clause-room_after

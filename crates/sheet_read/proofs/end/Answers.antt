@@ -1,7 +1,6 @@
 use native.Mathlib.Omega.{arith}
 use Rattle.sheet_read.proofs.Leaving.{ends_short, ends_stopped, ends_held, ends_open, ends_found}
 use Rattle.sheet_read.proofs.Finished.{end_short, end_stopped, end_held, end_open, end_found}
-use borrow.Author.Rules.{rules}
 use Rattle.sheet_read.proofs.end.Goals as goal
 
 pub returns-then-room-lt-END_ROOM-clause-room_after : goal.returns-then-room-lt-END_ROOM-clause-room_after

@@ -1,11 +1,6 @@
-use Prim.Native.Nat.{◌-◌}
-use lib.ListN.{length}
 use native.Mathlib.Omega.{arith}
-use borrow.Author.Rules.{rules}
-use Rattle.sheet_reader.specs.State.{lent}
-use Rattle.sheet_read.specs.Leaves.{leaves, fed_to, feed_in}
-use Rattle.sheet_read.proofs.Leaving.{Onto, onto_none, onto_turn, onto_done, goes_yes, goes_not, goes_past}
-use Rattle.sheet_read.proofs.Feeding.{Fedto, fedto_none, fedto_turn, fedto_pauses, all_read}
+use Rattle.sheet_read.proofs.Leaving.{onto_none, onto_turn, onto_done, goes_yes, goes_not, goes_past}
+use Rattle.sheet_read.proofs.Feeding.{fedto_none, fedto_turn, fedto_pauses, all_read}
 use Rattle.sheet_read.proofs.feed.Goals as goal
 
 pub loop-i-init : goal.loop-i-init

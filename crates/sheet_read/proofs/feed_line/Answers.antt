@@ -1,7 +1,6 @@
 use native.Mathlib.Omega.{arith}
 use Rattle.sheet_read.proofs.Leaving.{leaves_rest, leaves_line}
 use Rattle.sheet_read.proofs.Feeding.{feeds_line, feeds_rest, nested, cut_inside}
-use borrow.Author.Rules.{rules}
 use Rattle.sheet_read.proofs.feed_line.Goals as goal
 
 pub returns-then-c-clause-room_after : goal.returns-then-c-clause-room_after
