@@ -1,10 +1,10 @@
 -- Where the reading of a sheet stands, as words and bytes: what the code reads and writes, and that what was written is read again.
 use mathlib.Core.Path.{◌≡◌, refl, ap, sym, ◌∙◌}
-use mathlib.Core.Bool.{Bool, true, false, not, ◌&&◌}
+use mathlib.Core.Bool.{Bool, true, false, not}
 use mathlib.Core.List.{List, [], ◌∷◌, ◌++◌, append_assoc}
-use Prim.Native.Nat.{ℕ, suc, ◌+◌, ◌%◌, ◌<◌, ◌≤◌}
+use Prim.Native.Nat.{ℕ, ◌+◌, ◌%◌, ◌<◌, ◌≤◌}
 use Rattle.std.specs.Prelude.{if◌then◌else◌}
-use Rattle.paper.proofs.Lists.{no_way, and_both}
+use Rattle.paper.proofs.Lists.{and_both}
 use native.Mathlib.Nat.{mod-eq_of_lt, zero-add}
 use native.Mathlib.Numerals.{add-one}
 use native.Mathlib.Omega.{arith}
@@ -19,9 +19,8 @@ use Rattle.sheet_reader.specs.declared.Reader.{Reader}
 use Rattle.sheet_reader.specs.declared.Stands.{Stands}
 use Rattle.sheet_reader.specs.declared.Stands.TheVariants.{Outside, Sites, Rules, Items}
 use Rattle.sheet_lines.specs.Fed.{max_held}
-use Rattle.sheet_lines.specs.declared.Held.{Held}
 use Rattle.sheet_read.specs.declared.State.{State}
-use Rattle.sheet_state.specs.State.{state_words, set_in, rule_in, stands_in, row_in, ended_in, reader_in, stopped_in, bytes_in, state_in, keeps, bit, set_words, rule_words, both_words, stands_words, ended_words, reader_words, state_put, held_put, no_set, no_rule}
+use Rattle.sheet_state.specs.State.{state_words, set_in, rule_in, stands_in, row_in, ended_in, reader_in, stopped_in, bytes_in, state_in, keeps, bit, set_words, rule_words, both_words, stands_words, ended_words, reader_words, state_put, held_put}
 
 -- ---- where the reader stands
 

@@ -1,7 +1,6 @@
 -- What the types of the code say of a state that is handed over by value: each number fits its width, each array has its length.
 use mathlib.Core.Path.{◌≡◌}
 use mathlib.Core.List.{List}
-use Prim.Native.Nat.{ℕ}
 use lib.ListN.{length}
 use mir.Val.{Val}
 use denote.Shadow.{shadow}

@@ -1,6 +1,5 @@
 -- `sheet_state::bytes_in` meets its contract. Assumes nothing.
 use Rattle.sheet_state.proofs.Reading.{few_bytes, many_bytes}
-use borrow.Author.Rules.{rules}
 use Rattle.sheet_state.proofs.bytes_in.Goals as goal
 
 pub returns-then-held-lt-HELD : goal.returns-then-held-lt-HELD

@@ -1,5 +1,4 @@
 -- `sheet_state::ended_in` meets its contract. Assumes nothing.
-use borrow.Author.Rules.{rules}
 use Rattle.sheet_state.proofs.Reading.{ended_is}
 use Rattle.sheet_state.proofs.ended_in.Goals as goal
 

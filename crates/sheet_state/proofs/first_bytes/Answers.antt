@@ -1,8 +1,6 @@
 -- `sheet_state::first_bytes` meets its contract. Assumes nothing.
-use mathlib.Core.Path.{◌≡◌}
-use Prim.Native.Nat.{◌≤◌, ◌-◌}
 use native.Mathlib.Omega.{arith}
-use lib.Seq.{paste, paste-zero}
+use lib.Seq.{paste-zero}
 use Rattle.sheet_lines.specs.Fed.{max_held}
 use Rattle.sheet_state.proofs.Reading.{bytes_turn, bytes_all, long_zeros}
 use Rattle.sheet_state.proofs.first_bytes.Goals as goal

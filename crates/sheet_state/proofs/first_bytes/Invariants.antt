@@ -1,9 +1,7 @@
 use mathlib.Core.Path.{◌≡◌}
 use Prim.Native.Nat.{◌≤◌, ◌-◌}
-use native.Mathlib.Omega.{arith}
-use lib.Seq.{paste, paste-zero}
+use lib.Seq.{paste}
 use Rattle.sheet_lines.specs.Fed.{max_held}
-use Rattle.sheet_state.proofs.Reading.{bytes_turn, bytes_all, long_zeros}
 use Rattle.sheet_state.proofs.first_bytes.Given as goal
 
 abbrev pub invariant-loop-i : goal.invariant-loop-i

@@ -1,5 +1,4 @@
 -- `sheet_state::put_both` meets its contract. Assumes nothing.
-use borrow.Author.Rules.{rules}
 use Rattle.sheet_state.proofs.Reading.{both_put}
 use Rattle.sheet_state.proofs.put_both.Goals as goal
 

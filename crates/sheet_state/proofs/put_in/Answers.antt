@@ -1,7 +1,6 @@
 -- `sheet_state::put_in` meets its contract. Assumes nothing.
 use Rattle.sheet_state.proofs.Reading.{all_put}
 use Rattle.sheet_state.proofs.Small.{small_state}
-use borrow.Author.Rules.{rules}
 use Rattle.sheet_state.proofs.put_in.Goals as goal
 
 pub returns-clause-state_after : goal.returns-clause-state_after

@@ -1,5 +1,4 @@
 -- `sheet_state::put_reader` meets its contract. Assumes nothing.
-use borrow.Author.Rules.{rules}
 use Rattle.sheet_state.specs.State.{stands_words, reader_words}
 use Rattle.sheet_state.proofs.Reading.{reader_put, sets_room, sets_length}
 use Rattle.sheet_state.proofs.put_reader.Goals as goal

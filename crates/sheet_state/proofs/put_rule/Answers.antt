@@ -1,7 +1,6 @@
 -- `sheet_state::put_rule` meets its contract. Assumes nothing.
 use native.Mathlib.Omega.{arith}
 use lib.ListN.{length-set}
-use borrow.Author.Rules.{rules}
 use Rattle.sheet_state.proofs.Reading.{rule_put}
 use Rattle.sheet_state.proofs.put_rule.Goals as goal
 

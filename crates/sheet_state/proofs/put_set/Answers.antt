@@ -1,7 +1,6 @@
 -- `sheet_state::put_set` meets its contract. Assumes nothing.
 use native.Mathlib.Omega.{arith}
 use lib.ListN.{length-set}
-use borrow.Author.Rules.{rules}
 use Rattle.sheet_state.proofs.Reading.{set_put}
 use Rattle.sheet_state.proofs.put_set.Goals as goal
 

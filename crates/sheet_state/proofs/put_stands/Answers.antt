@@ -1,5 +1,4 @@
 -- `sheet_state::put_stands` meets its contract. Assumes nothing.
-use borrow.Author.Rules.{rules}
 use Rattle.sheet_state.specs.State.{stands_words}
 use Rattle.sheet_state.proofs.Reading.{stands_put}
 use Rattle.sheet_state.proofs.put_stands.Goals as goal

@@ -2,7 +2,6 @@
 use mathlib.Core.Path.{sym, ◌∙◌}
 use Rattle.sheet_state.proofs.Reading.{keeps_long, put_all}
 use Rattle.paper.proofs.Lists.{no_way}
-use borrow.Author.Rules.{rules}
 use Rattle.sheet_state.proofs.put_state.Goals as goal
 
 pub returns-then-not-whole-clause-state_after : goal.returns-then-not-whole-clause-state_after

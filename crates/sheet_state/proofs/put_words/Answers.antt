@@ -1,6 +1,5 @@
 -- `sheet_state::put_words` meets its contract. Assumes nothing.
 use Rattle.sheet_state.proofs.Reading.{words_put}
-use borrow.Author.Rules.{rules}
 use Rattle.sheet_state.proofs.put_words.Goals as goal
 
 pub returns : goal.returns

@@ -1,5 +1,4 @@
 -- `sheet_state::reader_in` meets its contract. Assumes nothing.
-use borrow.Author.Rules.{rules}
 use Rattle.sheet_state.proofs.Reading.{reader_is}
 use Rattle.sheet_state.proofs.reader_in.Goals as goal
 

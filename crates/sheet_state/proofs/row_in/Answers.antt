@@ -1,5 +1,4 @@
 -- `sheet_state::row_in` meets its contract. Assumes nothing.
-use borrow.Author.Rules.{rules}
 use Rattle.sheet_state.proofs.Reading.{row_is}
 use Rattle.sheet_state.proofs.row_in.Goals as goal
 

@@ -1,5 +1,4 @@
 -- `sheet_state::rule_in` meets its contract. Assumes nothing.
-use borrow.Author.Rules.{rules}
 use Rattle.sheet_state.proofs.Reading.{rule_is}
 use Rattle.sheet_state.proofs.rule_in.Goals as goal
 

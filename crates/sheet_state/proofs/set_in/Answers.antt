@@ -1,5 +1,4 @@
 -- `sheet_state::set_in` meets its contract. Assumes nothing.
-use borrow.Author.Rules.{rules}
 use Rattle.sheet_state.proofs.Reading.{set_is}
 use Rattle.sheet_state.proofs.set_in.Goals as goal
 

@@ -1,7 +1,6 @@
 -- `sheet_state::stands_in` meets its contract. Assumes nothing.
 use mathlib.Core.Path.{ap, ◌∙◌}
 use Prim.Native.Nat.{ℕ, ◌%◌}
-use borrow.Author.Rules.{rules}
 use Rattle.sheet_state.proofs.Reading.{sites_is, rules_is, items_is, outside_is}
 use Rattle.sheet_state.proofs.stands_in.Goals as goal
 

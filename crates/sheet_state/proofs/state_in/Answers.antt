@@ -1,6 +1,5 @@
 -- `sheet_state::state_in` meets its contract. Assumes nothing.
 use Rattle.sheet_state.proofs.Reading.{state_is}
-use borrow.Author.Rules.{rules}
 use Rattle.sheet_state.proofs.state_in.Goals as goal
 
 pub returns : goal.returns

@@ -1,6 +1,5 @@
 -- `sheet_state::stopped_in` meets its contract. Assumes nothing.
 use Rattle.sheet_state.proofs.Reading.{stops_not, stops}
-use borrow.Author.Rules.{rules}
 use Rattle.sheet_state.proofs.stopped_in.Goals as goal
 
 pub returns-then-w-eq0 : goal.returns-then-w-eq0
