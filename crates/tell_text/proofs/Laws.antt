@@ -1,12 +1,11 @@
 -- Laws that the functions' proofs cite.
 use mathlib.Core.Path.{◌≡◌, refl, sym, ap, ◌∙◌}
 use mathlib.Core.List.{List, [], ◌∷◌, ◌++◌}
-use Prim.Native.Nat.{ℕ, zero, suc, ◌+◌, ◌-◌, ◌*◌, ◌/◌, ◌%◌, ◌≤◌, ◌<◌}
-use native.Mathlib.Omega.{arith}
+use Prim.Native.Nat.{ℕ, ◌+◌, ◌/◌, ◌%◌, ◌≤◌, ◌<◌}
 use native.Mathlib.Numerals.{add-one}
 use lib.ListN.{length, get_or, drop}
 use lib.Seq.{drop-cons}
-use Rattle.paper.specs.Words.{two, four, eight}
+use Rattle.paper.specs.Words.{four, eight}
 use Rattle.paper.specs.Layout.{digit_of}
 use Rattle.paper.proofs.Lists.{drop_all}
 use Rattle.sheet_digits.specs.Digits.{digits_of}

@@ -1,4 +1,3 @@
-use borrow.Author.Rules.{rules}
 use Rattle.tell_text.specs.Written.{stored, left_out}
 use Rattle.tell_text.proofs.put.Goals as goal
 

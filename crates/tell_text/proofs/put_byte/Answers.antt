@@ -1,5 +1,4 @@
 use Rattle.tell_text.proofs.Laws.{byte_put}
-use borrow.Author.Rules.{rules}
 use Rattle.tell_text.proofs.put_byte.Goals as goal
 
 pub returns : goal.returns

@@ -1,5 +1,4 @@
 use Rattle.tell_text.proofs.Laws.{eight_put}
-use borrow.Author.Rules.{rules}
 use Rattle.tell_text.proofs.put_eight.Goals as goal
 
 pub returns : goal.returns

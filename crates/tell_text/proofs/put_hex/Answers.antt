@@ -1,9 +1,5 @@
-use Prim.Native.Nat.{◌-◌}
-use mathlib.Core.Path.{◌≡◌, refl}
-use lib.ListN.{length, drop}
+use mathlib.Core.Path.{refl}
 use borrow.Author.Rules.{rules}
-use Rattle.sheet_digits.specs.Digits.{digits_of}
-use Rattle.tell_text.specs.Written.{wrote}
 use Rattle.tell_text.proofs.Laws.{byte_more, all_bytes}
 use Rattle.tell_text.proofs.put_hex.Goals as goal
 

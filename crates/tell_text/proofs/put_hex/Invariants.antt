@@ -1,10 +1,8 @@
 use Prim.Native.Nat.{◌-◌}
-use mathlib.Core.Path.{◌≡◌, refl}
+use mathlib.Core.Path.{◌≡◌}
 use lib.ListN.{length, drop}
-use borrow.Author.Rules.{rules}
 use Rattle.sheet_digits.specs.Digits.{digits_of}
 use Rattle.tell_text.specs.Written.{wrote}
-use Rattle.tell_text.proofs.Laws.{byte_more, all_bytes}
 use Rattle.tell_text.proofs.put_hex.Given as goal
 
 abbrev pub invariant-loop-i : goal.invariant-loop-i

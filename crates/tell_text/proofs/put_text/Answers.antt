@@ -1,8 +1,4 @@
-use Prim.Native.Nat.{◌-◌}
-use mathlib.Core.Path.{◌≡◌}
-use lib.ListN.{length, drop}
 use borrow.Author.Rules.{rules}
-use Rattle.tell_text.specs.Written.{wrote}
 use Rattle.tell_text.proofs.Laws.{none_yet, one_more, all_put}
 use Rattle.tell_text.proofs.put_text.Goals as goal
 

@@ -1,5 +1,4 @@
 use Rattle.paper.specs.Words.{two}
-use borrow.Author.Rules.{rules}
 use Rattle.tell_text.proofs.put_two.Goals as goal
 
 pub returns : goal.returns
