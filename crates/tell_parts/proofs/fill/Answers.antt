@@ -1,9 +1,5 @@
-use Prim.Native.Nat.{◌-◌}
-use mathlib.Core.Path.{◌≡◌, refl}
-use lib.ListN.{length, drop}
+use mathlib.Core.Path.{refl}
 use borrow.Author.Rules.{rules}
-use Rattle.tell_text.specs.Written.{wrote}
-use Rattle.tell_parts.specs.Parts.{filled}
 use Rattle.tell_parts.proofs.PartLaws.{part_turn, parts_done}
 use Rattle.tell_parts.proofs.fill.Goals as goal
 

@@ -1,10 +1,8 @@
 use Prim.Native.Nat.{◌-◌}
-use mathlib.Core.Path.{◌≡◌, refl}
+use mathlib.Core.Path.{◌≡◌}
 use lib.ListN.{length, drop}
-use borrow.Author.Rules.{rules}
 use Rattle.tell_text.specs.Written.{wrote}
 use Rattle.tell_parts.specs.Parts.{filled}
-use Rattle.tell_parts.proofs.PartLaws.{part_turn, parts_done}
 use Rattle.tell_parts.proofs.fill.Given as goal
 
 abbrev pub invariant-loop-i : goal.invariant-loop-i

@@ -1,6 +1,5 @@
 use native.Mathlib.Omega.{arith}
 use Rattle.tell_parts.proofs.PartLaws.{four_is}
-use borrow.Author.Rules.{rules}
 use Rattle.tell_parts.proofs.four_at.Goals as goal
 
 pub returns : goal.returns

@@ -1,5 +1,4 @@
 use Rattle.tell_parts.proofs.PartLaws.{instead, is_four, is_first, is_places, is_two, is_second, is_plural, is_second_plural, is_number, is_kind, is_asked, is_asker, is_itself}
-use borrow.Author.Rules.{rules}
 use Rattle.tell_parts.proofs.put_part.Goals as goal
 
 pub returns-then-b-eq35 : goal.returns-then-b-eq35

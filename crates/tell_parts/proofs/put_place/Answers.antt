@@ -1,5 +1,4 @@
 use Rattle.tell_parts.proofs.PartLaws.{place_put}
-use borrow.Author.Rules.{rules}
 use Rattle.tell_parts.proofs.put_place.Goals as goal
 
 pub returns : goal.returns

@@ -1,5 +1,4 @@
 use Rattle.tell_parts.proofs.PartLaws.{one_place, more_places}
-use borrow.Author.Rules.{rules}
 use Rattle.tell_parts.proofs.put_places.Goals as goal
 
 pub returns-then-f-lt11 : goal.returns-then-f-lt11

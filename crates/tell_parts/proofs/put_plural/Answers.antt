@@ -1,5 +1,4 @@
 use Rattle.tell_parts.proofs.PartLaws.{instead, singular, many}
-use borrow.Author.Rules.{rules}
 use Rattle.tell_parts.proofs.put_plural.Goals as goal
 
 pub returns-then-n-eq1 : goal.returns-then-n-eq1

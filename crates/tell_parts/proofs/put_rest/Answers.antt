@@ -1,9 +1,5 @@
-use Prim.Native.Nat.{◌≤◌, ◌+◌, ◌*◌}
-use mathlib.Core.Path.{◌≡◌, refl}
-use lib.ListN.{length}
+use mathlib.Core.Path.{refl}
 use borrow.Author.Rules.{rules}
-use Rattle.tell_text.specs.Written.{wrote}
-use Rattle.tell_parts.specs.Parts.{rest}
 use Rattle.tell_parts.proofs.PartLaws.{rest_turn, rest_done}
 use Rattle.tell_parts.proofs.put_rest.Goals as goal
 

@@ -1,10 +1,8 @@
 use Prim.Native.Nat.{◌≤◌, ◌+◌, ◌*◌}
-use mathlib.Core.Path.{◌≡◌, refl}
+use mathlib.Core.Path.{◌≡◌}
 use lib.ListN.{length}
-use borrow.Author.Rules.{rules}
 use Rattle.tell_text.specs.Written.{wrote}
 use Rattle.tell_parts.specs.Parts.{rest}
-use Rattle.tell_parts.proofs.PartLaws.{rest_turn, rest_done}
 use Rattle.tell_parts.proofs.put_rest.Given as goal
 
 abbrev pub invariant-loop-left : goal.invariant-loop-left

@@ -1,6 +1,4 @@
-use mathlib.Core.Path.{refl}
 use Rattle.tell_parts.proofs.PartLaws.{instead, last_separator, other_separator}
-use borrow.Author.Rules.{rules}
 use Rattle.tell_parts.proofs.put_separator.Goals as goal
 
 pub returns-then-left-eq0 : goal.returns-then-left-eq0

@@ -1,6 +1,5 @@
 use native.Mathlib.Omega.{arith}
 use Rattle.tell_parts.proofs.PartLaws.{two_is, two_out}
-use borrow.Author.Rules.{rules}
 use Rattle.tell_parts.proofs.two_at.Goals as goal
 
 pub returns-then-f-i : goal.returns-then-f-i
