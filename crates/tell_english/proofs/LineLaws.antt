@@ -2,13 +2,13 @@
 use mathlib.Core.Path.{◌≡◌, refl, sym, ap, ◌∙◌}
 use mathlib.Core.Bool.{Bool, true, false}
 use mathlib.Core.List.{List, [], ◌∷◌, ◌++◌}
-use Prim.Native.Nat.{ℕ, zero, suc, ◌+◌, ◌≤◌, ◌<◌}
+use Prim.Native.Nat.{ℕ, ◌+◌, ◌≤◌, ◌<◌}
 use native.Mathlib.Omega.{arith}
-use lib.ListN.{length, get_or, set, length-append}
+use lib.ListN.{length, set, length-append}
 use lib.Seq.{sets, length-sets}
-use lib.Dec.{eqb, ltb, leb}
-use borrow.Author.Tests.{lt-ltb, le-ltb, le-leb, lt-leb, leb-true, leb-false, ne_eqb}
-use Rattle.tell_text.specs.Written.{Room, wrote, with_byte, after, follows, fits, reaches, one_fits, one_past}
+use lib.Dec.{leb}
+use borrow.Author.Tests.{lt-ltb, le-ltb, leb-true, leb-false, ne_eqb}
+use Rattle.tell_text.specs.Written.{Room, wrote, with_byte, after, fits, reaches, one_fits, one_past}
 use Rattle.sheet_findings.specs.declared.Room.TheVariants.{To, Short}
 use Rattle.sheet_findings.specs.declared.Room as F
 use Rattle.sheet_findings.specs.Written.{room_said}

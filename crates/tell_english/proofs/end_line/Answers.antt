@@ -1,5 +1,4 @@
 use Rattle.tell_english.proofs.LineLaws.{end_fits, end_past}
-use borrow.Author.Rules.{rules}
 use Rattle.tell_english.proofs.end_line.Goals as goal
 
 pub returns-then-at-out : goal.returns-then-at-out

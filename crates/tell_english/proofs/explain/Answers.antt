@@ -1,5 +1,4 @@
 use Rattle.tell_english.proofs.LineLaws.{line_said}
-use borrow.Author.Rules.{rules}
 use Rattle.tell_english.proofs.explain.Goals as goal
 
 pub returns : goal.returns

@@ -1,5 +1,4 @@
 use Rattle.tell_english.proofs.ShapeLaws.{wrong_length, few_listed, more_listed}
-use borrow.Author.Rules.{rules}
 use Rattle.tell_english.proofs.listed.Goals as goal
 
 pub returns-then-n-head : goal.returns-then-n-head

@@ -1,8 +1,6 @@
-use mathlib.Core.Path.{refl}
 use Rattle.tell_english.specs.Words.{clean_sheet, read_to_end}
 use Rattle.tell_english.proofs.LineLaws.{end_words}
 use mathlib.Core.Bool.{true, false}
-use borrow.Author.Rules.{rules}
 use Rattle.tell_english.proofs.put_ended.Goals as goal
 
 pub returns-then-clean : goal.returns-then-clean

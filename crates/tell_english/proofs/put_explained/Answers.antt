@@ -1,8 +1,6 @@
-use mathlib.Core.Path.{refl}
 use Rattle.tell_english.specs.Words.{overlap_two, overlap_more, mask_one, mask_more, empty_line}
 use Rattle.tell_english.proofs.LineLaws.{shape_words}
 use Rattle.tell_english.specs.declared.Shape.TheVariants.{Refused, OverlapTwo, OverlapMore, MaskOne, MaskMore, Term, End, Stop, Empty, Unknown, Limit, StopLimit}
-use borrow.Author.Rules.{rules}
 use Rattle.tell_english.proofs.put_explained.Goals as goal
 
 pub returns-in-Refused : goal.returns-in-Refused

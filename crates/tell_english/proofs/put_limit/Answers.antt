@@ -2,7 +2,6 @@ use mathlib.Core.Path.{refl}
 use Rattle.tell_english.specs.Words.{too_many_sites, too_many_fields, too_many_rules}
 use Rattle.tell_english.proofs.LineLaws.{words_of, limit_20, limit_22, limit_23}
 use Rattle.tell_english.specs.Said.{limit_words}
-use borrow.Author.Rules.{rules}
 use Rattle.tell_english.proofs.put_limit.Goals as goal
 
 pub returns-then-n-eq20 : goal.returns-then-n-eq20

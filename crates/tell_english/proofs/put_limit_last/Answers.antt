@@ -2,7 +2,6 @@ use mathlib.Core.Path.{refl}
 use Rattle.tell_english.specs.Words.{too_many_items, too_many_constrained, too_many_equal, other_refusal}
 use Rattle.tell_english.proofs.LineLaws.{words_of, limit_24, limit_25, limit_26, limit_other}
 use Rattle.tell_english.specs.Said.{limit_words}
-use borrow.Author.Rules.{rules}
 use Rattle.tell_english.proofs.put_limit_last.Goals as goal
 
 pub returns-then-n-eq24 : goal.returns-then-n-eq24

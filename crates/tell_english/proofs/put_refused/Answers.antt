@@ -2,7 +2,6 @@ use mathlib.Core.Path.{refl}
 use Rattle.tell_english.specs.Words.{unknown_site, unreachable, hanging_site, self_containing}
 use Rattle.tell_english.proofs.LineLaws.{words_of, refused_2, refused_4, refused_5, refused_6}
 use Rattle.tell_english.specs.Said.{refused_words}
-use borrow.Author.Rules.{rules}
 use Rattle.tell_english.proofs.put_refused.Goals as goal
 
 pub returns-then-n-eq2 : goal.returns-then-n-eq2

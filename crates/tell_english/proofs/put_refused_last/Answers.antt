@@ -2,7 +2,6 @@ use mathlib.Core.Path.{refl}
 use Rattle.tell_english.specs.Words.{place_used, other_refusal}
 use Rattle.tell_english.proofs.LineLaws.{words_of, refused_8, refused_other}
 use Rattle.tell_english.specs.Said.{refused_words}
-use borrow.Author.Rules.{rules}
 use Rattle.tell_english.proofs.put_refused_last.Goals as goal
 
 pub returns-then-n-eq8 : goal.returns-then-n-eq8

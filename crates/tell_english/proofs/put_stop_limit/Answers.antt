@@ -1,8 +1,6 @@
-use mathlib.Core.Path.{refl}
 use Rattle.tell_english.specs.Words.{full_set, too_many_sources, too_many_sets, term_too_high, other_stop}
 use Rattle.tell_english.proofs.LineLaws.{words_of, stop_limit_20, stop_limit_21, stop_limit_27, stop_limit_28, stop_limit_other}
 use Rattle.tell_english.specs.Said.{stop_limit_words}
-use borrow.Author.Rules.{rules}
 use Rattle.tell_english.proofs.put_stop_limit.Goals as goal
 
 pub returns-then-n-eq20 : goal.returns-then-n-eq20

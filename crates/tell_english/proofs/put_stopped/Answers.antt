@@ -1,8 +1,6 @@
-use mathlib.Core.Path.{refl}
 use Rattle.tell_english.specs.Words.{bad_line, source_unknown, repeated, other_stop}
 use Rattle.tell_english.proofs.LineLaws.{words_of, stopped_1, stopped_2, stopped_9, stopped_other}
 use Rattle.tell_english.specs.Said.{stopped_words}
-use borrow.Author.Rules.{rules}
 use Rattle.tell_english.proofs.put_stopped.Goals as goal
 
 pub returns-then-n-eq1 : goal.returns-then-n-eq1

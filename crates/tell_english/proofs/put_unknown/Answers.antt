@@ -1,6 +1,4 @@
-use mathlib.Core.Path.{refl}
 use Rattle.tell_english.specs.Words.{not_known}
-use borrow.Author.Rules.{rules}
 use Rattle.tell_english.proofs.put_unknown.Goals as goal
 
 pub returns : goal.returns

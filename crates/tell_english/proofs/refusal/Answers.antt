@@ -1,5 +1,4 @@
 use Rattle.tell_english.proofs.ShapeLaws.{with_told, frame_alone}
-use borrow.Author.Rules.{rules}
 use Rattle.tell_english.proofs.refusal.Goals as goal
 
 pub returns-then-n-eq14 : goal.returns-then-n-eq14

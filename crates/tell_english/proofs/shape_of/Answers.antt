@@ -1,6 +1,5 @@
 use Rattle.tell_english.specs.declared.Shape.TheVariants.{Empty}
 use Rattle.tell_english.proofs.ShapeLaws.{an_empty, an_11, a_12, a_13, a_14, a_15, a_1F}
-use borrow.Author.Rules.{rules}
 use Rattle.tell_english.proofs.shape_of.Goals as goal
 
 pub returns-then-n-eq0 : goal.returns-then-n-eq0
