@@ -1,27 +1,25 @@
 -- Laws of the lines, for the functions that write them.
 use mathlib.Core.Path.{◌≡◌, refl, sym, ap, ◌∙◌}
-use mathlib.Core.Bool.{Bool, true, false}
+use mathlib.Core.Bool.{Bool}
 use mathlib.Core.List.{List, [], ◌∷◌, ◌++◌, append_assoc, append-nil}
-use Prim.Native.Nat.{ℕ, zero, suc, ◌+◌, ◌-◌, ◌*◌, ◌/◌, ◌%◌, ◌≤◌, ◌<◌}
+use Prim.Native.Nat.{ℕ, zero, suc, ◌+◌, ◌-◌, ◌/◌, ◌%◌, ◌≤◌, ◌<◌}
 use native.Mathlib.Omega.{arith}
 use native.Mathlib.Numerals.{add-one}
 use lib.ListN.{length, get_or, take, drop}
 use lib.Seq.{drop-cons}
-use lib.Dec.{eqb, ltb, leb}
-use borrow.Author.Tests.{le-ltb, eq-eqb, ne_eqb, leb-true, leb-false}
+use borrow.Author.Tests.{le-ltb, eq-eqb, ne_eqb}
 use Rattle.paper.specs.declared.Constraint.{Constraint}
 use Rattle.paper.specs.declared.Constraint.TheVariants.{ConstBool, ConstInt}
 use Rattle.paper.specs.declared.Overlap.{Overlap}
 use Rattle.paper.specs.declared.Refusal.{Refusal}
 use Rattle.paper.specs.Words.{two, four, eight, flag}
 use Rattle.paper.specs.Numbers.{Outcome, done, refused, number, told, max_unfolding}
-use Rattle.paper.specs.Sites.{Sites, constraint_body, unfold_answer, unfolded, known}
-use Rattle.paper.specs.Loading.{Kept}
+use Rattle.paper.specs.Sites.{Sites, constraint_body, unfold_answer, known}
 use Rattle.paper.specs.Rules.{may_overlap, total, rank}
 use Rattle.paper.specs.Text.{unended, text}
 use Rattle.sites.specs.declared.Unfolded.{Unfolded}
 use Rattle.sites.specs.declared.Unfolded.TheVariants.{Bytes, Refused}
-use Rattle.sites.specs.Slots.{sites_in, unfolded_as, after_unfold, put}
+use Rattle.sites.specs.Slots.{sites_in, unfolded_as, after_unfold}
 use Rattle.sites.proofs.Places.{sites_length}
 use Rattle.sites.proofs.Unfolds.{put_front}
 use Rattle.sheet_digits.specs.Digits.{digits_of}
@@ -30,7 +28,7 @@ use Rattle.rule_words.specs.Stored.{kept_in, kept_at, base, run, constrained_at,
 use Rattle.tell_text.specs.Written.{Room, wrote, after, follows, nothing}
 use Rattle.tell_text.specs.Decimal.{decimal}
 use Rattle.sheet_digits.proofs.DigitLaws.{digits_append}
-use Rattle.tell_kept.specs.Listed.{or_over, site_text, c_line, c_lines, member_text, members, class_line, classes, head_text, total_line, kept_lines, told_text, refused_line, overlap_word, pair_line, set_line, terms_text, cyclic_line}
+use Rattle.tell_kept.specs.Listed.{or_over, site_text, c_line, c_lines, member_text, members, class_line, classes, head_text, total_line, kept_lines, told_text, refused_line, overlap_word, pair_line, terms_text}
 
 -- ---- one text after the other
 pub chain3 : (p q r s : Room) (a b c : List ℕ) → q ≡ wrote p a → r ≡ wrote q b → s ≡ wrote r c → s ≡ wrote p (a ++ (b ++ c))

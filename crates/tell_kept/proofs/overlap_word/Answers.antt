@@ -1,6 +1,5 @@
 use Rattle.tell_kept.proofs.Laws.{overlap_put}
 use Rattle.paper.specs.declared.Overlap.TheVariants.{No, Yes, Subset}
-use borrow.Author.Rules.{rules}
 use Rattle.tell_kept.proofs.overlap_word.Goals as goal
 
 pub returns-in-No : goal.returns-in-No

@@ -1,11 +1,4 @@
-use Prim.Native.Nat.{◌-◌, ◌≤◌}
-use mathlib.Core.Path.{◌≡◌}
-use lib.ListN.{length}
 use borrow.Author.Rules.{rules}
-use Rattle.tell_text.specs.Written.{wrote}
-use Rattle.rule_words.specs.Stored.{run, constrained_at}
-use Rattle.sites.specs.Slots.{sites_in}
-use Rattle.tell_kept.specs.Listed.{c_lines}
 use Rattle.tell_kept.proofs.Laws.{c_start, c_turn, c_done}
 use Rattle.tell_kept.proofs.put_all_constrained.Goals as goal
 

@@ -1,5 +1,4 @@
 use Rattle.tell_kept.proofs.Laws.{no_class, class_put}
-use borrow.Author.Rules.{rules}
 use Rattle.tell_kept.proofs.put_class.Goals as goal
 
 pub returns-then-equal_at-low : goal.returns-then-equal_at-low

@@ -1,11 +1,4 @@
-use Prim.Native.Nat.{◌-◌, ◌≤◌}
-use mathlib.Core.Path.{◌≡◌}
-use lib.ListN.{length}
 use borrow.Author.Rules.{rules}
-use Rattle.tell_text.specs.Written.{wrote}
-use Rattle.rule_words.specs.Stored.{run, equal_at}
-use Rattle.sites.specs.Slots.{sites_in}
-use Rattle.tell_kept.specs.Listed.{classes}
 use Rattle.tell_kept.proofs.Laws.{class_start, class_turn, class_done}
 use Rattle.tell_kept.proofs.put_classes.Goals as goal
 

@@ -2,7 +2,6 @@ use Rattle.paper.specs.declared.Constraint.TheVariants.{Variant, Struct, ConstBo
 use Rattle.tell_kept.proofs.Laws.{constraint_put, bool_put}
 use Rattle.paper.specs.Words.{two}
 use Rattle.paper.specs.Sites.{constraint_body}
-use borrow.Author.Rules.{rules}
 use Rattle.tell_kept.proofs.put_constraint.Goals as goal
 
 pub returns-in-Variant : goal.returns-in-Variant

@@ -2,7 +2,6 @@ use lib.Seq.{length-take-le}
 use mathlib.Core.Path.{sym}
 use native.Mathlib.Omega.{arith}
 use Rattle.tell_kept.proofs.Laws.{instead, whole}
-use borrow.Author.Rules.{rules}
 use Rattle.tell_kept.proofs.put_first.Goals as goal
 
 pub returns-then-room-k : goal.returns-then-room-k

@@ -1,6 +1,5 @@
 use Rattle.tell_kept.proofs.Laws.{chain4}
 use Rattle.tell_kept.specs.Listed.{head_text}
-use borrow.Author.Rules.{rules}
 use Rattle.tell_kept.proofs.put_head.Goals as goal
 
 pub returns : goal.returns

@@ -1,6 +1,5 @@
 use Rattle.tell_kept.proofs.Laws.{int_put}
 use Rattle.paper.specs.Words.{two}
-use borrow.Author.Rules.{rules}
 use Rattle.tell_kept.proofs.put_int.Goals as goal
 
 pub returns : goal.returns

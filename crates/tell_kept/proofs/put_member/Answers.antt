@@ -1,5 +1,4 @@
 use Rattle.tell_kept.proofs.Laws.{no_member, member_put}
-use borrow.Author.Rules.{rules}
 use Rattle.tell_kept.proofs.put_member.Goals as goal
 
 pub returns-then-lowest_at-low : goal.returns-then-lowest_at-low

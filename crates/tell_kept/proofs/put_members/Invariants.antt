@@ -1,12 +1,10 @@
 use Prim.Native.Nat.{◌-◌, ◌≤◌}
 use mathlib.Core.Path.{◌≡◌}
 use lib.ListN.{length}
-use borrow.Author.Rules.{rules}
 use Rattle.tell_text.specs.Written.{wrote}
 use Rattle.rule_words.specs.Stored.{run, equal_at}
 use Rattle.sites.specs.Slots.{sites_in}
 use Rattle.tell_kept.specs.Listed.{members}
-use Rattle.tell_kept.proofs.Laws.{member_start, member_turn, member_done}
 use Rattle.tell_kept.proofs.put_members.Given as goal
 
 abbrev pub invariant-loop-i : goal.invariant-loop-i

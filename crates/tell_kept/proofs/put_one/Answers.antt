@@ -1,5 +1,4 @@
 use Rattle.tell_kept.proofs.Laws.{one_put}
-use borrow.Author.Rules.{rules}
 use Rattle.tell_kept.proofs.put_one.Goals as goal
 
 pub returns : goal.returns

@@ -1,6 +1,5 @@
 use Rattle.tell_kept.proofs.Laws.{chain5}
 use Rattle.tell_kept.specs.Listed.{set_line}
-use borrow.Author.Rules.{rules}
 use Rattle.tell_kept.proofs.put_set.Goals as goal
 
 pub returns : goal.returns

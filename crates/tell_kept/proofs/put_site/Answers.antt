@@ -1,7 +1,6 @@
 use native.Mathlib.Omega.{arith}
 use Rattle.tell_kept.proofs.Laws.{instead, far_site, site_over, site_bytes}
 use mathlib.Core.Path.{refl}
-use borrow.Author.Rules.{rules}
 use Rattle.tell_kept.proofs.put_site.Goals as goal
 
 pub returns-then-s-gt65535 : goal.returns-then-s-gt65535

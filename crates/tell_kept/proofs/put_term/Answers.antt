@@ -1,5 +1,4 @@
 use Rattle.tell_kept.proofs.Laws.{term_put}
-use borrow.Author.Rules.{rules}
 use Rattle.tell_kept.proofs.put_term.Goals as goal
 
 pub returns : goal.returns

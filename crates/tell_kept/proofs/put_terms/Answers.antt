@@ -1,9 +1,5 @@
-use Prim.Native.Nat.{◌-◌, ◌≤◌}
-use mathlib.Core.Path.{◌≡◌, refl}
-use lib.ListN.{length, drop}
+use mathlib.Core.Path.{refl}
 use borrow.Author.Rules.{rules}
-use Rattle.tell_text.specs.Written.{wrote}
-use Rattle.tell_kept.specs.Listed.{terms_text}
 use Rattle.tell_kept.proofs.Laws.{term_turn, term_done}
 use Rattle.tell_kept.proofs.put_terms.Goals as goal
 

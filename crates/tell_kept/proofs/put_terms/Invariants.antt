@@ -1,10 +1,8 @@
 use Prim.Native.Nat.{◌-◌, ◌≤◌}
-use mathlib.Core.Path.{◌≡◌, refl}
+use mathlib.Core.Path.{◌≡◌}
 use lib.ListN.{length, drop}
-use borrow.Author.Rules.{rules}
 use Rattle.tell_text.specs.Written.{wrote}
 use Rattle.tell_kept.specs.Listed.{terms_text}
-use Rattle.tell_kept.proofs.Laws.{term_turn, term_done}
 use Rattle.tell_kept.proofs.put_terms.Given as goal
 
 abbrev pub invariant-loop-i : goal.invariant-loop-i

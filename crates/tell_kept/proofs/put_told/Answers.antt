@@ -2,7 +2,6 @@ use Rattle.tell_kept.proofs.Laws.{told_put}
 use Rattle.paper.specs.Numbers.{told}
 use Rattle.tell_kept.specs.Listed.{told_text}
 use Rattle.paper.specs.declared.Refusal.TheVariants.{Layout, Unknown, Itself, Unreachable, Hanging, Endless, TooManySites, TooManySources, TooManyFields, TooManyRules, TooManyItems, TooManyConstrained, TooManyEqual, TooManySets, TermTooHigh, UnfoldingTooLong, PlaceUsed, Repeated}
-use borrow.Author.Rules.{rules}
 use Rattle.tell_kept.proofs.put_told.Goals as goal
 
 pub returns-in-Layout : goal.returns-in-Layout

@@ -1,6 +1,5 @@
 use Rattle.tell_kept.proofs.Laws.{chain3}
 use Rattle.tell_kept.specs.Listed.{total_line}
-use borrow.Author.Rules.{rules}
 use Rattle.tell_kept.proofs.put_total.Goals as goal
 
 pub returns : goal.returns
