@@ -2,7 +2,6 @@
 use mathlib.Core.Path.{sym, ap}
 use Rattle.tell_reply.specs.Replies.{bool_text}
 use Rattle.tell_reply.proofs.Wording.{told}
-use borrow.Author.Rules.{rules}
 use Rattle.tell_reply.proofs.put_bool.Goals as goal
 
 pub returns-then-b : goal.returns-then-b

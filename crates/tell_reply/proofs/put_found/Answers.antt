@@ -2,7 +2,6 @@
 use mathlib.Core.Path.{sym, ap}
 use Rattle.tell_reply.specs.Replies.{found_text}
 use Rattle.tell_reply.proofs.Wording.{told}
-use borrow.Author.Rules.{rules}
 use Rattle.tell_reply.proofs.put_found.Goals as goal
 
 pub returns-in_default : goal.returns-in_default

@@ -2,7 +2,6 @@
 use mathlib.Core.Path.{sym, ap}
 use Rattle.tell_reply.specs.Replies.{looked_text}
 use Rattle.tell_reply.proofs.Wording.{told}
-use borrow.Author.Rules.{rules}
 use Rattle.tell_reply.proofs.put_looked.Goals as goal
 
 pub returns-in-Got : goal.returns-in-Got

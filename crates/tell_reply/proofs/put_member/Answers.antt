@@ -2,7 +2,6 @@
 use mathlib.Core.Path.{sym}
 use Rattle.tell_text.specs.Written.{follows}
 use Rattle.tell_reply.proofs.Wording.{told, member_first, member_next}
-use borrow.Author.Rules.{rules}
 use Rattle.tell_reply.proofs.put_member.Goals as goal
 
 pub returns-then-i-eq0 : goal.returns-then-i-eq0

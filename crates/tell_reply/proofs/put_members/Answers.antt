@@ -1,12 +1,7 @@
 -- `tell_reply::put_members` meets its contract. Assumes nothing.
-use mathlib.Core.Path.{◌≡◌, refl}
-use Prim.Native.Nat.{◌≤◌, ◌-◌}
+use mathlib.Core.Path.{refl}
 use native.Mathlib.Omega.{arith}
-use lib.ListN.{length}
-use Rattle.tell_text.specs.Written.{wrote}
-use Rattle.tell_reply.specs.Replies.{members_text}
 use Rattle.tell_reply.proofs.Wording.{members_none, members_more, members_all}
-use borrow.Author.Rules.{rules}
 use Rattle.tell_reply.proofs.put_members.Goals as goal
 
 pub loop-i-init : goal.loop-i-init

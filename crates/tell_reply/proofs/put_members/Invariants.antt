@@ -1,11 +1,8 @@
-use mathlib.Core.Path.{◌≡◌, refl}
+use mathlib.Core.Path.{◌≡◌}
 use Prim.Native.Nat.{◌≤◌, ◌-◌}
-use native.Mathlib.Omega.{arith}
 use lib.ListN.{length}
 use Rattle.tell_text.specs.Written.{wrote}
 use Rattle.tell_reply.specs.Replies.{members_text}
-use Rattle.tell_reply.proofs.Wording.{members_none, members_more, members_all}
-use borrow.Author.Rules.{rules}
 use Rattle.tell_reply.proofs.put_members.Given as goal
 
 abbrev pub invariant-loop-i : goal.invariant-loop-i

@@ -3,7 +3,6 @@ use mathlib.Core.Path.{sym, ap}
 use Rattle.tell_text.specs.Written.{nothing, follows}
 use Rattle.tell_reply.specs.Replies.{refusal_text}
 use Rattle.tell_reply.proofs.Wording.{told, refusal_other}
-use borrow.Author.Rules.{rules}
 use Rattle.tell_reply.proofs.put_refusal.Goals as goal
 
 pub returns-in-Unknown : goal.returns-in-Unknown

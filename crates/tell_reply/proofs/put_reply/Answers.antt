@@ -3,7 +3,6 @@ use mathlib.Core.Path.{sym, ap}
 use Rattle.tell_text.specs.Written.{follows}
 use Rattle.tell_reply.specs.Replies.{reply_text}
 use Rattle.tell_reply.proofs.Wording.{told}
-use borrow.Author.Rules.{rules}
 use Rattle.tell_reply.proofs.put_reply.Goals as goal
 
 pub returns-in-Merged : goal.returns-in-Merged

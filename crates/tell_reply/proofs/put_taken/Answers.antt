@@ -3,7 +3,6 @@ use mathlib.Core.Path.{sym, ap}
 use Rattle.tell_text.specs.Written.{nothing}
 use Rattle.tell_reply.specs.Replies.{taken_text}
 use Rattle.tell_reply.proofs.Wording.{told, taken_none, taken_some}
-use borrow.Author.Rules.{rules}
 use Rattle.tell_reply.proofs.put_taken.Goals as goal
 
 pub returns-then-k-eq0 : goal.returns-then-k-eq0

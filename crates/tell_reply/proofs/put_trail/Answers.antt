@@ -4,7 +4,6 @@ use Rattle.tell_text.specs.Written.{follows}
 use Rattle.paper.specs.declared.Found.{Found}
 use Rattle.tell_reply.specs.Replies.{linked}
 use Rattle.tell_reply.proofs.Wording.{told}
-use borrow.Author.Rules.{rules}
 use Rattle.tell_reply.proofs.put_trail.Goals as goal
 
 pub returns-in_default : goal.returns-in_default
