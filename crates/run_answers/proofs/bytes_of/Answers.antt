@@ -1,9 +1,5 @@
 use Rattle.run_answers.proofs.Laws.{bytes_turn, bytes_done}
-use mathlib.Core.Path.{◌≡◌, refl}
-use Prim.Native.Nat.{◌+◌}
-use lib.ListN.{length, drop}
-use Rattle.tell_text.specs.Written.{wrote}
-use Rattle.run_answers.specs.Told.{bytes_in}
+use mathlib.Core.Path.{refl}
 use borrow.Author.Rules.{rules}
 use Rattle.run_answers.proofs.bytes_of.Goals as goal
 

@@ -1,10 +1,8 @@
-use Rattle.run_answers.proofs.Laws.{bytes_turn, bytes_done}
-use mathlib.Core.Path.{◌≡◌, refl}
+use mathlib.Core.Path.{◌≡◌}
 use Prim.Native.Nat.{◌+◌}
 use lib.ListN.{length, drop}
 use Rattle.tell_text.specs.Written.{wrote}
 use Rattle.run_answers.specs.Told.{bytes_in}
-use borrow.Author.Rules.{rules}
 use Rattle.run_answers.proofs.bytes_of.Given as goal
 
 abbrev pub invariant-loop-left : goal.invariant-loop-left

@@ -1,5 +1,4 @@
 use Rattle.run_answers.proofs.Laws.{clean_last}
-use borrow.Author.Rules.{rules}
 use Rattle.run_answers.proofs.is_clean.Goals as goal
 
 pub returns : goal.returns

@@ -1,5 +1,4 @@
 use Rattle.run_answers.proofs.Laws.{stop_short, stop_first, stop_second}
-use borrow.Author.Rules.{rules}
 use Rattle.run_answers.proofs.is_stop.Goals as goal
 
 pub returns-then-found-lt2 : goal.returns-then-found-lt2

@@ -1,6 +1,5 @@
 -- named: in place the search does not find it
 use Rattle.run_answers.proofs.Laws.{none_open}
-use borrow.Author.Rules.{rules}
 use Rattle.run_answers.proofs.open_set.Goals as goal
 
 pub returns-in-Outside : goal.returns-in-Outside

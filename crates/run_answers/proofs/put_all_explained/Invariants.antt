@@ -1,12 +1,8 @@
-use mathlib.Core.Path.{◌≡◌, refl, sym, ◌∙◌}
+use mathlib.Core.Path.{◌≡◌}
 use Prim.Native.Nat.{◌-◌}
-use native.Mathlib.Omega.{arith}
 use lib.ListN.{length, drop}
-use borrow.Author.Rules.{rules}
 use Rattle.tell_text.specs.Written.{wrote}
-use Rattle.sheet_lines.specs.Cut.{line_inside}
 use Rattle.run_answers.specs.Told.{in_words}
-use Rattle.run_answers.proofs.Laws.{said_turn, said_open, said_done}
 use Rattle.run_answers.proofs.put_all_explained.Given as goal
 
 abbrev pub invariant-loop-from : goal.invariant-loop-from

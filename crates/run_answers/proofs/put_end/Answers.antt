@@ -1,5 +1,4 @@
 use Rattle.run_answers.proofs.Laws.{check_last, explain_last, show_last}
-use borrow.Author.Rules.{rules}
 use Rattle.run_answers.proofs.put_end.Goals as goal
 
 pub returns-in-Check : goal.returns-in-Check

@@ -1,5 +1,4 @@
 use Rattle.run_answers.proofs.Laws.{begun_put, site_put, item_put, kept_put, refused_put, ended_put, stopped_put, unread_put}
-use borrow.Author.Rules.{rules}
 use Rattle.run_answers.proofs.put_event.Goals as goal
 
 pub returns-in-Begun : goal.returns-in-Begun

@@ -1,5 +1,4 @@
 use Rattle.run_answers.proofs.Laws.{last_stop, last_cyclic}
-use borrow.Author.Rules.{rules}
 use Rattle.run_answers.proofs.put_last.Goals as goal
 
 pub returns-then-is_stop : goal.returns-then-is_stop

@@ -1,5 +1,4 @@
 use Rattle.run_answers.proofs.Laws.{why_line, other_line}
-use borrow.Author.Rules.{rules}
 use Rattle.run_answers.proofs.put_line_explained.Goals as goal
 
 pub returns-in-Refused : goal.returns-in-Refused

@@ -1,11 +1,9 @@
-use Rattle.run_answers.proofs.Laws.{pairs_start, pairs_turn, pairs_done}
 use mathlib.Core.Path.{◌≡◌}
 use Prim.Native.Nat.{◌-◌}
 use lib.ListN.{length}
 use Rattle.tell_text.specs.Written.{wrote}
 use Rattle.rule_words.specs.Stored.{kept_in, kept_first, run}
 use Rattle.run_answers.specs.Told.{pair_lines}
-use borrow.Author.Rules.{rules}
 use Rattle.run_answers.proofs.put_pairs.Given as goal
 
 abbrev pub invariant-loop-i : goal.invariant-loop-i

@@ -1,10 +1,5 @@
 use Rattle.run_answers.proofs.Laws.{pair_turn, pair_done}
-use mathlib.Core.Path.{◌≡◌, refl}
-use Prim.Native.Nat.{◌+◌, ◌-◌, ◌≤◌}
-use lib.ListN.{length}
-use Rattle.tell_text.specs.Written.{wrote}
-use Rattle.rule_words.specs.Stored.{kept_in, run}
-use Rattle.run_answers.specs.Told.{pairs_with}
+use mathlib.Core.Path.{refl}
 use borrow.Author.Rules.{rules}
 use Rattle.run_answers.proofs.put_pairs_of.Goals as goal
 

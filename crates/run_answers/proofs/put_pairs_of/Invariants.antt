@@ -1,11 +1,9 @@
-use Rattle.run_answers.proofs.Laws.{pair_turn, pair_done}
-use mathlib.Core.Path.{◌≡◌, refl}
+use mathlib.Core.Path.{◌≡◌}
 use Prim.Native.Nat.{◌+◌, ◌-◌, ◌≤◌}
 use lib.ListN.{length}
 use Rattle.tell_text.specs.Written.{wrote}
 use Rattle.rule_words.specs.Stored.{kept_in, run}
 use Rattle.run_answers.specs.Told.{pairs_with}
-use borrow.Author.Rules.{rules}
 use Rattle.run_answers.proofs.put_pairs_of.Given as goal
 
 abbrev pub invariant-loop-j : goal.invariant-loop-j

@@ -1,5 +1,4 @@
 use Rattle.run_answers.proofs.Laws.{check_put, explain_put, show_put}
-use borrow.Author.Rules.{rules}
 use Rattle.run_answers.proofs.put_step.Goals as goal
 
 pub returns-in-Check : goal.returns-in-Check

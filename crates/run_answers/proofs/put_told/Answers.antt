@@ -1,5 +1,4 @@
 use Rattle.run_answers.proofs.Laws.{none_told, both_told}
-use borrow.Author.Rules.{rules}
 use Rattle.run_answers.proofs.put_told.Goals as goal
 
 pub returns-then-number_of-lt-FIRST_LIMIT : goal.returns-then-number_of-lt-FIRST_LIMIT

@@ -1,5 +1,4 @@
 use Rattle.paper.specs.Words.{four}
-use borrow.Author.Rules.{rules}
 use Rattle.run_answers.proofs.put_word.Goals as goal
 
 pub returns : goal.returns

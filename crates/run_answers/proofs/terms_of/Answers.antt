@@ -1,7 +1,6 @@
 use mathlib.Core.Path.{sym, ap, ◌∙◌}
 use lib.Seq.{length-take-le}
 use Rattle.sheet_lines.specs.Cut.{part_of, first_there, part_past}
-use borrow.Author.Rules.{rules}
 use Rattle.run_answers.proofs.terms_of.Goals as goal
 
 pub slice_bounds-result-end : goal.slice_bounds-result-end

@@ -1,5 +1,4 @@
 use mathlib.Core.Path.{sym, ap}
-use borrow.Author.Rules.{rules}
 use Rattle.run_answers.specs.Told.{why_of}
 use Rattle.run_answers.proofs.why_of.Goals as goal
 
