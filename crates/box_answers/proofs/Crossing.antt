@@ -1,11 +1,11 @@
 -- What crosses is what the calls beneath answer: one law for each kind of answer, and those of slices that are too short.
 use mathlib.Core.Path.{◌≡◌, refl, ap, sym, ◌∙◌}
-use mathlib.Core.Bool.{Bool, true, false, ◌&&◌, not}
-use mathlib.Core.List.{List, [], ◌∷◌, ◌++◌}
-use Prim.Native.Nat.{ℕ, suc, ◌+◌, ◌<◌, ◌≤◌, min}
+use mathlib.Core.Bool.{Bool, true, false, not}
+use mathlib.Core.List.{List, [], ◌∷◌}
+use Prim.Native.Nat.{ℕ, ◌+◌, ◌<◌, ◌≤◌}
 use native.Mathlib.Omega.{arith}
-use lib.ListN.{length, get_or, set, take, drop}
-use lib.Dec.{ltb, leb}
+use lib.ListN.{length, get_or, set}
+use lib.Dec.{ltb}
 use borrow.Author.Tests.{le-leb, lt-leb, lt-ltb, le-ltb, eq-eqb, ne_eqb}
 use Rattle.paper.specs.declared.Refusal.{Refusal}
 use Rattle.paper.specs.declared.Refusal.TheVariants.{Layout}
@@ -31,7 +31,7 @@ use Rattle.term_table.specs.Table.{left, bare, added, no_marks, listed}
 use Rattle.box_answers.specs.declared.Said.{Said}
 use Rattle.box_answers.specs.Loads.{loaded_said, handed}
 use Rattle.box_answers.specs.Telling.{one_told, two_told, tells}
-use Rattle.box_answers.specs.Border.{short, answer_words, said, said_by, left_by, has_room, both, has_rule, has_rules, answered, after, bit, trail_words, flattened_words, removed_words, added_words, listed_in, looked_said, sought_said, joined_said, same_said, taken_said, numbered_said, unfolded_said, added_said}
+use Rattle.box_answers.specs.Border.{short, said, said_by, left_by, has_room, both, has_rule, has_rules, answered, after, bit, trail_words, flattened_words, removed_words, added_words, listed_in, looked_said, sought_said, joined_said, same_said, taken_said, numbered_said, unfolded_said, added_said}
 
 -- ---- slices that are too short, and those that are not
 

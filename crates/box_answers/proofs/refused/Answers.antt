@@ -1,5 +1,4 @@
 -- `box_answers::refused` meets its contract. Assumes nothing.
-use borrow.Author.Rules.{rules}
 use Rattle.box_answers.proofs.Crossing.{refused_as}
 use Rattle.box_answers.proofs.refused.Goals as goal
 

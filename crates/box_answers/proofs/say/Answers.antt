@@ -1,5 +1,4 @@
 -- `box_answers::say` meets its contract. Assumes nothing.
-use borrow.Author.Rules.{rules}
 use Rattle.box_answers.proofs.Crossing.{too_short, said_out, less, enough}
 use Rattle.box_answers.proofs.say.Goals as goal
 

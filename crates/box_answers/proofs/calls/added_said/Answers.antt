@@ -1,6 +1,5 @@
 -- `box_answers::calls::added_said` meets its contract. Assumes nothing.
 use mathlib.Core.Path.{sym, ap, ◌∙◌}
-use borrow.Author.Rules.{rules}
 use Rattle.box_answers.specs.Border.{added_said}
 use Rattle.box_answers.proofs.calls.added_said.Goals as goal
 

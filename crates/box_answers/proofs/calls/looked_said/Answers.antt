@@ -1,6 +1,5 @@
 -- `box_answers::calls::looked_said` meets its contract. Assumes nothing.
 use mathlib.Core.Path.{sym, ap, ◌∙◌}
-use borrow.Author.Rules.{rules}
 use Rattle.box_answers.specs.Border.{looked_said}
 use Rattle.box_answers.proofs.calls.looked_said.Goals as goal
 

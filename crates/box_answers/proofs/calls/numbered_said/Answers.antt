@@ -1,6 +1,5 @@
 -- `box_answers::calls::numbered_said` meets its contract. Assumes nothing.
 use mathlib.Core.Path.{sym, ap, refl, ◌∙◌}
-use borrow.Author.Rules.{rules}
 use Rattle.box_answers.specs.Border.{numbered_said}
 use Rattle.box_answers.proofs.Crossing.{done_as}
 use Rattle.box_answers.proofs.calls.numbered_said.Goals as goal

@@ -1,6 +1,5 @@
 -- `box_answers::calls::reported_said` meets its contract. Assumes nothing.
 use mathlib.Core.Path.{sym, ap, refl, ◌∙◌}
-use borrow.Author.Rules.{rules}
 use Rattle.paper.specs.Numbers.{number, told}
 use Rattle.box_answers.specs.Border.{reported_said}
 use Rattle.box_answers.proofs.Crossing.{done_as}

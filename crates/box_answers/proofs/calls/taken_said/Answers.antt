@@ -1,6 +1,5 @@
 -- `box_answers::calls::taken_said` meets its contract. Assumes nothing.
 use mathlib.Core.Path.{sym, ap, ◌∙◌}
-use borrow.Author.Rules.{rules}
 use Rattle.box_answers.specs.Border.{taken_said}
 use Rattle.box_answers.proofs.calls.taken_said.Goals as goal
 

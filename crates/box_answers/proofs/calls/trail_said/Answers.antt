@@ -1,5 +1,4 @@
 -- `box_answers::calls::trail_said` meets its contract. Assumes nothing.
-use borrow.Author.Rules.{rules}
 use Rattle.box_answers.specs.Border.{looked_said}
 use Rattle.box_answers.proofs.Crossing.{done_as}
 use Rattle.box_answers.proofs.calls.trail_said.Goals as goal

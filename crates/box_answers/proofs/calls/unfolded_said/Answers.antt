@@ -1,6 +1,5 @@
 -- `box_answers::calls::unfolded_said` meets its contract. Assumes nothing.
 use mathlib.Core.Path.{sym, ap, ◌∙◌}
-use borrow.Author.Rules.{rules}
 use Rattle.box_answers.specs.Border.{unfolded_said}
 use Rattle.box_answers.proofs.calls.unfolded_said.Goals as goal
 
