@@ -1,20 +1,18 @@
 -- The sheet calls: what is fed, ended and checked, over the words and bytes that are lent.
 use mathlib.Core.Path.{◌≡◌, refl, ap, sym, ◌∙◌}
 use mathlib.Core.Bool.{Bool, true, false}
-use mathlib.Core.List.{List, [], ◌∷◌, ◌++◌, append-nil}
+use mathlib.Core.List.{List, [], ◌∷◌, append-nil}
 use mathlib.Core.Logic.{◌⊎◌, inl, inr, ⊎_elim}
 use Prim.Native.Nat.{ℕ, zero, suc, ◌+◌, ◌≤◌, ◌<◌}
 use native.Mathlib.Nat.{zero-add}
 use native.Mathlib.Omega.{arith}
-use lib.ListN.{length, get_or, set, take, drop, length-set, take-append-drop, length-replicate}
-use lib.Seq.{take_all, get_or-set_same, get_or-set_other}
+use lib.ListN.{length, get_or, set, take, drop, take-append-drop, length-replicate}
+use lib.Seq.{take_all}
 use lib.Dec.{leb}
 use borrow.Author.Tests.{leb-true}
 use Rattle.std.specs.Prelude.{if◌then◌else◌}
 use Rattle.paper.specs.Words.{joined}
-use Rattle.paper.specs.Sheets.{findings}
 use Rattle.paper.proofs.Lists.{no_way}
-use Rattle.sheet_findings.specs.Written.{written_at}
 use Rattle.sheet_findings.specs.declared.Room.{Room}
 use Rattle.sheet_findings.specs.declared.Room.TheVariants as rooms
 use Rattle.term_table.specs.Table.{Square, no_edges, no_marks}
@@ -22,17 +20,17 @@ use Rattle.sheet_ended.specs.Sets.{end_room, no_sets}
 use Rattle.sheet_lines.specs.Fed.{Reading, going, stopped, begun, fed, behind, fed_all, ended, max_held}
 use Rattle.sheet_lines.specs.Pieces.{as_lines, fed_append}
 use Rattle.sheet_lines.specs.Held.{no_line}
-use Rattle.sheet_reader.specs.State.{Lent, lent, Roomy, step_room, sites_room, kept_room, items_room}
+use Rattle.sheet_reader.specs.State.{Lent, lent, step_room, sites_room, kept_room, items_room}
 use Rattle.sheet_read.specs.declared.State.{State}
 use Rattle.sheet_read.specs.declared.Checked.{Checked}
 use Rattle.sheet_read.specs.declared.Checked.TheVariants as checked
-use Rattle.sheet_read.specs.Whole.{first_state, Shows, Fedding, Feeds, Ends, Ending, Pauses, Checks, Enough}
+use Rattle.sheet_read.specs.Whole.{first_state, Shows, Feeds, Ends, Pauses, Checks, Enough}
 use Rattle.sheet_read.proofs.Feeding.{shows_first}
-use Rattle.sheet_state.specs.State.{state_words, keeps, state_in, state_put, held_put}
-use Rattle.sheet_state.proofs.Reading.{SmallStands, SmallState, kept_state, put_there}
+use Rattle.sheet_state.specs.State.{state_words, state_in, state_put, held_put}
+use Rattle.sheet_state.proofs.Reading.{SmallStands, SmallState, kept_state}
 use Rattle.box_answers.specs.declared.Said.{Said}
 use Rattle.box_answers.specs.Border.{short, answer_words, said, has_room, both, answered, after}
-use Rattle.box_sheet.specs.Sheet.{lends, writes, begun_number, Fed, Unfed, FeedSays, ended_said, Closed, EndSays, checked_said, Found, Crowded, Unread, CheckSays}
+use Rattle.box_sheet.specs.Sheet.{lends, writes, begun_number, Fed, FeedSays, ended_said, Closed, EndSays, checked_said, CheckSays}
 use Rattle.box_answers.proofs.Crossing.{stayed, went, enough}
 
 -- ---- a sheet that stopped: what comes behind is read, and nothing is found

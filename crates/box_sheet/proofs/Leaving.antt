@@ -1,23 +1,23 @@
 -- What the sheet calls leave: what each return asks.
-use mathlib.Core.Path.{◌≡◌, refl, sym, ap, ◌∙◌}
-use mathlib.Core.Bool.{Bool, true, false}
+use mathlib.Core.Path.{◌≡◌, ap, ◌∙◌}
+use mathlib.Core.Bool.{true, false}
 use mathlib.Core.List.{List, [], ◌∷◌}
 use Prim.Native.Nat.{ℕ}
 use lib.ListN.{length}
 use Rattle.std.specs.Prelude.{if◌then◌else◌}
 use Rattle.term_table.specs.Table.{Square}
 use Rattle.sheet_findings.specs.declared.Room.{Room}
-use Rattle.sheet_reader.specs.State.{Lent, step_room}
+use Rattle.sheet_reader.specs.State.{Lent}
 use Rattle.sheet_reader.proofs.Leaving.{if_yes, if_no}
-use Rattle.sheet_state.specs.State.{keeps, state_in, state_put, held_put}
+use Rattle.sheet_state.specs.State.{state_in, state_put, held_put}
 use Rattle.sheet_read.specs.Leaves as read
 use Rattle.sheet_read.specs.Leaves.{leaves, feed_in, end_in, check_in}
 use Rattle.sheet_read.specs.declared.State.{State}
 use Rattle.sheet_read.specs.declared.Fed.{Fed}
 use Rattle.sheet_read.specs.declared.Checked.{Checked}
 use Rattle.box_answers.specs.declared.Said.{Said}
-use Rattle.box_answers.specs.Border.{short, said, both, answered}
-use Rattle.box_sheet.specs.Sheet.{lends, writes, ended_said, checked_said}
+use Rattle.box_answers.specs.Border.{short, said, answered}
+use Rattle.box_sheet.specs.Sheet.{ended_said, checked_said}
 use Rattle.box_sheet.specs.Leaves.{piece_left, counted_in, piece_fed, piece_fits, piece_in, ending_left, ending_said, ending_fits, ending_in, sheet_left, sheet_said, sheet_fits, sheet_in}
 
 -- ---- feed

@@ -1,8 +1,7 @@
 -- `box_sheet::begin_sheet` meets its contract. Assumes nothing.
-use mathlib.Core.Path.{refl, sym, ◌∙◌}
+use mathlib.Core.Path.{sym, ◌∙◌}
 use Rattle.box_sheet.proofs.Feeding.{begin_short, begin_done}
 use Rattle.sheet_state.proofs.Reading.{put_there}
-use borrow.Author.Rules.{rules}
 use Rattle.box_sheet.proofs.begin_sheet.Goals as goal
 
 pub returns-then-not-whole : goal.returns-then-not-whole

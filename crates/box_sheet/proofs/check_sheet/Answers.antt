@@ -3,7 +3,6 @@ use mathlib.Core.Path.{refl, sym, ◌∙◌}
 use Rattle.box_answers.proofs.Crossing.{first_no, second_no, both_yes}
 use Rattle.box_sheet.proofs.Leaving.{sheet_short, sheet_there}
 use Rattle.box_sheet.proofs.Feeding.{lends_long, writes_long, said_there, check_short, check_says}
-use borrow.Author.Rules.{rules}
 use Rattle.box_sheet.proofs.check_sheet.Goals as goal
 
 pub returns-then-not-memory-clause-result_after : goal.returns-then-not-memory-clause-result_after

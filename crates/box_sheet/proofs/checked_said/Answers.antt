@@ -2,7 +2,6 @@
 use mathlib.Core.Path.{sym, ap, refl, ◌∙◌}
 use Rattle.box_sheet.specs.Sheet.{checked_said}
 use Rattle.box_answers.proofs.Crossing.{done_as}
-use borrow.Author.Rules.{rules}
 use Rattle.box_sheet.proofs.checked_said.Goals as goal
 
 pub returns-in-Done : goal.returns-in-Done

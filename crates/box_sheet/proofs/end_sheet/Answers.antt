@@ -3,7 +3,6 @@ use mathlib.Core.Path.{refl, sym, ◌∙◌}
 use Rattle.box_answers.proofs.Crossing.{first_no, second_no, both_yes}
 use Rattle.box_sheet.proofs.Leaving.{ending_short, ending_there}
 use Rattle.box_sheet.proofs.Feeding.{writes_long, said_there, end_short, end_says}
-use borrow.Author.Rules.{rules}
 use Rattle.box_sheet.proofs.end_sheet.Goals as goal
 
 pub returns-then-not-whole-clause-result_after : goal.returns-then-not-whole-clause-result_after

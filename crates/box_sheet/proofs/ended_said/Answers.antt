@@ -2,7 +2,6 @@
 use mathlib.Core.Path.{sym, ap, refl, ◌∙◌}
 use Rattle.box_sheet.specs.Sheet.{ended_said}
 use Rattle.box_answers.proofs.Crossing.{done_as}
-use borrow.Author.Rules.{rules}
 use Rattle.box_sheet.proofs.ended_said.Goals as goal
 
 pub returns-in-To : goal.returns-in-To

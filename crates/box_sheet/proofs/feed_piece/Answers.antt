@@ -1,10 +1,9 @@
 -- `box_sheet::feed_piece` meets its contract. Assumes nothing.
-use mathlib.Core.Path.{refl, sym, ◌∙◌}
+use mathlib.Core.Path.{sym, ◌∙◌}
 use Rattle.box_answers.proofs.Crossing.{first_no, second_no, both_yes, done_as}
 use Rattle.box_sheet.proofs.Leaving.{piece_short, piece_there}
 use Rattle.box_sheet.proofs.Feeding.{writes_long, said_there, feed_short, fed_there, feed_says}
 use Rattle.sheet_state.proofs.Reading.{put_there}
-use borrow.Author.Rules.{rules}
 use Rattle.box_sheet.proofs.feed_piece.Goals as goal
 
 pub returns-then-not-whole-clause-result_after : goal.returns-then-not-whole-clause-result_after
