@@ -1,6 +1,5 @@
 -- `lintelbox::joins::lintel_find` meets its contract. Assumes nothing.
 use mathlib.Core.Path.{ap, ◌∙◌}
-use borrow.Author.Rules.{rules}
 use Rattle.box_answers.specs.Border.{looked_said}
 use Rattle.box_answers.proofs.Crossing.{via, looked_is}
 use Rattle.lintelbox.proofs.joins.lintel_find.Goals as goal

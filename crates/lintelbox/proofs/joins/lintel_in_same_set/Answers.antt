@@ -1,6 +1,5 @@
 -- `lintelbox::joins::lintel_in_same_set` meets its contract. Assumes nothing.
 use mathlib.Core.Path.{ap, ◌∙◌}
-use borrow.Author.Rules.{rules}
 use Rattle.box_answers.specs.Border.{same_said}
 use Rattle.box_answers.proofs.Crossing.{via, same_is}
 use Rattle.lintelbox.proofs.joins.lintel_in_same_set.Goals as goal

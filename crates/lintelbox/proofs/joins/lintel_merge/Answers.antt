@@ -1,6 +1,5 @@
 -- `lintelbox::joins::lintel_merge` meets its contract. Assumes nothing.
 use mathlib.Core.Path.{◌∙◌}
-use borrow.Author.Rules.{rules}
 use Rattle.box_answers.proofs.Crossing.{too_short, stayed, went, less, enough, via, merged_is}
 use Rattle.lintelbox.proofs.joins.lintel_merge.Goals as goal
 

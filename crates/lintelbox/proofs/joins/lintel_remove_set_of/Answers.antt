@@ -1,6 +1,5 @@
 -- `lintelbox::joins::lintel_remove_set_of` meets its contract. Assumes nothing.
 use mathlib.Core.Path.{◌∙◌}
-use borrow.Author.Rules.{rules}
 use Rattle.box_answers.proofs.Crossing.{too_short, stayed, went, less, enough, first_no, second_no, both_yes, via, past, all_taken}
 use Rattle.lintelbox.proofs.joins.lintel_remove_set_of.Goals as goal
 

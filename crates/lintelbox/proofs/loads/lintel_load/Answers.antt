@@ -1,6 +1,5 @@
 -- `lintelbox::loads::lintel_load` meets its contract. Assumes nothing.
 use mathlib.Core.Path.{refl}
-use borrow.Author.Rules.{rules}
 use Rattle.box_answers.proofs.Crossing.{too_short, stayed, went, less, enough, first_no, second_no, both_yes, via, past, load_said, load_sites, load_words, stray_said, stray_sites, stray_words, straight_said, straight_sites, straight_words}
 use Rattle.lintelbox.proofs.loads.lintel_load.Goals as goal
 

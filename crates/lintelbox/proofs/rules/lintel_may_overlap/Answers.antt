@@ -1,6 +1,5 @@
 -- `lintelbox::rules::lintel_may_overlap` meets its contract. Assumes nothing.
 use mathlib.Core.Path.{ap, refl, ◌∙◌}
-use borrow.Author.Rules.{rules}
 use Rattle.box_answers.specs.Border.{overlap_word}
 use Rattle.box_answers.proofs.Crossing.{too_short, no_rule, rule_there, first_no, second_no, via, past, done_as}
 use Rattle.lintelbox.proofs.rules.lintel_may_overlap.Goals as goal

@@ -1,6 +1,5 @@
 -- `lintelbox::rules::lintel_report` meets its contract. Assumes nothing.
 use mathlib.Core.Path.{ap, ◌∙◌}
-use borrow.Author.Rules.{rules}
 use Rattle.box_answers.specs.Border.{reported_said}
 use Rattle.box_answers.proofs.Crossing.{too_short, stayed, went, less, enough, no_rules, rules_there, first_no, second_no, both_yes, via, past}
 use Rattle.lintelbox.proofs.rules.lintel_report.Goals as goal

@@ -1,6 +1,5 @@
 -- `lintelbox::rules::lintel_total_constraints` meets its contract. Assumes nothing.
 use mathlib.Core.Path.{refl}
-use borrow.Author.Rules.{rules}
 use Rattle.box_answers.proofs.Crossing.{too_short, no_rule, rule_there, first_no, via, past, done_as}
 use Rattle.lintelbox.proofs.rules.lintel_total_constraints.Goals as goal
 

@@ -1,6 +1,5 @@
 -- `lintelbox::tables::lintel_add_site` meets its contract. Assumes nothing.
 use mathlib.Core.Path.{ap, ◌∙◌}
-use borrow.Author.Rules.{rules}
 use Rattle.box_answers.specs.Border.{numbered_said}
 use Rattle.box_answers.proofs.Crossing.{too_short, stayed, went, less, enough, via, numbered_is}
 use Rattle.lintelbox.proofs.tables.lintel_add_site.Goals as goal

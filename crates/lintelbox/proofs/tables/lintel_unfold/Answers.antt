@@ -1,6 +1,5 @@
 -- `lintelbox::tables::lintel_unfold` meets its contract. Assumes nothing.
 use mathlib.Core.Path.{ap, ◌∙◌}
-use borrow.Author.Rules.{rules}
 use Rattle.box_answers.specs.Border.{unfolded_said}
 use Rattle.box_answers.proofs.Crossing.{too_short, stayed, went, less, enough, first_no, second_no, both_yes, via, past, unfolded_is}
 use Rattle.lintelbox.proofs.tables.lintel_unfold.Goals as goal

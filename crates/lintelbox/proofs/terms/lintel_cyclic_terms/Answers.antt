@@ -2,7 +2,6 @@
 use mathlib.Core.List.{◌++◌}
 use mathlib.Core.Path.{ap, refl, ◌∙◌}
 use lib.ListN.{drop}
-use borrow.Author.Rules.{rules}
 use Rattle.term_table.specs.Table.{terms}
 use Rattle.term_table.specs.declared.Listed.{Listed}
 use Rattle.box_answers.proofs.Crossing.{too_short, stayed, went, less, enough, first_no, second_no, both_yes, via, past, done_as, listed_count}

@@ -1,6 +1,5 @@
 -- `lintelbox::terms::lintel_mark_rec` meets its contract. Assumes nothing.
 use mathlib.Core.Path.{◌∙◌}
-use borrow.Author.Rules.{rules}
 use Rattle.box_answers.proofs.Crossing.{too_short, stayed, went, less, enough, via, added_is, left_is}
 use Rattle.lintelbox.proofs.terms.lintel_mark_rec.Goals as goal
 

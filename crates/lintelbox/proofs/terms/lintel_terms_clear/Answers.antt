@@ -1,5 +1,4 @@
 -- `lintelbox::terms::lintel_terms_clear` meets its contract. Assumes nothing.
-use borrow.Author.Rules.{rules}
 use Rattle.box_answers.proofs.Crossing.{no_marks_is}
 use Rattle.lintelbox.proofs.terms.lintel_terms_clear.Goals as goal
 

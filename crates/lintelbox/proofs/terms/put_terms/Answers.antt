@@ -1,10 +1,5 @@
 -- `lintelbox::terms::put_terms` meets its contract. Assumes nothing.
-use mathlib.Core.Path.{◌≡◌}
-use Prim.Native.Nat.{◌-◌, ◌≤◌}
 use native.Mathlib.Omega.{arith}
-use lib.Seq.{paste}
-use borrow.Author.Rules.{rules}
-use Rattle.term_table.specs.Table.{terms}
 use Rattle.sheet_state.proofs.Reading.{copied_none, copied_turn, copied_length, copied_all}
 use Rattle.lintelbox.proofs.terms.put_terms.Goals as goal
 

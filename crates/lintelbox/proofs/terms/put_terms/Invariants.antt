@@ -1,10 +1,7 @@
 use mathlib.Core.Path.{◌≡◌}
 use Prim.Native.Nat.{◌-◌, ◌≤◌}
-use native.Mathlib.Omega.{arith}
 use lib.Seq.{paste}
-use borrow.Author.Rules.{rules}
 use Rattle.term_table.specs.Table.{terms}
-use Rattle.sheet_state.proofs.Reading.{copied_none, copied_turn, copied_length, copied_all}
 use Rattle.lintelbox.proofs.terms.put_terms.Given as goal
 
 abbrev pub invariant-loop-i : goal.invariant-loop-i
