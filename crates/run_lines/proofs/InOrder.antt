@@ -2,7 +2,7 @@
 -- behind it.
 use mathlib.Core.Path.{◌≡◌, refl, sym, ap, ◌∙◌}
 use mathlib.Core.Bool.{Bool, true, false}
-use mathlib.Core.List.{List, [], ◌∷◌, ◌++◌}
+use mathlib.Core.List.{List, [], ◌++◌}
 use Prim.Native.Nat.{ℕ, ◌+◌, ◌-◌, ◌≤◌, ◌<◌}
 use native.Mathlib.Omega.{arith}
 use lib.ListN.{length, take, drop, length-append}
@@ -16,7 +16,7 @@ use Rattle.paper.specs.Sheets as paper
 use Rattle.sheet_findings.specs.Written.{written_at}
 use Rattle.sheet_lines.specs.Cut.{part_of, first_there}
 use Rattle.sheet_reader.specs.State.{Lent, Tells, stands_in, reader_of, step_room}
-use Rattle.sheet_reader.specs.Answers.{Answers, Goes, Steps, line_event, told, text_of}
+use Rattle.sheet_reader.specs.Answers.{Steps, line_event, told, text_of}
 use Rattle.sheet_reader.specs.declared.Reader.{Reader}
 use Rattle.sheet_reader.specs.declared.Event.{Event}
 use Rattle.tell_text.specs.Written.{Room, wrote}

@@ -1,6 +1,6 @@
 -- Laws of lines and sheets in the buffers, for the functions' proofs.
 use mathlib.Core.Path.{◌≡◌, refl, sym, ap, subst, ◌∙◌}
-use mathlib.Core.Bool.{Bool, true, false, ◌&&◌, ◌||◌, not}
+use mathlib.Core.Bool.{Bool, true, false, ◌&&◌, ◌||◌}
 use mathlib.Core.List.{List, [], ◌∷◌}
 use Prim.Native.Nat.{ℕ, ◌+◌, ◌-◌, ◌≤◌, ◌<◌}
 use Rattle.std.specs.Prelude.{Result, Ok, Err, OnOk, OnErr}
@@ -21,13 +21,13 @@ use Rattle.sheet_reader.specs.State.{Lent, lent}
 use Rattle.sheet_reader.specs.Answers.{Stepping}
 use Rattle.sheet_read.specs.declared.State.{State}
 use Rattle.sheet_read.specs.Whole.{first_state, Ends}
-use Rattle.tell_text.specs.Written.{Room, wrote}
+use Rattle.tell_text.specs.Written.{wrote}
 use Rattle.run_answers.specs.declared.How.{How}
 use Rattle.run_answers.specs.Told.{answer, last_answer}
 use Rattle.run_answers.proofs.Laws.{first_same, first_other, one_same, other_length}
 use Rattle.run_lines.specs.declared.Marks.{Marks}
 use Rattle.run_lines.specs.declared.Flow.{Flow}
-use Rattle.run_lines.specs.Taken.{is_border, goes_on, need, spared, free_in, Took, state_of, ToldLast, Closed, fresh_flow, Bordered, flow_of, Passed, Taken}
+use Rattle.run_lines.specs.Taken.{is_border, goes_on, need, spared, free_in, Took, state_of, Closed, fresh_flow, Bordered, flow_of, Taken}
 
 -- a fact stands beside a result, whichever it is
 pub at_ok : {T E P : Type 0} (r : Result T E) → P → OnOk r P

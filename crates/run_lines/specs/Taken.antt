@@ -51,6 +51,10 @@ spared n filled = if ltb (filled + need) n then filled else 0
 unfoldable pub written_out : List ℕ → ℕ → List ℕ
 written_out out filled = if ltb (filled + need) (length out) then [] else part_of out 0 filled
 
+-- less than `need` is left: the buffer is written out before the next answer, and that alone can fail
+abbrev pub Overfull : List ℕ → ℕ → Type 0
+Overfull out filled = ltb (filled + need) (length out) ≡ false
+
 -- where the next answer goes
 abbrev pub free_in : List ℕ → Marks → Room
 free_in out k = (out, spared (length out) k.filled)
@@ -99,6 +103,10 @@ pub record Bordered (how : How) (r : Reader) (k : Marks) (t t' : Square) (room r
 -- a whole line, of one sheet or of many
 abbrev pub flow_of : Reader → Marks → Flow
 flow_of r k = record { reader = r; marks = k }
+
+-- a line that is answered: a border, or a line of a sheet that goes on
+abbrev pub is_told : Bool → List ℕ → Marks → Bool
+is_told many l k = (many && is_border l) || k.goes
 
 pub record Passed (r : Reader) (k : Marks) (before after : Lent) (room room' out out' : List ℕ) (f : Flow) : Type 0 where
   pub flow : f ≡ flow_of r k

@@ -2,10 +2,10 @@
 // the next. Where the buffer may be too short for an answer it is written out first. proofs/InOrder.antt has what the contracts come to.
 #![tactic(auto)]
 
-ghost use Rattle.std.specs.Prelude.{◌≡◌, Bool, ◌&&◌, ◌||◌, ◌+◌, length, ltb, IfOk, OnErr};
+ghost use Rattle.std.specs.Prelude.{◌≡◌, Bool, true, ◌&&◌, ◌||◌, ◌+◌, length, ltb, IfOk, OnErr};
 ghost use Rattle.term_table.specs.Table.{no_edges};
 ghost use Rattle.sheet_reader.specs.State.{lent};
-ghost use Rattle.run_lines.specs.Taken.{is_border, goes_on, need, spared, Took, Closed, fresh_flow, Bordered, Taken, Unchanged};
+ghost use Rattle.run_lines.specs.Taken.{is_border, goes_on, need, spared, Overfull, Took, Closed, fresh_flow, Bordered, is_told, Taken, Unchanged};
 
 use paper::TERMS;
 use run_answers::{How, put_end, put_step};
@@ -54,7 +54,8 @@ fn flush<W: io::Write>(output: &mut W, out: &[u8], n: usize) -> io::Result<()> {
 
 // Writes the buffer out where less than NEED is left: how much of it is filled then.
 fn spare<W: io::Write>(output: &mut W, out: &[u8], n: usize) -> io::Result<usize>
-    ensures { IfOk result (λ at. at ≡ spared (length out.now) n) }
+    ensures filled { IfOk result (λ at. at ≡ spared (length out.now) n) }
+    ensures overfull { OnErr result (Overfull out.now n) }
 {
     if has_room(out.len(), n) {
         return Ok(n);
@@ -119,6 +120,7 @@ fn take_line<W: io::Write>(
     ensures failed { let before = lent m.old words.old items.old table.old in
         let after = lent m.new words.new items.new table.new in
         OnErr result (Unchanged before after room.old room.new out.old out.new) }
+    ensures overfull { OnErr result (Overfull out.old marks.filled) }
 {
     let at = spare(output, out, marks.filled)?;
     let stood = reader.stands;
@@ -157,6 +159,7 @@ pub fn end_sheet<W: io::Write>(
     ensures closed { let closed = Closed how reader marks held table.now in
         IfOk result (λ n. closed room.old room.new out.old out.new n) }
     ensures failed { OnErr result ((room.new ≡ room.old) × (out.new ≡ out.old)) }
+    ensures overfull { OnErr result (Overfull out.old marks.filled) }
 {
     let at = spare(output, out, marks.filled)?;
     if !marks.goes {
@@ -201,6 +204,7 @@ fn next_sheet<W: io::Write>(
     ensures bordered { let tables = Bordered how reader marks table.old table.new in
         IfOk result (λ flow. tables room.old room.new out.old out.new flow) }
     ensures failed { OnErr result ((table.new ≡ table.old) × (room.new ≡ room.old) × (out.new ≡ out.old)) }
+    ensures overfull { OnErr result (Overfull out.old marks.filled) }
 {
     let n = end_sheet(output, how, reader, marks, nothing(), table, room, out)?;
     let filled = put_text(out, n, b"----\n");
@@ -257,6 +261,8 @@ pub fn take_text<W: io::Write>(
     ensures failed { let before = lent m.old words.old items.old table.old in
         let after = lent m.new words.new items.new table.new in
         OnErr result (Unchanged before after room.old room.new out.old out.new) }
+    ensures overfull { OnErr result (Overfull out.old f.marks.filled) }
+    ensures told { OnErr result (is_told many text.now f.marks ≡ true) }
 {
     let reader = f.reader;
     let marks = f.marks;
