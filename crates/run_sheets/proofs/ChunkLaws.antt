@@ -2,7 +2,7 @@
 use mathlib.Core.Path.{◌≡◌, refl, sym, ap, subst, ◌∙◌}
 use mathlib.Core.Bool.{Bool, true, false}
 use mathlib.Core.List.{List, [], ◌∷◌, ◌++◌}
-use Prim.Native.Nat.{ℕ, ◌+◌, ◌-◌, ◌≤◌, ◌<◌}
+use Prim.Native.Nat.{ℕ, ◌+◌, ◌≤◌, ◌<◌}
 use Rattle.std.proofs.Common.{◌⊎◌, inl, inr}
 use native.Mathlib.Omega.{arith}
 use lib.ListN.{length, drop, length-drop}
@@ -15,8 +15,8 @@ use Rattle.term_table.specs.Table.{Square, no_edges}
 use Rattle.sheet_reader.specs.State.{Lent, lent}
 use Rattle.run_answers.specs.declared.How.{How}
 use Rattle.run_lines.specs.declared.Flow.{Flow}
-use Rattle.run_lines.specs.Taken.{Closed, fresh_flow, Unchanged}
-use Rattle.run_sheets.specs.Chunks.{Standing, stand, Takes, TookLines, TookAll, StoppedIn, Read, Stopped, Ran}
+use Rattle.run_lines.specs.Taken.{Closed, fresh_flow}
+use Rattle.run_sheets.specs.Chunks.{Standing, stand, Takes, TookLines, TookAll, Unwritten, StoppedIn, Read, Stopped, Ran}
 
 -- ---- the lines of a chunk
 -- the rest of it has no LF: it is held
@@ -83,11 +83,14 @@ module _ (how : How) (many : Bool) (b : List ℕ) (g : Held) (s : Standing) (fro
       let rest : StoppedIn how many (lines (drop (c.to + 1) b)) no_line u m room out = subst (λ (j : Held). StoppedIn how many (lines (drop (c.to + 1) b)) j u m room out) r v in
       so m room out (subst (λ (j : Lines). StoppedIn how many j k t m room out) (sym (line_split b from c.to a.0)) (inr (u, subst (λ (j : List ℕ). Takes how many j t u) is z, rest)))
 
-  pub stop_here : (c : Cut) (m : Lent) (room out : List ℕ) → (c ≡ cut_at k b from) × Fits c.held → c.unended ≡ false → Unchanged t.memory m t.room room t.out out → StoppedIn how many (lines b) g s m room out
+  pub stop_here : (c : Cut) (x y l : List ℕ) (m : Lent) (room out : List ℕ) → (c ≡ cut_at k b from) × Fits c.held → c.unended ≡ false → l ≡ part_of b from c.to →
+      x ≡ part_of c.held.bytes 0 c.held.length → y ≡ line_from x l → Unwritten many y t m room out → StoppedIn how many (lines b) g s m room out
   unfolding StopsFor StoppedIn
-  stop_here c m room out e o w =
+  stop_here c x y l m room out e o q p w v =
       let a = cut_ended k b from c e.0 o in
-      so m room out (subst (λ (j : Lines). StoppedIn how many j k t m room out) (sym (line_split b from c.to a.0)) (inl w))
+      let part = part_of b from c.to in
+      let is : y ≡ line_with k part = line_cut k c.held part x y a.1 e.1 p (w ∙ ap (line_from x) q) in
+      so m room out (subst (λ (j : Lines). StoppedIn how many j k t m room out) (sym (line_split b from c.to a.0)) (inl (subst (λ (j : List ℕ). Unwritten many j t m room out) is v)))
 
 -- ---- chunks of a file
 pub none_read : (how : How) (many : Bool) (s : Standing) (g : Held) → Read how many g s s g
@@ -113,11 +116,10 @@ pub first_read : (how : How) (many : Bool) (s : Standing) (h : Held) → h ≡ n
 first_read how many s h e = subst (λ (z : Held). Read how many no_line s s z) (sym e) (none_read how many s no_line)
 
 pub stopped_between : (how : How) (many : Bool) (s : Standing) (g h : Held) (f : Flow) (k : Lent) (room out : List ℕ) → Read how many g s (stand f k room out) h → Stopped how many g s k room out
-unfolding StoppedIn lines
-stopped_between how many s g h f k room out r = record { last = stand f k room out; held = h; read = r; chunk = []; stopped = record { memory = refl; room_same = refl; out_same = refl } }
+stopped_between how many s g h f k room out r = record { last = stand f k room out; held = h; read = r; stopped = inl (record { memory = refl; room_same = refl; out_same = refl }) }
 
 pub stopped_inside : (how : How) (many : Bool) (p : List ℕ) (s t : Standing) (g h : Held) (k : Lent) (room out : List ℕ) → Read how many g s t h → StoppedIn how many (lines p) h t k room out → Stopped how many g s k room out
-stopped_inside how many p s t g h k room out r w = record { last = t; held = h; read = r; chunk = p; stopped = w }
+stopped_inside how many p s t g h k room out r w = record { last = t; held = h; read = r; stopped = inr (p, w) }
 
 -- of a run: before its end, at its end, and after it
 module _ (how : How) (many : Bool) (m w i room out : List ℕ) (t : Square) (f : Flow) (e : f ≡ fresh_flow 0) (g : t ≡ no_edges) where

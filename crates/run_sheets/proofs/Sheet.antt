@@ -3,7 +3,7 @@ use mathlib.Core.Path.{◌≡◌, refl, sym, ap, subst, ◌∙◌}
 use mathlib.Core.Bool.{Bool, true, false, not}
 use mathlib.Core.Option.{Option, none, some}
 use mathlib.Core.List.{List, [], ◌∷◌, ◌++◌, append_assoc, append-nil}
-use Prim.Native.Nat.{ℕ, zero, suc, ◌+◌, ◌-◌, ◌≤◌, ◌<◌}
+use Prim.Native.Nat.{ℕ, zero, suc, ◌+◌, ◌≤◌, ◌<◌}
 use native.Mathlib.Omega.{arith}
 use native.Mathlib.Numerals.{add-one}
 use lib.ListN.{length, take, drop, set, length-append, length-drop, length-take, length-set}
@@ -19,21 +19,21 @@ use Rattle.paper.specs.Layout as layout
 use Rattle.paper.specs.Layout.{Lines, nothing, unended, line, lines, push, begin_set, a_site, a_rule, an_item, end_set, frame_of}
 use Rattle.paper.specs.Sheets as paper
 use Rattle.paper.specs.Sheets.{Open, outside, at_sites, at_rules, at_items, step, with_item, act_on, findings}
-use Rattle.paper.proofs.Lists.{no_way, not_true}
+use Rattle.paper.proofs.Lists.{not_true}
 use Rattle.sheet_findings.specs.Written.{written_at}
 use Rattle.sheet_lines.specs.declared.Held.{Held}
 use Rattle.sheet_lines.specs.Held.{Holds, held_in, no_line, held_more, more_holds, nothing_holds}
-use Rattle.sheet_lines.specs.Fed.{Reading, going, stopped, Fed, max_held, line_feed, held_of, after_line, fed, behind, fed_all, begun, ended, findings_fed, stays}
+use Rattle.sheet_lines.specs.Fed.{Reading, going, stopped, Fed, max_held, line_feed, held_of, after_line, fed_all, begun, ended, findings_fed, stays}
 use Rattle.sheet_lines.specs.Pieces.{as_lines, lines_append, fed_append}
 use Rattle.sheet_lines.specs.Ends.{Free, fed_part, fed_line}
 use Rattle.sheet_lines.specs.Cut.{part_of, line_with, step_with}
 use Rattle.sheet_reader.specs.State.{Lent, Roomy, Tells, stands_in, reader_of, step_room}
-use Rattle.sheet_reader.specs.Answers.{Answers, Goes, rule_event, items_event, item_event, frame_event, act_event, line_event, told, text_of}
+use Rattle.sheet_reader.specs.Answers.{Answers, rule_event, items_event, item_event, frame_event, act_event, line_event, text_of}
 use Rattle.sheet_reader.specs.declared.Reader.{Reader}
 use Rattle.sheet_reader.specs.declared.Event.{Event}
 use Rattle.sheet_reader.specs.declared.Event.TheVariants as event
 use Rattle.sheet_read.specs.declared.State.{State}
-use Rattle.sheet_read.specs.Whole.{first_state, Going, Shows, Ends, Ending}
+use Rattle.sheet_read.specs.Whole.{first_state, Going, Shows}
 use Rattle.sheet_read.proofs.Feeding.{shows_first}
 use Rattle.term_table.specs.Table.{no_edges}
 use Rattle.sheet_findings.specs.declared.Room as F
@@ -42,10 +42,10 @@ use Rattle.sheet_ended.specs.Sets.{to_or}
 use Rattle.tell_text.specs.Written as texts
 use Rattle.tell_text.specs.Written.{Room, wrote, with_byte, one_fits, one_past, past}
 use Rattle.run_answers.specs.declared.How.TheVariants as how
-use Rattle.run_answers.specs.Told.{answer, last_answer}
+use Rattle.run_answers.specs.Told.{last_answer}
 use Rattle.run_answers.proofs.Laws.{stays_inside}
 use Rattle.run_lines.specs.declared.Flow.{Flow}
-use Rattle.run_lines.specs.Taken.{goes_on, need, spared, written_out, free_in, Took, state_of, ToldLast, Closed, fresh_flow, Passed, Taken}
+use Rattle.run_lines.specs.Taken.{goes_on, need, written_out, free_in, Took, state_of, Closed, fresh_flow}
 use Rattle.run_lines.proofs.InOrder.{spared_room, in_order, check_line, written_there}
 use Rattle.run_sheets.specs.Chunks.{Standing, stand, Takes, TookLines, TookAll, Ran}
 

@@ -11,7 +11,8 @@ pub returns-then-c-clause-took : goal.returns-then-c-clause-took
 returns-then-c-clause-took g c = chunk_open _ _ _ _ _ _ _ _ c.loop-from.invariant.stands _ c.cut_line-c.ensures c.if-c.true c.loop-from-test.true
 
 pub returns-in_err-flow-clause-stopped : goal.returns-in_err-flow-clause-stopped
-returns-in_err-flow-clause-stopped g c = at_error _ (stop_here _ _ _ _ _ _ _ _ c.loop-from.invariant.stops _ _ _ _ c.cut_line-c.ensures c.if-c.false c.in_err-flow.ensures.failed)
+returns-in_err-flow-clause-stopped g c = at_error _ (stop_here _ _ _ _ _ _ _ _ c.loop-from.invariant.stops _ _ _ _ _ _ _ c.cut_line-c.ensures c.if-c.false c.part-here.ensures c.part.ensures c.line_of-text.ensures
+    record { same = c.in_err-flow.ensures.failed; overfull = c.in_err-flow.ensures.overfull; told = c.in_err-flow.ensures.told })
 
 pub overflow_add-from : goal.overflow_add-from
 overflow_add-from g c = let i = (cut_inside _ _ _ _ c.cut_line-c.ensures c.if-c.false).1 in omega arith
