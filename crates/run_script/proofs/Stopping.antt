@@ -5,7 +5,7 @@ use Rattle.paper.specs.Classes.{Classes, no_classes}
 use Rattle.class_script.specs.declared.Reply.{Reply}
 use Rattle.tell_text.specs.Written.{wrote}
 use Rattle.run_script.specs.declared.Place.{Place}
-use Rattle.run_script.specs.Said.{is_bad, replied, spared, InRange, line_text, Answered, Standing, stand, first_place, Took, IsFedTo, FedSome, Stopped, Whole}
+use Rattle.run_script.specs.Said.{is_bad, lf, full, replied, spared, InRange, line_text, Answered, Standing, stand, first_place, Took, Unwritten, IsFedTo, FedSome, FedCut, Stopped, Whole}
 use Rattle.run_script.proofs.Saying.{fed_none, fed_more}
 use Rattle.run_script.proofs.Fitting.{answer_fits}
 
@@ -20,8 +20,8 @@ at_error (Err e) p = p
 
 -- a line's answer stands in the buffer, whether it could be written out or not
 pub answered_here : (c c' : Classes) (ms ms' line out out' : List ℕ) (p : Place) (r : Reply) (n number : ℕ) (bad : Bool) → (c', ms', r) ≡ replied c ms line p.used → (out', n) ≡ wrote (out, p.filled) (line_text ms' p.line r) →
-    InRange r → p.line < 18446744073709551616 → bad ≡ is_bad r → number ≡ (p.line + 1) % 18446744073709551616 → (q : Place) × Answered c c' ms ms' line out out' p q
-answered_here c c' ms ms' line out out' p r n number bad e w i l b m = (
+    InRange r → p.line < 18446744073709551616 → bad ≡ is_bad r → number ≡ (p.line + 1) % 18446744073709551616 → full < n → (q : Place) × (w : Answered c c' ms ms' line out out' p q) × (full < w.end)
+answered_here c c' ms ms' line out out' p r n number bad e w i l b m f = (
   record { used = 0; line = number; filled = spared n; goes = not bad },
   record {
     answer = r;
@@ -34,12 +34,24 @@ answered_here c c' ms ms' line out out' p r n number bad e w i l b m = (
     goes = ap not b;
     number = m;
   },
+  f,
 )
+
+-- an LF whose answer could not be written out
+pub unwritten_here : {E : Type 0} (a : Result Place E) (c c' : Classes) (ms ms' line out out' : List ℕ) (p : Place) (b : ℕ) → b ≡ lf → OnErr a ((q : Place) × (w : Answered c c' ms ms' line out out' p q) × (full < w.end)) →
+    OnErr a ((q : Place) × Unwritten b (stand c ms line out p) (stand c' ms' line out' q))
+unwritten_here (Ok x) c c' ms ms' line out out' p b e h = tt
+unwritten_here (Err x) c c' ms ms' line out out' p b e h = (h.0, record { took = record { ended = λ _. (h.1, refl); held = λ n. absurd (n e) }; ends = e; past = h.2 })
 
 -- of a chunk's bytes the last that was taken ended a line
 pub fed_cut : (bytes : List ℕ) (i : ℕ) (s t : Standing) (c : Classes) (ms line out : List ℕ) → IsFedTo bytes i s t → i < length bytes → t.place.goes ≡ true →
     ((q : Place) × Took (get_or bytes i 0) t (stand c ms line out q)) → (q : Place) × FedSome bytes s (stand c ms line out q)
 fed_cut bytes i s t c ms line out F h g w = (w.0, record { many = i + 1; within = omega arith; to = fed_more bytes i s t (stand c ms line out w.0) F g w.1 })
+
+-- and that line's answer could not be written out
+pub fed_to_cut : (bytes : List ℕ) (i : ℕ) (s t : Standing) (c : Classes) (ms line out : List ℕ) → IsFedTo bytes i s t → i < length bytes → t.place.goes ≡ true →
+    ((q : Place) × Unwritten (get_or bytes i 0) t (stand c ms line out q)) → (q : Place) × FedCut bytes s (stand c ms line out q)
+fed_to_cut bytes i s t c ms line out F h g w = (w.0, record { many = i; before = t; within = h; to = F; goes = g; last = w.1 })
 
 -- no byte came
 pub none_came : (c : Classes) (ms line out : List ℕ) (p : Place) → (q : Place) × (chunk : List ℕ) × FedSome chunk (stand c ms line out p) (stand c ms line out q)

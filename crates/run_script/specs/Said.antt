@@ -145,6 +145,12 @@ pub record Took (b : ℕ) (s u : Standing) : Type 0 where
   pub ended : b ≡ lf → Answered s.classes u.classes s.members u.members s.line s.out u.out s.place u.place × (u.line ≡ s.line)
   pub held : (b ≢ lf) → Held s.line u.line b s.place u.place × (u ≡ stand s.classes s.members u.line s.out u.place)
 
+-- an LF whose answer filled the buffer past `full`, so that it was to be written out, and could not be
+pub record Unwritten (b : ℕ) (s u : Standing) : Type 0 where
+  pub took : Took b s u
+  pub ends : b ≡ lf
+  pub past : full < (took.ended ends).0.end
+
 -- the first i bytes one after the other, while the script goes on
 unfoldable pub IsFedTo : List ℕ → ℕ → Standing → Standing → Type 0
 IsFedTo bytes zero s u = u ≡ s
@@ -161,6 +167,15 @@ pub record FedSome (bytes : List ℕ) (s u : Standing) : Type 0 where
   pub many : ℕ
   pub within : many ≤ length bytes
   pub to : IsFedTo bytes many s u
+
+-- all before an LF whose answer could not be written out, and it
+pub record FedCut (bytes : List ℕ) (s u : Standing) : Type 0 where
+  pub many : ℕ
+  pub before : Standing
+  pub within : many < length bytes
+  pub to : IsFedTo bytes many s before
+  pub goes : before.place.goes ≡ true
+  pub last : Unwritten (slice_index bytes many) before u
 
 -- ---- chunks
 -- at the end of the input the script ends

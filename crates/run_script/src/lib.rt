@@ -6,7 +6,7 @@ ghost use Rattle.std.specs.Prelude.{◌≡◌, ◌⊎◌, ◌<◌, ℕ, List, If
 ghost use Rattle.run_script.specs.declared.Place.{Place};
 ghost use Rattle.paper.specs.Classes as C;
 ghost use Rattle.tell_text.specs.Written.{wrote};
-ghost use Rattle.run_script.specs.Said.{is_bad, replied, spared, InRange, line_text, Answered, kept_line, kept_used, Held, stand, first_place, Took, Fed, FedSome, Read, Ran, Stopped, unended_text, Whole};
+ghost use Rattle.run_script.specs.Said.{is_bad, replied, full, spared, InRange, line_text, Answered, kept_line, kept_used, Held, stand, first_place, Took, Unwritten, Fed, FedSome, FedCut, Read, Ran, Stopped, unended_text, Whole};
 
 use class_script::Reply;
 use paper::SITES;
@@ -73,7 +73,8 @@ fn reply_to(
 
 // Writes the buffer out where it is half full: how much of it is filled then.
 fn spare<W: io::Write>(output: &mut W, out: &[u8], n: usize) -> io::Result<usize>
-    ensures { IfOk result (λ filled. filled ≡ spared n) }
+    ensures after { IfOk result (λ filled. filled ≡ spared n) }
+    ensures past { OnErr result (full < n) }
 {
     if FULL < n {
         flush(output, out, n)?;
@@ -109,7 +110,7 @@ fn end_line<W: io::Write>(
     ensures unwritten { let before = C.classes parents.old ranks.old count.old in
         let after = C.classes parents.new ranks.new count.new in
         let answered = Answered before after members.old members.new line.now out.old out.new p in
-        OnErr result ((q : Place) × answered q) }
+        OnErr result ((q : Place) × (w : answered q) × (full < w.end)) }
 {
     let r = reply_to(parents, ranks, count, members, line, p.used);
     let number = p.line;
@@ -169,7 +170,7 @@ fn take<W: io::Write>(
         let after = C.classes parents.new ranks.new count.new in
         let from = stand before members.old line.old out.old p in
         let to = stand after members.new line.new out.new in
-        OnErr result ((q : Place) × Took b from (to q)) }
+        OnErr result ((q : Place) × Unwritten b from (to q)) }
 {
     if b == b'\n' {
         return end_line(output, parents, ranks, count, members, line, out, p);
@@ -199,6 +200,11 @@ fn feed<W: io::Write>(
         let from = stand before members.old line.old out.old p in
         let to = stand after members.new line.new out.new in
         OnErr result ((q : Place) × FedSome bytes.now from (to q)) }
+    ensures cut { let before = C.classes parents.old ranks.old count.old in
+        let after = C.classes parents.new ranks.new count.new in
+        let from = stand before members.old line.old out.old p in
+        let to = stand after members.new line.new out.new in
+        OnErr result ((q : Place) × FedCut bytes.now from (to q)) }
 {
     let mut q = p;
     let mut i: usize = 0;
