@@ -7,6 +7,7 @@ use native.Mathlib.Omega.{arith}
 use lib.ListN.{length, get_or, set}
 use lib.Dec.{ltb}
 use borrow.Author.Tests.{le-leb, lt-leb, lt-ltb, le-ltb, eq-eqb, ne_eqb}
+use Rattle.std.specs.declared.result.Result.TheVariants.{Err, Ok}
 use Rattle.paper.specs.declared.Refusal.{Refusal}
 use Rattle.paper.specs.declared.Refusal.TheVariants.{Layout}
 use Rattle.paper.specs.Numbers.{max_sites, number, told, Outcome, done, refused}
@@ -14,19 +15,17 @@ use Rattle.rule_words.specs.Stored.{base, stride}
 use Rattle.paper.specs.Classes.{Classes, classes, is_empty, Trail, Flattened, Removed, merge, remove_set_of}
 use Rattle.paper.specs.Sites.{Added}
 use Rattle.classes.specs.Answers.{looked, sought_by, joined_by, joined, two_classes, same, taken_by, taken_if, taken}
-use Rattle.classes.specs.declared.Sought.{Sought}
-use Rattle.classes.specs.declared.Joined.{Joined}
-use Rattle.classes.specs.declared.Taken.{Taken}
+use Rattle.paper.specs.Answered.{Maybe}
+use Rattle.paper.specs.Answered.{Answer}
+use Rattle.classes.specs.Called.{Taken}
 use Rattle.sites.specs.declared.Numbered.TheVariants as N
 use Rattle.std.specs.Prelude.{if◌then◌else◌}
 use Rattle.sites.specs.Slots.{numbered_as, unfolded_as}
 use Rattle.paper.specs.declared.Rule.{Rule}
 use Rattle.paper.specs.Loading.{Set}
 use Rattle.item_layout.specs.Layout.{stray}
-use Rattle.rule_load.specs.declared.Loaded.{Loaded}
 use Rattle.rule_load.specs.Whole.{load_in, loaded_as, sites_after, words_after}
-use Rattle.paper.specs.declared.Verdict.{Verdict as Edged}
-use Rattle.paper.specs.declared.Verdict.TheVariants as A
+use Rattle.paper.specs.Answered.{Verdict as Edged}
 use Rattle.term_table.specs.Table.{left, bare, added, no_marks, listed}
 use Rattle.box_answers.specs.declared.Said.{Said}
 use Rattle.box_answers.specs.Loads.{loaded_said, handed}
@@ -115,17 +114,17 @@ unfolding looked_said said_by
 looked_is (done t) = refl
 looked_is (refused r) = refl
 
-pub sought_is : (c d : Classes) (s : Sought) (o : Outcome Flattened) → (d, s) ≡ sought_by c o → (sought_said s ≡ said_by flattened_words o) × (d ≡ left_by c (λ h. h.after) o)
+pub sought_is : (c d : Classes) (s : Answer (Maybe ℕ)) (o : Outcome Flattened) → (d, s) ≡ sought_by c o → (sought_said s ≡ said_by flattened_words o) × (d ≡ left_by c (λ h. h.after) o)
 unfolding sought_said said_by left_by
 sought_is c d s (done h) e = (ap (λ p. sought_said p.1) e, ap (λ p. p.0) e)
 sought_is c d s (refused r) e = (ap (λ p. sought_said p.1) e, ap (λ p. p.0) e)
 
-joined_is : (c d : Classes) (j : Joined) (b : Bool) (o : Outcome Classes) → (d, j) ≡ joined_by c b o → (joined_said j ≡ said_by (λ _. bit b ∷ []) o) × (d ≡ left_by c (λ x. x) o)
+joined_is : (c d : Classes) (j : Answer Bool) (b : Bool) (o : Outcome Classes) → (d, j) ≡ joined_by c b o → (joined_said j ≡ said_by (λ _. bit b ∷ []) o) × (d ≡ left_by c (λ x. x) o)
 unfolding joined_said said_by left_by
 joined_is c d j b (done x) e = (ap (λ p. joined_said p.1) e, ap (λ p. p.0) e)
 joined_is c d j b (refused r) e = (ap (λ p. joined_said p.1) e, ap (λ p. p.0) e)
 
-pub merged_is : (c d : Classes) (j : Joined) (x y : ℕ) → (d, j) ≡ joined c x y → (joined_said j ≡ said_by (λ _. bit (two_classes c x y) ∷ []) (merge c x y)) × (d ≡ left_by c (λ z. z) (merge c x y))
+pub merged_is : (c d : Classes) (j : Answer Bool) (x y : ℕ) → (d, j) ≡ joined c x y → (joined_said j ≡ said_by (λ _. bit (two_classes c x y) ∷ []) (merge c x y)) × (d ≡ left_by c (λ z. z) (merge c x y))
 merged_is c d j x y e = joined_is c d j (two_classes c x y) (merge c x y) e
 
 pub same_is : (o : Outcome Bool) → same_said (same o) ≡ said_by (λ b. bit b ∷ []) o
@@ -146,7 +145,7 @@ taken_is c d m n t (refused r) e = record { says = ap (λ p. taken_said p.2) e; 
 pub all_taken : (c d : Classes) (m n : List ℕ) (t : Taken) (x : ℕ) → max_sites ≤ length m → (d, n, t) ≡ taken c m x → Takes c d m n t (remove_set_of c x)
 all_taken c d m n t x h e = taken_is c d m n t (remove_set_of c x) (e ∙ ap (λ b. taken_if b c m (remove_set_of c x)) (le-leb max_sites (length m) h))
 
-numbered_at : (i : ℕ) (b : Bool) → numbered_said (if b then N.Known i else N.Fresh i) ≡ said 0 (i ∷ bit (not b) ∷ [])
+numbered_at : (i : ℕ) (b : Bool) → numbered_said (if b then (Ok (N.Known i)) else (Ok (N.Fresh i))) ≡ said 0 (i ∷ bit (not b) ∷ [])
 unfolding numbered_said
 numbered_at i true = refl
 numbered_at i false = refl
@@ -163,10 +162,10 @@ unfolded_is (refused r) = refl
 
 pub added_is : {T : Type 0} (a : Edged) (o : Outcome T) → added a ≡ bare o → added_said a ≡ said_by (λ _. []) o
 unfolding added added_said said_by
-added_is A.Fine (done x) e = refl
-added_is A.Fine (refused r) e = let z : ◌≡◌ {A = ℕ} 0 1 = cc in absurd (omega arith)
-added_is (A.Refused q) (done x) e = let z : ◌≡◌ {A = ℕ} 0 1 = cc in absurd (omega arith)
-added_is (A.Refused q) (refused r) e = let p : q ≡ r = cc in rw p
+added_is (Ok _) (done x) e = refl
+added_is (Ok _) (refused r) e = let z : ◌≡◌ {A = ℕ} 0 1 = cc in absurd (omega arith)
+added_is (Err q) (done x) e = let z : ◌≡◌ {A = ℕ} 0 1 = cc in absurd (omega arith)
+added_is (Err q) (refused r) e = let p : q ≡ r = cc in rw p
 
 pub left_is : {T : Type 0} (t : T) (o : Outcome T) → left t o ≡ left_by t (λ x. x) o
 unfolding left_by
@@ -181,7 +180,7 @@ loaded_is (done g) = refl
 loaded_is (refused r) = refl
 
 -- the rule that is handed over, by another name
-pub load_said : (m : List ℕ) (n : ℕ) (ws : List ℕ) (k : ℕ) (r q : Rule) (l : Loaded) (s : Said) → r ≡ q → l ≡ loaded_as (load_in m n ws k r) →
+pub load_said : (m : List ℕ) (n : ℕ) (ws : List ℕ) (k : ℕ) (r q : Rule) (l : Answer ℕ) (s : Said) → r ≡ q → l ≡ loaded_as (load_in m n ws k r) →
     s ≡ loaded_said l → s ≡ said_by (λ g. length g.sites ∷ []) (load_in m n ws k q)
 load_said m n ws k r q l s p e t = t ∙ ap loaded_said (e ∙ ap (λ (x : Rule). loaded_as (load_in m n ws k x)) p) ∙ loaded_is (load_in m n ws k q)
 

@@ -1,7 +1,8 @@
 -- What crosses to C: 01's number as the result, and two words in a lent slice, the answer where the number is 0 and else "Told with it".
+use Rattle.std.specs.declared.result.Result.TheVariants.{Err, Ok}
+use Rattle.std.specs.declared.option.Option.TheVariants.{None, Some}
 use Rattle.std.specs.Prelude.{Bool, true, false, ◌&&◌, not, List, [], ◌∷◌, ◌++◌, ℕ, ◌+◌, ◌*◌, length, get_or, set, drop, ltb, leb}
-use Rattle.paper.specs.declared.Found.{Found}
-use Rattle.paper.specs.declared.Found.TheVariants.{At, Nothing}
+use Rattle.paper.specs.Answered.{Maybe}
 use Rattle.paper.specs.declared.Overlap.{Overlap}
 use Rattle.paper.specs.declared.Overlap.TheVariants.{No, Yes, Subset}
 use Rattle.paper.specs.declared.Refusal.{Refusal}
@@ -9,24 +10,15 @@ use Rattle.paper.specs.Numbers.{max_sites, max_term, number, told, Outcome, done
 use Rattle.paper.specs.Classes.{Classes, Trail, Flattened, Removed}
 use Rattle.paper.specs.Sites.{Added}
 use Rattle.rule_words.specs.Stored.{base, stride}
-use Rattle.classes.specs.declared.Looked.{Looked}
-use Rattle.classes.specs.declared.Looked.TheVariants as L
-use Rattle.classes.specs.declared.Sought.{Sought}
-use Rattle.classes.specs.declared.Sought.TheVariants as S
-use Rattle.classes.specs.declared.Joined.{Joined}
-use Rattle.classes.specs.declared.Joined.TheVariants as J
-use Rattle.classes.specs.declared.Same.{Same}
-use Rattle.classes.specs.declared.Same.TheVariants as E
-use Rattle.classes.specs.declared.Taken.{Taken}
-use Rattle.classes.specs.declared.Taken.TheVariants as K
+use Rattle.classes.specs.Called.{Looked}
+use Rattle.paper.specs.Answered.{Answer}
+use Rattle.classes.specs.Called.{Taken}
+use Rattle.classes.specs.declared.Untaken.TheVariants as K
 use Rattle.sites.specs.declared.Numbered.{Numbered}
 use Rattle.sites.specs.declared.Numbered.TheVariants as N
-use Rattle.sites.specs.declared.Unfolded.{Unfolded}
-use Rattle.sites.specs.declared.Unfolded.TheVariants as U
-use Rattle.report.specs.declared.Reported.{Reported}
+use Rattle.report.specs.Reported.{Reported}
 use Rattle.report.specs.Lines.{number_of, told_with}
-use Rattle.paper.specs.declared.Verdict.{Verdict as Edged}
-use Rattle.paper.specs.declared.Verdict.TheVariants as A
+use Rattle.paper.specs.Answered.{Verdict as Edged}
 use Rattle.box_answers.specs.declared.Said.{Said}
 
 -- A number of the border alone, none of 01's: a lent slice is shorter than the call asks.
@@ -80,9 +72,9 @@ abbrev pub bit : Bool → ℕ
 bit true = 1
 bit false = 0
 
-abbrev pub found_word : Found → ℕ
-found_word (At s) = s
-found_word Nothing = no_word
+abbrev pub found_word : Maybe ℕ → ℕ
+found_word (Some s) = s
+found_word None = no_word
 
 abbrev pub trail_words : Trail → List ℕ
 trail_words t = found_word t.found ∷ t.links ∷ []
@@ -119,38 +111,38 @@ abbrev pub refused_said : Refusal → Said
 refused_said r = said (number r) (told r)
 
 unfoldable pub looked_said : Looked → Said
-looked_said (L.Got t) = said 0 (found_word t.found ∷ t.links ∷ [])
-looked_said (L.Refused r) = refused_said r
+looked_said (Ok t) = said 0 (found_word t.found ∷ t.links ∷ [])
+looked_said (Err r) = refused_said r
 
-unfoldable pub sought_said : Sought → Said
-sought_said (S.Got f) = said 0 (found_word f ∷ [])
-sought_said (S.Refused r) = refused_said r
+unfoldable pub sought_said : Answer (Maybe ℕ) → Said
+sought_said (Ok f) = said 0 (found_word f ∷ [])
+sought_said (Err r) = refused_said r
 
-unfoldable pub joined_said : Joined → Said
-joined_said (J.Done b) = said 0 (bit b ∷ [])
-joined_said (J.Refused r) = refused_said r
+unfoldable pub joined_said : Answer Bool → Said
+joined_said (Ok b) = said 0 (bit b ∷ [])
+joined_said (Err r) = refused_said r
 
-unfoldable pub same_said : Same → Said
-same_said (E.Is b) = said 0 (bit b ∷ [])
-same_said (E.Refused r) = refused_said r
+unfoldable pub same_said : Answer Bool → Said
+same_said (Ok b) = said 0 (bit b ∷ [])
+same_said (Err r) = refused_said r
 
 unfoldable pub taken_said : Taken → Said
-taken_said (K.Members n) = said 0 (n ∷ [])
-taken_said (K.Refused r) = refused_said r
-taken_said K.Short = said short []
+taken_said (Ok n) = said 0 (n ∷ [])
+taken_said (Err (K.Refused r)) = refused_said r
+taken_said (Err K.Short) = said short []
 
-unfoldable pub numbered_said : Numbered → Said
-numbered_said (N.Known i) = said 0 (i ∷ 0 ∷ [])
-numbered_said (N.Fresh i) = said 0 (i ∷ 1 ∷ [])
-numbered_said (N.Refused r) = refused_said r
+unfoldable pub numbered_said : Answer Numbered → Said
+numbered_said (Ok (N.Known i)) = said 0 (i ∷ 0 ∷ [])
+numbered_said (Ok (N.Fresh i)) = said 0 (i ∷ 1 ∷ [])
+numbered_said (Err r) = refused_said r
 
-unfoldable pub unfolded_said : Unfolded → Said
-unfolded_said (U.Bytes n) = said 0 (n ∷ [])
-unfolded_said (U.Refused r) = refused_said r
+unfoldable pub unfolded_said : Answer ℕ → Said
+unfolded_said (Ok n) = said 0 (n ∷ [])
+unfolded_said (Err r) = refused_said r
 
 unfoldable pub added_said : Edged → Said
-added_said A.Fine = said 0 []
-added_said (A.Refused r) = refused_said r
+added_said (Ok _) = said 0 []
+added_said (Err r) = refused_said r
 
 unfoldable pub reported_said : Reported → Said
 reported_said r = said (number_of r) (told_with r)

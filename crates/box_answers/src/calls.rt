@@ -4,63 +4,62 @@ ghost use Rattle.box_answers.specs.Border.{looked_said, sought_said, joined_said
 ghost use Rattle.box_answers.specs.Loads.{loaded_said};
 
 use crate::{SHORT, Said, bit, crowded, done, found_word, refused};
-use classes::{Joined, Looked, Same, Sought, Taken, Trail};
-use paper::{Overlap, Refusal, Verdict};
-use report::Reported;
-use rule_load::Loaded;
-use sites::{Numbered, Unfolded};
+use classes::{Untaken, Trail};
+use paper::{Overlap, Refusal};
+use report::Unreported;
+use sites::Numbered;
 use widths::{word16, word32};
 
 fn trail_said(t: Trail) -> Said
-    ensures { result ≡ looked_said (Looked.Got t) }
+    ensures { result ≡ looked_said (Ok t) }
 {
     let f = t.found;
     done(found_word(f), word16(t.links))
 }
 
-pub fn looked_said(l: Looked) -> Said
+pub fn looked_said(l: Result<Trail, Refusal>) -> Said
     ensures { result ≡ looked_said l }
 {
     match l {
-        Looked::Got(t) => trail_said(t),
-        Looked::Refused(r) => refused(r),
+        Ok(t) => trail_said(t),
+        Err(r) => refused(r),
     }
 }
 
-pub fn sought_said(l: Sought) -> Said
+pub fn sought_said(l: Result<Option<u16>, Refusal>) -> Said
     ensures { result ≡ sought_said l }
 {
     match l {
-        Sought::Got(f) => done(found_word(f), 0),
-        Sought::Refused(r) => refused(r),
+        Ok(f) => done(found_word(f), 0),
+        Err(r) => refused(r),
     }
 }
 
-pub fn joined_said(j: Joined) -> Said
+pub fn joined_said(j: Result<bool, Refusal>) -> Said
     ensures { result ≡ joined_said j }
 {
     match j {
-        Joined::Done(b) => done(bit(b), 0),
-        Joined::Refused(r) => refused(r),
+        Ok(b) => done(bit(b), 0),
+        Err(r) => refused(r),
     }
 }
 
-pub fn same_said(e: Same) -> Said
+pub fn same_said(e: Result<bool, Refusal>) -> Said
     ensures { result ≡ same_said e }
 {
     match e {
-        Same::Is(b) => done(bit(b), 0),
-        Same::Refused(r) => refused(r),
+        Ok(b) => done(bit(b), 0),
+        Err(r) => refused(r),
     }
 }
 
-pub fn taken_said(t: Taken) -> Said
+pub fn taken_said(t: Result<usize, Untaken>) -> Said
     ensures { result ≡ taken_said t }
 {
     match t {
-        Taken::Members(n) => done(n as u64, 0),
-        Taken::Refused(r) => refused(r),
-        Taken::Short => Said {
+        Ok(n) => done(n as u64, 0),
+        Err(Untaken::Refused(r)) => refused(r),
+        Err(Untaken::Short) => Said {
             number: SHORT,
             one: 0,
             two: 0,
@@ -68,31 +67,31 @@ pub fn taken_said(t: Taken) -> Said
     }
 }
 
-pub fn numbered_said(n: Numbered) -> Said
+pub fn numbered_said(n: Result<Numbered, Refusal>) -> Said
     ensures { result ≡ numbered_said n }
 {
     match n {
-        Numbered::Known(i) => done(word16(i), 0),
-        Numbered::Fresh(i) => done(word16(i), 1),
-        Numbered::Refused(r) => refused(r),
+        Ok(Numbered::Known(i)) => done(word16(i), 0),
+        Ok(Numbered::Fresh(i)) => done(word16(i), 1),
+        Err(r) => refused(r),
     }
 }
 
-pub fn unfolded_said(u: Unfolded) -> Said
+pub fn unfolded_said(u: Result<usize, Refusal>) -> Said
     ensures { result ≡ unfolded_said u }
 {
     match u {
-        Unfolded::Bytes(n) => done(n as u64, 0),
-        Unfolded::Refused(r) => refused(r),
+        Ok(n) => done(n as u64, 0),
+        Err(r) => refused(r),
     }
 }
 
-pub fn added_said(a: Verdict) -> Said
+pub fn added_said(a: Result<(), Refusal>) -> Said
     ensures { result ≡ added_said a }
 {
     match a {
-        Verdict::Fine => done(0, 0),
-        Verdict::Refused(r) => refused(r),
+        Ok(()) => done(0, 0),
+        Err(r) => refused(r),
     }
 }
 
@@ -106,21 +105,21 @@ pub fn overlap_word(o: Overlap) -> u64
     }
 }
 
-pub fn reported_said(r: Reported) -> Said
+pub fn reported_said(r: Result<u32, Unreported>) -> Said
     ensures { result ≡ reported_said r }
 {
     match r {
-        Reported::Done(n) => done(word32(n), 0),
-        Reported::TooManyRules(n) => refused(Refusal::TooManyRules { asked: n }),
-        Reported::NoRoom => crowded(),
+        Ok(n) => done(word32(n), 0),
+        Err(Unreported::TooManyRules(n)) => refused(Refusal::TooManyRules { asked: n }),
+        Err(Unreported::NoRoom) => crowded(),
     }
 }
 
-pub fn loaded_said(l: Loaded) -> Said
+pub fn loaded_said(l: Result<u16, Refusal>) -> Said
     ensures { result ≡ loaded_said l }
 {
     match l {
-        Loaded::Kept(n) => done(word16(n), 0),
-        Loaded::Refused(r) => refused(r),
+        Ok(n) => done(word16(n), 0),
+        Err(r) => refused(r),
     }
 }

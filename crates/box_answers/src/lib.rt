@@ -7,7 +7,7 @@ ghost use Rattle.paper.specs.Numbers.{number, told};
 ghost use Rattle.box_answers.specs.Border.{short, answer_words, said, has_room, answered, found_word, bit};
 ghost use Rattle.box_answers.specs.Telling.{one_told, two_told};
 
-use paper::{Found, Refusal};
+use paper::Refusal;
 use widths::{word16, word32};
 
 pub mod calls;
@@ -126,12 +126,12 @@ pub fn crowded() -> Said
     }
 }
 
-pub fn found_word(f: Found) -> u64
+pub fn found_word(f: Option<u16>) -> u64
     ensures { result ≡ found_word f }
 {
     match f {
-        Found::At(s) => word16(s),
-        Found::Nothing => NONE,
+        Some(s) => word16(s),
+        None => NONE,
     }
 }
 

@@ -10,11 +10,12 @@ use lib.ListN.{length, get_or, set, take, drop, take-append-drop, length-replica
 use lib.Seq.{take_all}
 use lib.Dec.{leb}
 use borrow.Author.Tests.{leb-true}
+use Rattle.std.specs.declared.result.Result.TheVariants.{Err, Ok}
+use Rattle.std.specs.declared.option.Option.TheVariants.{None, Some}
 use Rattle.std.specs.Prelude.{if◌then◌else◌}
 use Rattle.paper.specs.Words.{joined}
 use Rattle.paper.proofs.Lists.{no_way}
-use Rattle.sheet_findings.specs.declared.Room.{Room}
-use Rattle.sheet_findings.specs.declared.Room.TheVariants as rooms
+use Rattle.paper.specs.Answered.{Maybe}
 use Rattle.term_table.specs.Table.{Square, no_edges, no_marks}
 use Rattle.sheet_ended.specs.Sets.{end_room, no_sets}
 use Rattle.sheet_lines.specs.Fed.{Reading, going, stopped, begun, fed, behind, fed_all, ended, max_held}
@@ -22,8 +23,8 @@ use Rattle.sheet_lines.specs.Pieces.{as_lines, fed_append}
 use Rattle.sheet_lines.specs.Held.{no_line}
 use Rattle.sheet_reader.specs.State.{Lent, lent, step_room, sites_room, kept_room, items_room}
 use Rattle.sheet_read.specs.declared.State.{State}
-use Rattle.sheet_read.specs.declared.Checked.{Checked}
-use Rattle.sheet_read.specs.declared.Checked.TheVariants as checked
+use Rattle.sheet_read.specs.Checked.{Checked}
+use Rattle.sheet_read.specs.declared.Unchecked.TheVariants as checked
 use Rattle.sheet_read.specs.Whole.{first_state, Shows, Feeds, Ends, Pauses, Checks, Enough}
 use Rattle.sheet_read.proofs.Feeding.{shows_first}
 use Rattle.sheet_state.specs.State.{state_words, state_in, state_put, held_put}
@@ -191,7 +192,7 @@ pub end_short : (b : Bool) (w h : List ℕ) (t : Square) (room a : List ℕ) →
 unfolding EndSays
 end_short b w h t room a e = rw e (refl, refl, refl)
 
-module _ (w h : List ℕ) (t : Square) (room a room' a' : List ℕ) (r : ℕ) (s : State) (x : Room) (y : Said) (es : s ≡ state_in w h) (hr : end_room ≤ length room)
+module _ (w h : List ℕ) (t : Square) (room a room' a' : List ℕ) (r : ℕ) (s : State) (x : Maybe ℕ) (y : Said) (es : s ≡ state_in w h) (hr : end_room ≤ length room)
     (E : (m ws i : List ℕ) → Ends s (lent m ws i t) room room' 0 x) (ey : y ≡ ended_said x) (p : (a', r) ≡ answered true a y) where
   closed_there : (m ws i : List ℕ) (M : Reading) → Shows s (lent m ws i t) M → Closed M room a room' a' r
   unfolding ended_said
@@ -203,10 +204,10 @@ module _ (w h : List ℕ) (t : Square) (room a room' a' : List ℕ) (r : ℕ) (s
         into = N.into;
       }
 
-  numbered : (v : Room) → x ≡ v → (r ≡ 0) ⊎ (r ≡ short)
+  numbered : (v : Maybe ℕ) → x ≡ v → (r ≡ 0) ⊎ (r ≡ short)
   unfolding ended_said answered
-  numbered (rooms.To n) e = inl (ap (λ (q : List ℕ × ℕ). q.1) p ∙ ap (λ (u : Said). u.number) (ey ∙ ap ended_said e))
-  numbered rooms.Short e = inr (ap (λ (q : List ℕ × ℕ). q.1) p ∙ ap (λ (u : Said). u.number) (ey ∙ ap ended_said e))
+  numbered (Some n) e = inl (ap (λ (q : List ℕ × ℕ). q.1) p ∙ ap (λ (u : Said). u.number) (ey ∙ ap ended_said e))
+  numbered None e = inr (ap (λ (q : List ℕ × ℕ). q.1) p ∙ ap (λ (u : Said). u.number) (ey ∙ ap ended_said e))
 
   pub end_says : (b : Bool) → b ≡ true → EndSays b w h t room a room' a' r
   unfolding EndSays
@@ -220,10 +221,10 @@ check_short b sheet k room a e = rw e (record { memory = refl; found = refl; ans
 
 pub check_says : (b : Bool) (sheet m ws i : List ℕ) (t : Square) (room a : List ℕ) (k' : Lent) (room' a' : List ℕ) (r : ℕ) (c : Checked) (y : Said) → b ≡ true → Enough m ws i → Checks sheet m ws i room room' c → y ≡ checked_said c → (a', r) ≡ answered true a y → CheckSays b sheet (lent m ws i t) room a k' room' a' r
 unfolding CheckSays checked_said
-check_says b sheet m ws i t room a k' room' a' r (checked.Done n) y e l C ey p =
+check_says b sheet m ws i t room a k' room' a' r (Ok n) y e l C ey p =
     rw e (inl (record { answer = p ∙ ap (answered true a) (ey ∙ ap (λ (x : ℕ). said 0 (x ∷ [])) C.0); into = C.1 }))
-check_says b sheet m ws i t room a k' room' a' r checked.NoRoom y e l C ey p = rw e (inr (record { answer = p ∙ ap (answered true a) ey; short = C }))
-check_says b sheet m ws i t room a k' room' a' r checked.NoMemory y e l C ey p = absurd (C.0 l)
+check_says b sheet m ws i t room a k' room' a' r (Err checked.NoRoom) y e l C ey p = rw e (inr (record { answer = p ∙ ap (answered true a) ey; short = C }))
+check_says b sheet m ws i t room a k' room' a' r (Err checked.NoMemory) y e l C ey p = absurd (C.0 l)
 
 -- ---- what `lintel_sheet_begin` leaves is the start of every sheet: the pieces go on from there
 

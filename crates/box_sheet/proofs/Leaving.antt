@@ -6,7 +6,7 @@ use Prim.Native.Nat.{ℕ}
 use lib.ListN.{length}
 use Rattle.std.specs.Prelude.{if◌then◌else◌}
 use Rattle.term_table.specs.Table.{Square}
-use Rattle.sheet_findings.specs.declared.Room.{Room}
+use Rattle.paper.specs.Answered.{Maybe}
 use Rattle.sheet_reader.specs.State.{Lent}
 use Rattle.sheet_reader.proofs.Leaving.{if_yes, if_no}
 use Rattle.sheet_state.specs.State.{state_in, state_put, held_put}
@@ -14,7 +14,7 @@ use Rattle.sheet_read.specs.Leaves as read
 use Rattle.sheet_read.specs.Leaves.{leaves, feed_in, end_in, check_in}
 use Rattle.sheet_read.specs.declared.State.{State}
 use Rattle.sheet_read.specs.declared.Fed.{Fed}
-use Rattle.sheet_read.specs.declared.Checked.{Checked}
+use Rattle.sheet_read.specs.Checked.{Checked}
 use Rattle.box_answers.specs.declared.Said.{Said}
 use Rattle.box_answers.specs.Border.{short, said, answered}
 use Rattle.box_sheet.specs.Sheet.{ended_said, checked_said}
@@ -42,7 +42,7 @@ module _ (w h : List ℕ) (t : Square) (room a : List ℕ) where
   unfolding ending_in
   ending_short e = if_no (ending_fits w h room a) (ending_said a (end_in (state_in w h) t room 0)) (ending_left room (a, short)) e
 
-  pub ending_there : ending_fits w h room a ≡ true → (s : State) → s ≡ state_in w h → (o : Room) (room' : List ℕ) → read.said o room' ≡ end_in s t room 0 → (y : Said) → y ≡ ended_said o → (x : List ℕ × ℕ) → x ≡ answered true a y → ending_left room' x ≡ ending_in w h t room a
+  pub ending_there : ending_fits w h room a ≡ true → (s : State) → s ≡ state_in w h → (o : Maybe ℕ) (room' : List ℕ) → read.said o room' ≡ end_in s t room 0 → (y : Said) → y ≡ ended_said o → (x : List ℕ × ℕ) → x ≡ answered true a y → ending_left room' x ≡ ending_in w h t room a
   unfolding ending_in
   ending_there e s es o room' eo y ey x ex =
       ap (ending_left room') (ex ∙ ap (answered true a) ey)

@@ -8,7 +8,7 @@ use Rattle.sheet_state.specs.State.{keeps, state_in, state_put, held_put}
 use Rattle.sheet_read.specs.Leaves as read
 use Rattle.sheet_read.specs.Leaves.{Leaves, feed_in, end_in, check_in}
 use Rattle.sheet_read.specs.declared.Fed.{Fed}
-use Rattle.sheet_read.specs.declared.Checked.{Checked}
+use Rattle.sheet_read.specs.Checked.{Checked}
 use Rattle.box_answers.specs.Border.{short, said, both, answered}
 use Rattle.box_sheet.specs.Sheet.{lends, writes, ended_said, checked_said}
 

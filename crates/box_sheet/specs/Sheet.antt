@@ -1,10 +1,11 @@
 -- What the sheet calls answer and leave, over the words and bytes that are lent. The state that they say is `state_in`.
+use Rattle.std.specs.declared.result.Result.TheVariants.{Err, Ok}
+use Rattle.std.specs.declared.option.Option.TheVariants.{None, Some}
 use Rattle.std.specs.Prelude.{◌≡◌, Bool, true, false, List, [], ◌∷◌, ◌⊎◌, ℕ, ◌+◌, ◌≤◌, ◌<◌, length, get_or, take}
 use Rattle.std.specs.Prelude.{if◌then◌else◌}
 use Rattle.paper.specs.Sheets.{findings}
 use Rattle.sheet_findings.specs.Written.{written_at}
-use Rattle.sheet_findings.specs.declared.Room.{Room}
-use Rattle.sheet_findings.specs.declared.Room.TheVariants as rooms
+use Rattle.paper.specs.Answered.{Maybe}
 use Rattle.term_table.specs.Table.{Square}
 use Rattle.sheet_ended.specs.Sets.{end_room}
 use Rattle.sheet_lines.specs.Fed.{Reading, ended}
@@ -12,8 +13,8 @@ use Rattle.sheet_lines.specs.Pieces.{as_lines}
 use Rattle.sheet_reader.specs.State.{Lent, lent, step_room, sites_room, kept_room, items_room}
 use Rattle.sheet_state.specs.State.{state_in, state_put, held_put}
 use Rattle.sheet_read.specs.Whole.{Shows, Feeds}
-use Rattle.sheet_read.specs.declared.Checked.{Checked}
-use Rattle.sheet_read.specs.declared.Checked.TheVariants as checked
+use Rattle.sheet_read.specs.Checked.{Checked}
+use Rattle.sheet_read.specs.declared.Unchecked.TheVariants as checked
 use Rattle.box_answers.specs.declared.Said.{Said}
 use Rattle.box_answers.specs.Border.{short, answer_words, said, has_room, both, answered}
 
@@ -60,9 +61,9 @@ FeedSays false w h k piece room a w' h' k' room' a' r = Unfed w h k room a w' h'
 -- ---- end
 
 -- room that is too short, which is said of states that no call made alone
-unfoldable pub ended_said : Room → Said
-ended_said (rooms.To n) = said 0 (n ∷ [])
-ended_said rooms.Short = said short []
+unfoldable pub ended_said : Maybe ℕ → Said
+ended_said (Some n) = said 0 (n ∷ [])
+ended_said None = said short []
 
 -- all that is found where the sheet ends here
 pub record Closed (M : Reading) (room a room' a' : List ℕ) (r : ℕ) : Type 0 where
@@ -78,9 +79,9 @@ EndSays false w h t room a room' a' r = (room' ≡ room) × (a' ≡ a) × (r ≡
 
 -- NoMemory is never met: `lends` is asked first
 unfoldable pub checked_said : Checked → Said
-checked_said (checked.Done n) = said 0 (n ∷ [])
-checked_said checked.NoRoom = said short []
-checked_said checked.NoMemory = said short []
+checked_said (Ok n) = said 0 (n ∷ [])
+checked_said (Err checked.NoRoom) = said short []
+checked_said (Err checked.NoMemory) = said short []
 
 pub record Found (sheet room a room' a' : List ℕ) (r : ℕ) : Type 0 where
   pub answer : (a', r) ≡ answered true a (said 0 (length (findings sheet) ∷ []))

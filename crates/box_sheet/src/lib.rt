@@ -16,8 +16,7 @@ use box_answers::{ANSWER, SHORT, Said, crowded, done, say};
 use item_words::ITEMS_ROOM;
 use paper::TERMS;
 use sheet_ended::END_ROOM;
-use sheet_findings::Room;
-use sheet_read::{Checked, KEPT_ROOM, SITES_ROOM};
+use sheet_read::{Unchecked, KEPT_ROOM, SITES_ROOM};
 use sheet_reader::STEP_ROOM;
 use sheet_state::{keeps, put_state, state_in};
 use term_table::WORDS;
@@ -46,22 +45,22 @@ fn writes(room: &[u8], least: usize, answer: &[u64]) -> bool
     ANSWER <= answer.len()
 }
 
-fn ended_said(r: Room) -> Said
+fn ended_said(r: Option<usize>) -> Said
     ensures { result ≡ ended_said r }
 {
     match r {
-        Room::To(n) => done(word_of_size(n), 0),
-        Room::Short => crowded(),
+        Some(n) => done(word_of_size(n), 0),
+        None => crowded(),
     }
 }
 
-fn checked_said(c: Checked) -> Said
+fn checked_said(c: Result<usize, Unchecked>) -> Said
     ensures { result ≡ checked_said c }
 {
     match c {
-        Checked::Done(n) => done(word_of_size(n), 0),
-        Checked::NoRoom => crowded(),
-        Checked::NoMemory => Said {
+        Ok(n) => done(word_of_size(n), 0),
+        Err(Unchecked::NoRoom) => crowded(),
+        Err(Unchecked::NoMemory) => Said {
             number: SHORT,
             one: 0,
             two: 0,

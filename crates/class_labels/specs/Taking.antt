@@ -1,5 +1,7 @@
 -- A class taken out: what class_removal::remove_set_of_in and remove_listed_in list is what paper calls the members, and they leave what paper's
 -- `dissolve` leaves.
+use Rattle.std.specs.declared.result.Result.TheVariants.{Ok}
+use Rattle.std.specs.declared.option.Option.TheVariants.{None, Some}
 use Rattle.std.proofs.Math.Path.{◌≡◌, refl, sym, ap, subst⁻¹}
 use Rattle.std.proofs.Common.{◌∙◌, subst, arith, length-append, length-drop}
 use Rattle.std.specs.Prelude.{Bool, true, false, length, get_or, take, drop}
@@ -11,8 +13,7 @@ use Rattle.std.proofs.Math.ListN.{get_or-append}
 use Rattle.std.proofs.Math.Seq.{take-append_seam}
 use Rattle.std.proofs.Math.Dec.{eqb}
 use borrow.Author.Tests.{lt-ltb, le-leb, eq-eqb, eqb-true, ne_eqb}
-use Rattle.paper.specs.declared.Found.{Found}
-use Rattle.paper.specs.declared.Found.TheVariants.{At, Nothing}
+use Rattle.paper.specs.Answered.{Maybe}
 use Rattle.paper.specs.Words.{keep, below, look}
 use Rattle.paper.specs.Numbers.{max_sites, Outcome, done}
 use Rattle.paper.specs.Classes.{Classes, classes, up, find_in, is_at, Removed, flattened, remove_at, remove_set_of}
@@ -20,8 +21,8 @@ use Rattle.paper.specs.Loading.{Labels, lowest, members, dissolve}
 use Rattle.paper.proofs.Labels.{never}
 use Rattle.paper.proofs.Tables.{Fine, of_keep, in_keep, keep_rising, look_in, in_look, lowest_is, dissolved, undissolved, dissolve_fine}
 use Rattle.paper.proofs.Lists.{no_way}
-use Rattle.classes.specs.declared.Taken.{Taken}
-use Rattle.classes.specs.declared.Taken.TheVariants as K
+use Rattle.classes.specs.Called.{Taken}
+use Rattle.classes.specs.declared.Untaken.TheVariants as K
 use Rattle.classes.specs.Answers.{or_self, rep, over, taken, taken_by, taken_if}
 use Rattle.class_removal.specs.Listed.{remove_of, taken_of}
 use Rattle.classes.specs.Well.{has_up, in_class, dropped}
@@ -39,28 +40,28 @@ LabelsBelow k c = (z v : ℕ) → look k z ≡ some v → z < c
 
 -- a joined site's root, by its representative
 module _ {p r : List ℕ} {n : ℕ} {k : Labels} (T : Tied p r n k) where
-  root : (z : ℕ) → z < max_sites → has_label k z ≡ true → (find_in p z).found ≡ At (rep p z)
+  root : (z : ℕ) → z < max_sites → has_label k z ≡ true → (find_in p z).found ≡ Some (rep p z)
   unfolding rep
   root z h e = go (find_in p z).found refl
     where
       there : has_up p z ≡ is_joined (find_in p z).found
       there = joined_has (classes p r n) T.well z h
 
-      go : (f : Found) → (find_in p z).found ≡ f → (find_in p z).found ≡ At (or_self z (find_in p z).found)
-      go (At s) q = rw q
-      go Nothing q = no_way (sym e ∙ (sym (T.joined z h) ∙ (there ∙ ap is_joined q)))
+      go : (f : Maybe ℕ) → (find_in p z).found ≡ f → (find_in p z).found ≡ Some (or_self z (find_in p z).found)
+      go (Some s) q = rw q
+      go None q = no_way (sym e ∙ (sym (T.joined z h) ∙ (there ∙ ap is_joined q)))
 
-  lone : (z : ℕ) → z < max_sites → has_label k z ≡ false → (find_in p z).found ≡ Nothing
+  lone : (z : ℕ) → z < max_sites → has_label k z ≡ false → (find_in p z).found ≡ None
   lone z h e = go (find_in p z).found refl
     where
       there : has_up p z ≡ is_joined (find_in p z).found
       there = joined_has (classes p r n) T.well z h
 
-      go : (f : Found) → (find_in p z).found ≡ f → (find_in p z).found ≡ Nothing
-      go (At s) q = no_way (sym (sym e ∙ (sym (T.joined z h) ∙ (there ∙ ap is_joined q))))
-      go Nothing q = q
+      go : (f : Maybe ℕ) → (find_in p z).found ≡ f → (find_in p z).found ≡ None
+      go (Some s) q = no_way (sym (sym e ∙ (sym (T.joined z h) ∙ (there ∙ ap is_joined q))))
+      go None q = q
 
-  found_rep : (z s : ℕ) → (find_in p z).found ≡ At s → rep p z ≡ s
+  found_rep : (z s : ℕ) → (find_in p z).found ≡ Some s → rep p z ≡ s
   unfolding rep
   found_rep z s e = ap (or_self z) e
 
@@ -70,16 +71,16 @@ module _ {p r : List ℕ} {n : ℕ} {k : Labels} (T : Tied p r n k) where
     mine z e =
         let q = root z (T.inside z low e) (label_some k z low e) in
         let s = T.holds.from z low (lowest_is k z low e ∙ sym (lowest_is k low low own)) in
-        ap (λ (f : Found). is_at f (At (rep p low))) q ∙ eq-eqb (rep p z) (rep p low) s
+        ap (λ (f : Maybe ℕ). is_at f (Some (rep p low))) q ∙ eq-eqb (rep p z) (rep p low) s
 
     yours : (z : ℕ) → z < max_sites → in_class p (rep p low) z ≡ true → look k z ≡ some low
     yours z h e = go (look k z) refl
       where
         go : (o : Option ℕ) → look k z ≡ o → look k z ≡ some low
-        go none q = no_way (sym (sym (ap (λ (f : Found). is_at f (At (rep p low))) (lone z h (label_none k z q))) ∙ e))
+        go none q = no_way (sym (sym (ap (λ (f : Maybe ℕ). is_at f (Some (rep p low))) (lone z h (label_none k z q))) ∙ e))
         go (some v) q =
             let w = root z h (label_some k z v q) in
-            let u = eqb-true (rep p z) (rep p low) (sym (ap (λ (f : Found). is_at f (At (rep p low))) w) ∙ e) in
+            let u = eqb-true (rep p z) (rep p low) (sym (ap (λ (f : Maybe ℕ). is_at f (Some (rep p low))) w) ∙ e) in
             q ∙ ap some (sym (lowest_is k z v q) ∙ (T.holds.to z low u ∙ lowest_is k low low own))
 
     -- the sites of the class, ascending, are paper's members
@@ -136,22 +137,22 @@ module _ {p r : List ℕ} {n : ℕ} {k : Labels} (T : Tied p r n k) where
       left : (z : ℕ) → z < max_sites → is_joined (dropped (rep p low) (find_in p z).found) ≡ has_label (dissolve k low) z
       left z h = go (look k z) refl (look (dissolve k low) z) refl
         where
-          at : (f : Found) → (find_in p z).found ≡ f → is_joined (dropped (rep p low) (find_in p z).found) ≡ is_joined (dropped (rep p low) f)
-          at f w = ap (λ (g : Found). is_joined (dropped (rep p low) g)) w
+          at : (f : Maybe ℕ) → (find_in p z).found ≡ f → is_joined (dropped (rep p low) (find_in p z).found) ≡ is_joined (dropped (rep p low) f)
+          at f w = ap (λ (g : Maybe ℕ). is_joined (dropped (rep p low) g)) w
 
           go : (o : Option ℕ) → look k z ≡ o → (d : Option ℕ) → look (dissolve k low) z ≡ d
               → is_joined (dropped (rep p low) (find_in p z).found) ≡ has_label (dissolve k low) z
-          go none a none b = at Nothing (lone z h (label_none k z a)) ∙ sym (label_none (dissolve k low) z b)
+          go none a none b = at None (lone z h (label_none k z a)) ∙ sym (label_none (dissolve k low) z b)
           go none a (some w) b = absurd (never (sym a ∙ (dissolved k low z w T.rising b).0))
-          go (some v) a none b = at (At (rep p z)) (root z h (label_some k z v a)) ∙ (gone (ℕ_discrete v low) ∙ sym (label_none (dissolve k low) z b))
+          go (some v) a none b = at (Some (rep p z)) (root z h (label_some k z v a)) ∙ (gone (ℕ_discrete v low) ∙ sym (label_none (dissolve k low) z b))
             where
-              gone : Dec (v ≡ low) → is_joined (dropped (rep p low) (At (rep p z))) ≡ false
+              gone : Dec (v ≡ low) → is_joined (dropped (rep p low) (Some (rep p z))) ≡ false
               gone (yes i) = simp (eq-eqb (rep p z) (rep p low) (T.holds.from z low (lowest_is k z v a ∙ (i ∙ sym (lowest_is k low low own)))))
               gone (no i) = absurd (never (sym b ∙ undissolved k low z v T.rising a i))
           go (some v) a (some w) b =
               let x = dissolved k low z w T.rising b in
               let i : rep p z ≡ rep p low → ⊥ = λ j. x.1 (sym (lowest_is k z w x.0) ∙ (T.holds.to z low j ∙ lowest_is k low low own)) in
-              at (At (rep p z)) (root z h (label_some k z v a)) ∙ ((simp (ne_eqb (rep p z) (rep p low) i)) ∙ sym (label_some (dissolve k low) z w b))
+              at (Some (rep p z)) (root z h (label_some k z v a)) ∙ ((simp (ne_eqb (rep p z) (rep p low) i)) ∙ sym (label_some (dissolve k low) z w b))
 
       removed_tied : Tied q.after.parents q.after.ranks q.after.count (dissolve k low)
       removed_tied = record {
@@ -174,7 +175,7 @@ module _ {p r : List ℕ} {n : ℕ} {k : Labels} (T : Tied p r n k) where
 -- What is left, and what is listed in the lent memory m.
 pub record Takes (p r : List ℕ) (n : ℕ) (k : Labels) (low : ℕ) (m m' : List ℕ) (t : Taken) : Type 0 where
   pub tied : Tied p r n (dissolve k low)
-  pub answer : t ≡ K.Members (length (members k low))
+  pub answer : t ≡ Ok (length (members k low))
   pub list : m' ≡ over m (members k low)
   pub room : length (members k low) ≤ length m
   pub same_length : length m' ≡ length m
@@ -195,7 +196,7 @@ module _ {p r : List ℕ} {n : ℕ} {k : Labels} (T : Tied p r n k) (low : ℕ) 
   takes o is room p' n' m' t e = record {
     tied = subst⁻¹ (λ (c : Classes). Tied c.parents c.ranks c.count (dissolve k low)) (ap (λ (w : Classes × List ℕ × Taken). w.0) all)
         (removed_tied T low own whole (is_set T low own));
-    answer = ap (λ (w : Classes × List ℕ × Taken). w.2) all ∙ ap (λ (l : List ℕ). K.Members (length l)) same;
+    answer = ap (λ (w : Classes × List ℕ × Taken). w.2) all ∙ ap (λ (l : List ℕ). Ok (length l)) same;
     list = list;
     room = room;
     same_length = ap length list ∙ (simp (length-append, length-drop) (omega (arith, room)));
@@ -203,7 +204,7 @@ module _ {p r : List ℕ} {n : ℕ} {k : Labels} (T : Tied p r n k) (low : ℕ) 
     each = λ i h. ap (λ (l : List ℕ). get_or l i 0) list ∙ get_or-append (members k low) (drop (length (members k low)) m) 0 i h;
   }
     where
-      all : ◌≡◌ {A = Classes × List ℕ × Taken} (classes p' r n', m', t) (whole.after, over m whole.members, K.Members (length whole.members))
+      all : ◌≡◌ {A = Classes × List ℕ × Taken} (classes p' r n', m', t) (whole.after, over m whole.members, Ok (length whole.members))
       all = e ∙ ap (taken_by (classes p r n) m) (is ∙ is_set T low own)
 
       list : m' ≡ over m (members k low)

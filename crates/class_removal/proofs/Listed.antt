@@ -7,8 +7,8 @@ use native.Mathlib.Omega.{arith}
 use native.Mathlib.Decide.{ℕ_discrete, dec_lt}
 use lib.ListN.{length, get_or}
 use lib.Dec.{ltb}
-use Rattle.paper.specs.declared.Found.{Found}
-use Rattle.paper.specs.declared.Found.TheVariants.{At, Nothing}
+use Rattle.std.specs.declared.option.Option.TheVariants.{None, Some}
+use Rattle.paper.specs.Answered.{Maybe}
 use Rattle.paper.specs.declared.Refusal.TheVariants.{Unknown}
 use Rattle.paper.specs.Numbers.{max_sites, done, ◌>>=◌, demand}
 use Rattle.paper.specs.Classes.{Classes, up, flattened, Swept, sweep, Removed, removed, remove_set_of}
@@ -85,9 +85,9 @@ remove_same : (w v : List ℕ → ℕ → Swept) (c : Classes) (x : ℕ) → ((r
 unfolding remove_with
 remove_same w v c x e = ap (λ (q : Removed). demand (ltb x max_sites) (Unknown x) >>= λ _. done q) (go (flattened c x).found)
   where
-    go : (f : Found) → remove_by w (flattened c x).after f ≡ remove_by v (flattened c x).after f
-    go (At r) = ap (removed (flattened c x).after) (e r)
-    go Nothing = refl
+    go : (f : Maybe ℕ) → remove_by w (flattened c x).after f ≡ remove_by v (flattened c x).after f
+    go (Some r) = ap (removed (flattened c x).after) (e r)
+    go None = refl
 
 pub remove_listed : (c : Classes) (x : ℕ) (xs : List ℕ) → Ascends xs → ((i : ℕ) → i < length xs → get_or xs i 0 < max_sites)
     → ((z : ℕ) → z < max_sites → up c.parents z < max_sites → Listed xs z)
@@ -109,9 +109,9 @@ pub remove_few : (xs : List ℕ) (c : Classes) (x : ℕ) (q : Removed) → remov
 unfolding remove_with
 remove_few xs c x q e = go (ltb x max_sites) refl
   where
-    by : (f : Found) → length (remove_by (sweep_of xs (length xs)) (flattened c x).after f).members ≤ length xs
-    by (At r) = (listed_within xs (length xs) (flattened c x).after.parents r).few
-    by Nothing = omega arith
+    by : (f : Maybe ℕ) → length (remove_by (sweep_of xs (length xs)) (flattened c x).after f).members ≤ length xs
+    by (Some r) = (listed_within xs (length xs) (flattened c x).after.parents r).few
+    by None = omega arith
 
     go : (b : Bool) → ltb x max_sites ≡ b → length q.members ≤ length xs
     go true p = subst (λ (o : Removed). length o.members ≤ length xs) (same_done (simp p at e)) (by (flattened c x).found)

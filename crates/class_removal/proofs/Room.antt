@@ -3,8 +3,8 @@ use mathlib.Core.Path.{◌≡◌, refl, ◌∙◌, ap, subst⁻¹}
 use mathlib.Core.List.{List, [], ◌∷◌, ◌++◌}
 use Prim.Native.Nat.{ℕ, zero, suc, ◌≤◌, ◌<◌}
 use native.Mathlib.Omega.{arith}
-use Rattle.paper.specs.declared.Found.{Found}
-use Rattle.paper.specs.declared.Found.TheVariants.{At}
+use Rattle.std.specs.declared.option.Option.TheVariants.{Some}
+use Rattle.paper.specs.Answered.{Maybe}
 use Rattle.std.specs.Prelude.{if◌then◌else◌}
 use Rattle.paper.specs.Numbers.{max_sites}
 use Rattle.paper.specs.Classes.{Classes, up, is_at, flattened, Swept, sweep}
@@ -22,10 +22,10 @@ unfolding sweep
 sweep_idle j p r h g =
     let i = sweep_leaves j p r j g in
     let g' : max_sites ≤ up (sweep j p r).parents j = subst⁻¹ (λ (w : ℕ). max_sites ≤ w) i g in
-    ap (λ (u : List ℕ × Found). the u) (update_none (sweep j p r).parents j h g')
+    ap (λ (u : List ℕ × Maybe ℕ). the u) (update_none (sweep j p r).parents j h g')
   where
-    the : List ℕ × Found → Swept
-    the u = record { parents = u.0; members = if is_at u.1 (At r) then (sweep j p r).members ++ (j ∷ []) else (sweep j p r).members }
+    the : List ℕ × Maybe ℕ → Swept
+    the u = record { parents = u.0; members = if is_at u.1 (Some r) then (sweep j p r).members ++ (j ∷ []) else (sweep j p r).members }
 
 -- the updating find leaves it so
 pub kept : (c : Classes) (x z : ℕ) → max_sites ≤ up c.parents z → max_sites ≤ up (flattened c x).after.parents z

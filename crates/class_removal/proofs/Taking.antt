@@ -10,14 +10,15 @@ use lib.ListN.{length, get_or, set, take, drop, length-append, length-drop, get_
 use lib.Seq.{set_at, drop-cons, append_snoc, get_or-append-add, take_at, drop-length}
 use lib.Dec.{eqb, ltb, leb}
 use borrow.Author.Tests.{le-leb, lt-leb}
-use Rattle.paper.specs.declared.Found.{Found}
-use Rattle.paper.specs.declared.Found.TheVariants.{At, Nothing}
+use Rattle.std.specs.declared.result.Result.TheVariants.{Err, Ok}
+use Rattle.std.specs.declared.option.Option.TheVariants.{None, Some}
+use Rattle.paper.specs.Answered.{Maybe}
 use Rattle.paper.specs.declared.Refusal.TheVariants.{Unknown}
 use Rattle.std.specs.Prelude.{if◌then◌else◌}
 use Rattle.paper.specs.Numbers.{max_sites, Outcome, done, ◌>>=◌, demand}
 use Rattle.paper.specs.Classes.{Classes, classes, is_at, flatten_in, flattened, Swept, sweep, unjoin, Removed, remove_at, remove_set_of}
-use Rattle.classes.specs.declared.Taken.{Taken}
-use Rattle.classes.specs.declared.Taken.TheVariants as K
+use Rattle.classes.specs.Called.{Taken}
+use Rattle.classes.specs.declared.Untaken.TheVariants as K
 use Rattle.classes.specs.Answers.{noted, over, Sweeps, taken, taken_by, taken_if}
 use Rattle.class_removal.specs.Listed.{swept_on, sweep_of, remove_by, remove_with, remove_of, taken_of}
 use Rattle.classes.specs.Well.{bit}
@@ -25,12 +26,12 @@ use Rattle.classes.proofs.Updating.{update_out}
 
 -- ---- note
 
-module _ (m : List ℕ) (n r y : ℕ) (f : Found) where
-  pub note_none : f ≡ Nothing → ◌≡◌ {A = List ℕ × ℕ} (m, n) (noted m n (is_at f (At r)) y)
-  note_none e = sym (ap (λ (g : Found). noted m n (is_at g (At r)) y) e)
+module _ (m : List ℕ) (n r y : ℕ) (f : Maybe ℕ) where
+  pub note_none : f ≡ None → ◌≡◌ {A = List ℕ × ℕ} (m, n) (noted m n (is_at f (Some r)) y)
+  note_none e = sym (ap (λ (g : Maybe ℕ). noted m n (is_at g (Some r)) y) e)
 
-  pub note_at : (s : ℕ) (b : Bool) → f ≡ At s → eqb s r ≡ b → noted m n b y ≡ noted m n (is_at f (At r)) y
-  note_at s b e q = ap (λ (c : Bool). noted m n c y) (sym q) ∙ sym (ap (λ (g : Found). noted m n (is_at g (At r)) y) e)
+  pub note_at : (s : ℕ) (b : Bool) → f ≡ Some s → eqb s r ≡ b → noted m n b y ≡ noted m n (is_at f (Some r)) y
+  note_at s b e q = ap (λ (c : Bool). noted m n c y) (sym q) ∙ sym (ap (λ (g : Maybe ℕ). noted m n (is_at g (Some r)) y) e)
 
 -- ---- sweep
 
@@ -59,13 +60,13 @@ pub record Within (s : Swept) (k : ℕ) : Type 0 where
   pub few : length s.members ≤ k
   pub sites : (i : ℕ) → i < length s.members → get_or s.members i 0 < max_sites
 
-found_site : (p : List ℕ) (y r : ℕ) → is_at (flatten_in p y).1 (At r) ≡ true → y < max_sites
+found_site : (p : List ℕ) (y r : ℕ) → is_at (flatten_in p y).1 (Some r) ≡ true → y < max_sites
 found_site p y r e = go (dec_lt y max_sites)
   where
     go : Dec (y < max_sites) → y < max_sites
     go (yes h) = h
     go (no d) =
-        let f = ap (λ (h : List ℕ × Found). is_at h.1 (At r)) (update_out p y (omega arith)) in
+        let f = ap (λ (h : List ℕ × Maybe ℕ). is_at h.1 (Some r)) (update_out p y (omega arith)) in
         let z : ◌≡◌ {A = ℕ} 0 1 = ap bit (sym f ∙ e) in
         absurd (omega arith)
 
@@ -82,7 +83,7 @@ within_none : (p : List ℕ) → Within (record { parents = p; members = [] }) 0
 within_none p = record { few = omega arith; sites = λ i h. absurd (omega arith) }
 
 within_on : (s : Swept) (k y r : ℕ) → Within s k → Within (swept_on y r s) (suc k)
-within_on s k y r F = go (is_at (flatten_in s.parents y).1 (At r)) (found_site s.parents y r)
+within_on s k y r F = go (is_at (flatten_in s.parents y).1 (Some r)) (found_site s.parents y r)
   where
     go : (b : Bool) → (b ≡ true → y < max_sites) → Within (record { parents = (flatten_in s.parents y).0; members = if b then s.members ++ (y ∷ []) else s.members }) (suc k)
     go true g = record { few = omega (arith, F.few, one_longer s.members y); sites = λ i h. one_more_site s.members y i (g refl) (F.sites i) h }
@@ -119,12 +120,12 @@ module _ {s : Swept} {m p' m' : List ℕ} {n : ℕ} (S : Sweeps s m p' m' n) whe
     pub part_sites : (i : ℕ) → i < length (take n m') → get_or (take n m') i 0 < max_sites
     part_sites i = subst⁻¹ (λ (l : List ℕ). i < length l → get_or l i 0 < max_sites) part_is (F.sites i)
 
-    swept_turn : k < length m → (y r : ℕ) (q : List ℕ) (f : Found) (m'' : List ℕ) (n' : ℕ)
-        → ◌≡◌ {A = List ℕ × Found} (q, f) (flatten_in p' y) → ◌≡◌ {A = List ℕ × ℕ} (m'', n') (noted m' n (is_at f (At r)) y)
+    swept_turn : k < length m → (y r : ℕ) (q : List ℕ) (f : Maybe ℕ) (m'' : List ℕ) (n' : ℕ)
+        → ◌≡◌ {A = List ℕ × Maybe ℕ} (q, f) (flatten_in p' y) → ◌≡◌ {A = List ℕ × ℕ} (m'', n') (noted m' n (is_at f (Some r)) y)
         → Sweeps (swept_on y r s) m q m'' n'
     swept_turn h y r q f m'' n' e g =
-        let e' : ◌≡◌ {A = List ℕ × Found} (q, f) (flatten_in s.parents y) = e ∙ ap (λ (z : List ℕ). flatten_in z y) S.parents in
-        let H = noted_sweeps s m p' m' n y (is_at f (At r)) q S (omega (arith, F.few)) in
+        let e' : ◌≡◌ {A = List ℕ × Maybe ℕ} (q, f) (flatten_in s.parents y) = e ∙ ap (λ (z : List ℕ). flatten_in z y) S.parents in
+        let H = noted_sweeps s m p' m' n y (is_at f (Some r)) q S (omega (arith, F.few)) in
         rw (← e') (rw (← g) at H)
 
 pub sweep_start : (p m : List ℕ) (r : ℕ) → Sweeps (sweep 0 p r) m p m 0
@@ -135,15 +136,15 @@ pub listed_start : (xs p m : List ℕ) (r : ℕ) → Sweeps (sweep_of xs 0 p r) 
 unfolding sweep_of
 listed_start xs p m r = record { parents = refl; members = refl; number = refl }
 
-module _ (k : ℕ) (p m p' m' : List ℕ) (r n : ℕ) (h : k < length m) (q : List ℕ) (f : Found) (m'' : List ℕ) (n' : ℕ) where
+module _ (k : ℕ) (p m p' m' : List ℕ) (r n : ℕ) (h : k < length m) (q : List ℕ) (f : Maybe ℕ) (m'' : List ℕ) (n' : ℕ) where
   pub sweep_turn : Sweeps (sweep k p r) m p' m' n
-      → ◌≡◌ {A = List ℕ × Found} (q, f) (flatten_in p' k) → ◌≡◌ {A = List ℕ × ℕ} (m'', n') (noted m' n (is_at f (At r)) k)
+      → ◌≡◌ {A = List ℕ × Maybe ℕ} (q, f) (flatten_in p' k) → ◌≡◌ {A = List ℕ × ℕ} (m'', n') (noted m' n (is_at f (Some r)) k)
       → Sweeps (sweep (k + 1) p r) m q m'' n'
   unfolding sweep
   sweep_turn S e g = rw (add-one k) (swept_turn S (sweep_within k p r) h k r q f m'' n' e g)
 
   pub listed_turn : (xs : List ℕ) → Sweeps (sweep_of xs k p r) m p' m' n
-      → ◌≡◌ {A = List ℕ × Found} (q, f) (flatten_in p' (get_or xs k 0)) → ◌≡◌ {A = List ℕ × ℕ} (m'', n') (noted m' n (is_at f (At r)) (get_or xs k 0))
+      → ◌≡◌ {A = List ℕ × Maybe ℕ} (q, f) (flatten_in p' (get_or xs k 0)) → ◌≡◌ {A = List ℕ × ℕ} (m'', n') (noted m' n (is_at f (Some r)) (get_or xs k 0))
       → Sweeps (sweep_of xs (k + 1) p r) m q m'' n'
   unfolding sweep_of
   listed_turn xs S e g = rw (add-one k) (swept_turn S (listed_within xs k p r) h (get_or xs k 0) r q f m'' n' e g)
@@ -161,56 +162,56 @@ unjoin_end p m i h q = sym (ap (λ (j : ℕ). unjoin p (drop j m)) h ∙ ap (unj
 -- ---- the whole, whichever sites are looked at
 
 module _ (w : List ℕ → ℕ → Swept) (c : Classes) (m : List ℕ) (x : ℕ) where
-  pub taken_out : ltb x max_sites ≡ false → ◌≡◌ {A = Classes × List ℕ × Taken} (c, m, K.Refused (Unknown x)) (taken_by c m (remove_with w c x))
+  pub taken_out : ltb x max_sites ≡ false → ◌≡◌ {A = Classes × List ℕ × Taken} (c, m, (Err (K.Refused (Unknown x)))) (taken_by c m (remove_with w c x))
   unfolding remove_with
   taken_out h = simp h
 
-  module _ (h : ltb x max_sites ≡ true) {q : List ℕ} {f : Found} (e : ◌≡◌ {A = List ℕ × Found} (q, f) (flatten_in c.parents x)) where
+  module _ (h : ltb x max_sites ≡ true) {q : List ℕ} {f : Maybe ℕ} (e : ◌≡◌ {A = List ℕ × Maybe ℕ} (q, f) (flatten_in c.parents x)) where
     d : Classes
     d = classes q c.ranks c.count
 
-    by : (g : Found) → f ≡ g → taken_by c m (done (remove_by w d g)) ≡ taken_by c m (remove_with w c x)
+    by : (g : Maybe ℕ) → f ≡ g → taken_by c m (done (remove_by w d g)) ≡ taken_by c m (remove_with w c x)
     unfolding remove_with flattened d
-    by g o = simp h (rw (← o) (ap (λ (u : List ℕ × Found). taken_by c m (done (remove_by w (classes u.0 c.ranks c.count) u.1))) e))
+    by g o = simp h (rw (← o) (ap (λ (u : List ℕ × Maybe ℕ). taken_by c m (done (remove_by w (classes u.0 c.ranks c.count) u.1))) e))
 
-    pub taken_none : f ≡ Nothing → ◌≡◌ {A = Classes × List ℕ × Taken} (classes q c.ranks c.count, m, K.Members 0) (taken_by c m (remove_with w c x))
+    pub taken_none : f ≡ None → ◌≡◌ {A = Classes × List ℕ × Taken} (classes q c.ranks c.count, m, Ok 0) (taken_by c m (remove_with w c x))
     unfolding d
-    taken_none o = by Nothing o
+    taken_none o = by None o
 
-    pub taken_some : (r : ℕ) (p₂ m₂ p₃ : List ℕ) (n l : ℕ) → f ≡ At r → Sweeps (w q r) m p₂ m₂ n
+    pub taken_some : (r : ℕ) (p₂ m₂ p₃ : List ℕ) (n l : ℕ) → f ≡ Some r → Sweeps (w q r) m p₂ m₂ n
         → (p₃ ≡ unjoin p₂ (take n m₂)) × (l ≡ c.count - length (take n m₂))
-        → ◌≡◌ {A = Classes × List ℕ × Taken} (classes p₃ c.ranks l, m₂, K.Members n) (taken_by c m (remove_with w c x))
+        → ◌≡◌ {A = Classes × List ℕ × Taken} (classes p₃ c.ranks l, m₂, Ok n) (taken_by c m (remove_with w c x))
     unfolding d
     taken_some r p₂ m₂ p₃ n l o S u =
         let p : p₃ ≡ unjoin (w q r).parents (w q r).members = u.0 ∙ (rw (S.parents, part_is S)) in
         let l' : l ≡ c.count - length (w q r).members = u.1 ∙ ap (λ (y : List ℕ). c.count - length y) (part_is S) in
-        rw (p, l', S.members, S.number) (by (At r) o)
+        rw (p, l', S.members, S.number) (by (Some r) o)
 
 -- all sites, and the listed ones
 pub remove_is_with : (c : Classes) (x : ℕ) → remove_with (sweep max_sites) c x ≡ remove_set_of c x
 unfolding remove_with remove_set_of
 remove_is_with c x = ap (λ (q : Removed). demand (ltb x max_sites) (Unknown x) >>= λ _. done q) (go (flattened c x).found)
   where
-    go : (f : Found) → remove_by (sweep max_sites) (flattened c x).after f ≡ remove_at (flattened c x).after f
-    go (At r) = refl
-    go Nothing = refl
+    go : (f : Maybe ℕ) → remove_by (sweep max_sites) (flattened c x).after f ≡ remove_at (flattened c x).after f
+    go (Some r) = refl
+    go None = refl
 
 -- with room for all that is looked at the removal is done, and with less nothing is
 module _ (k : ℕ) (c : Classes) (m : List ℕ) (o : Outcome Removed) where
   taken_room : k ≤ length m → taken_by c m o ≡ taken_if (leb k (length m)) c m o
   taken_room h = sym (ap (λ (b : Bool). taken_if b c m o) (le-leb k (length m) h))
 
-  taken_less : length m < k → ◌≡◌ {A = Classes × List ℕ × Taken} (c, m, K.Short) (taken_if (leb k (length m)) c m o)
+  taken_less : length m < k → ◌≡◌ {A = Classes × List ℕ × Taken} (c, m, (Err K.Short)) (taken_if (leb k (length m)) c m o)
   taken_less h = sym (ap (λ (b : Bool). taken_if b c m o) (lt-leb k (length m) h))
 
 module _ (c : Classes) (m : List ℕ) (x : ℕ) where
-  pub short_all : length m < max_sites → ◌≡◌ {A = Classes × List ℕ × Taken} (c, m, K.Short) (taken c m x)
+  pub short_all : length m < max_sites → ◌≡◌ {A = Classes × List ℕ × Taken} (c, m, (Err K.Short)) (taken c m x)
   short_all h = taken_less max_sites c m (remove_set_of c x) h
 
   pub taken_all : max_sites ≤ length m → taken_by c m (remove_with (sweep max_sites) c x) ≡ taken c m x
   taken_all h = ap (taken_by c m) (remove_is_with c x) ∙ taken_room max_sites c m (remove_set_of c x) h
 
-  pub short_listed : (xs : List ℕ) → length m < length xs → ◌≡◌ {A = Classes × List ℕ × Taken} (c, m, K.Short) (taken_of c xs m x)
+  pub short_listed : (xs : List ℕ) → length m < length xs → ◌≡◌ {A = Classes × List ℕ × Taken} (c, m, (Err K.Short)) (taken_of c xs m x)
   short_listed xs h = taken_less (length xs) c m (remove_of xs c x) h
 
   pub taken_listed : (xs : List ℕ) → length xs ≤ length m → taken_by c m (remove_of xs c x) ≡ taken_of c xs m x

@@ -1,23 +1,23 @@
 // A class taken apart: its members listed, and taken out of every class. On the lent parts of `classes`, and total on any contents.
 #![tactic(auto)]
 
+ghost use Rattle.std.specs.declared.option.Option.TheVariants.{Some};
 ghost use Rattle.std.specs.Prelude.{◌≡◌, List, ℕ, ◌-◌, ◌<◌, ◌≤◌, length, get_or};
-ghost use Rattle.paper.specs.declared.Found.TheVariants.{At};
 ghost use Rattle.paper.specs.Numbers.{max_sites};
 ghost use Rattle.paper.specs.Classes as C;
 ghost use Rattle.classes.specs.Answers.{noted, Sweeps, taken};
 ghost use Rattle.class_removal.specs.Listed.{sweep_of, taken_of};
 
-use classes::{NEVER, Taken};
-use paper::{Found, Refusal, SITES};
+use classes::{NEVER, Untaken};
+use paper::{Refusal, SITES};
 use widths::size16;
 
 // Lists y in members, after the n that are there, where r was found: how many there are then.
-fn note(members: &mut [u16], n: usize, f: Found, r: u16, y: u16) -> usize
+fn note(members: &mut [u16], n: usize, f: Option<u16>, r: u16, y: u16) -> usize
     requires { n < length members.old }
-    ensures { (members.new, result) ≡ noted members.old n (C.is_at f (At r)) y }
+    ensures { (members.new, result) ≡ noted members.old n (C.is_at f (Some r)) y }
 {
-    let Found::At(s) = f else {
+    let Some(s) = f else {
         return n;
     };
     if s != r {
@@ -96,25 +96,25 @@ pub fn remove_set_of_in(
     count: &mut u16,
     x: u16,
     members: &mut [u16],
-) -> Taken
+) -> Result<usize, Untaken>
     ensures { (R : List ℕ) →
         let before = C.classes parents.old R count.old in
         let after = C.classes parents.new R count.new in
         (after, members.new, result) ≡ taken before members.old x }
 {
     if members.len() < SITES {
-        return Taken::Short;
+        return Err(Untaken::Short);
     }
     if SITES <= size16(x) {
-        return Taken::Refused(Refusal::Unknown { site: x });
+        return Err(Untaken::Refused(Refusal::Unknown { site: x }));
     }
     let f = classes::flatten_in(parents, x);
-    let Found::At(r) = f else {
-        return Taken::Members(0);
+    let Some(r) = f else {
+        return Ok(0);
     };
     let n = sweep(parents, r, members);
     take_out(parents, count, &members[..n]);
-    Taken::Members(n)
+    Ok(n)
 }
 
 // The same, looking only at the listed sites; `members` has room for as many.
@@ -125,23 +125,23 @@ pub fn remove_listed_in(
     x: u16,
     sites: &[u16],
     members: &mut [u16],
-) -> Taken
+) -> Result<usize, Untaken>
     ensures { (R : List ℕ) →
         let before = C.classes parents.old R count.old in
         let after = C.classes parents.new R count.new in
         (after, members.new, result) ≡ taken_of before sites.now members.old x }
 {
     if members.len() < sites.len() {
-        return Taken::Short;
+        return Err(Untaken::Short);
     }
     if SITES <= size16(x) {
-        return Taken::Refused(Refusal::Unknown { site: x });
+        return Err(Untaken::Refused(Refusal::Unknown { site: x }));
     }
     let f = classes::flatten_in(parents, x);
-    let Found::At(r) = f else {
-        return Taken::Members(0);
+    let Some(r) = f else {
+        return Ok(0);
     };
     let n = sweep_listed(parents, r, sites, members);
     take_out(parents, count, &members[..n]);
-    Taken::Members(n)
+    Ok(n)
 }

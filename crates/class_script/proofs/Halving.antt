@@ -10,8 +10,8 @@ use lib.ListN.{set, length-set}
 use lib.Seq.{get_or-set_same, get_or-set_other}
 use lib.Dec.{ltb, eqb}
 use borrow.Author.Tests.{lt-ltb, le-ltb, eq-eqb, ne_eqb}
-use Rattle.paper.specs.declared.Found.{Found}
-use Rattle.paper.specs.declared.Found.TheVariants.{At, Nothing}
+use Rattle.std.specs.declared.option.Option.TheVariants.{None, Some}
+use Rattle.paper.specs.Answered.{Maybe}
 use Rattle.paper.specs.Numbers.{max_sites}
 use Rattle.paper.specs.Classes.{up, find_in, Trail, is_at}
 use Rattle.classes.specs.Well.{Leads, Well, rank, members, has_up, in_class}
@@ -20,36 +20,36 @@ use Rattle.classes.proofs.Leading.{find_leads, find_out, find_none, lead_by}
 use Rattle.classes.proofs.Linked.{Case, outside, lone, led, case}
 use Rattle.classes.proofs.Flattening.{Kept, kept, kept_by}
 
-unfoldable pub halve : ℕ → List ℕ → ℕ → List ℕ × Found
-halve zero p x = (p, Nothing)
+unfoldable pub halve : ℕ → List ℕ → ℕ → List ℕ × Maybe ℕ
+halve zero p x = (p, None)
 halve (suc k) p x =
     elim (ltb x max_sites) [
-      | false ↦ (p, Nothing)
+      | false ↦ (p, None)
       | true ↦ elim (eqb (up p x) x) [
-        | true ↦ (p, At x)
-        | false ↦ elim (ltb (up p x) max_sites) [ false ↦ (p, Nothing) | true ↦ let u = up p (up p x) in halve k (set p x u) u ]
+        | true ↦ (p, Some x)
+        | false ↦ elim (ltb (up p x) max_sites) [ false ↦ (p, None) | true ↦ let u = up p (up p x) in halve k (set p x u) u ]
       ]
     ]
 
-unfoldable pub halve_in : List ℕ → ℕ → List ℕ × Found
+unfoldable pub halve_in : List ℕ → ℕ → List ℕ × Maybe ℕ
 halve_in p x = halve max_sites p x
 
 -- one turn
 module _ (p : List ℕ) (at : ℕ) where
-  halve_out : (k : ℕ) → max_sites ≤ at → halve k p at ≡ (p, Nothing)
+  halve_out : (k : ℕ) → max_sites ≤ at → halve k p at ≡ (p, None)
   unfolding halve
   halve_out zero h = refl
   halve_out (suc k) h = rw (le-ltb at max_sites h, halve)
 
-  halve_nil : halve 0 p at ≡ (p, Nothing)
+  halve_nil : halve 0 p at ≡ (p, None)
   unfolding halve
   halve_nil = refl
 
-  halve_root : (k : ℕ) → at < max_sites → up p at ≡ at → halve (suc k) p at ≡ (p, At at)
+  halve_root : (k : ℕ) → at < max_sites → up p at ≡ at → halve (suc k) p at ≡ (p, Some at)
   unfolding halve
   halve_root k h e = rw (lt-ltb at max_sites h, eq-eqb (up p at) at e, halve)
 
-  halve_none : (k : ℕ) → at < max_sites → (up p at ≡ at → ⊥) → max_sites ≤ up p at → halve (suc k) p at ≡ (p, Nothing)
+  halve_none : (k : ℕ) → at < max_sites → (up p at ≡ at → ⊥) → max_sites ≤ up p at → halve (suc k) p at ≡ (p, None)
   unfolding halve
   halve_none k h e g = rw (lt-ltb at max_sites h, ne_eqb (up p at) at e, le-ltb (up p at) max_sites g, halve)
 
@@ -129,7 +129,7 @@ module _ (p R : List ℕ) (c : ℕ) (W : Well p R c) (x : ℕ) (hx : x < max_sit
           let b = find_leads n p z r (omega arith) t in cc
 
   same_members : (r : ℕ) → members (skip p x) r ≡ members p r
-  same_members r = cnt_ext (in_class (skip p x) r) (in_class p r) max_sites (λ z l. ap (λ (f : Found). is_at f (At r)) (same_found z))
+  same_members r = cnt_ext (in_class (skip p x) r) (in_class p r) max_sites (λ z l. ap (λ (f : Maybe ℕ). is_at f (Some r)) (same_found z))
 
   same_ups : (z : ℕ) → has_up (skip p x) z ≡ has_up p z
   same_ups z = go (ℕ_discrete z x)
@@ -188,33 +188,33 @@ module _ (p R : List ℕ) (c : ℕ) (W : Well p R c) (x : ℕ) (hx : x < max_sit
 
 -- a halving find keeps the state well made and every answer
 halve_kept : (k : ℕ) (p R : List ℕ) (c at : ℕ) → Well p R c → Kept p (halve k p at).0 R c
-halve_kept zero p R c at W = subst⁻¹ (λ (h : List ℕ × Found). Kept p h.0 R c) (halve_nil p at) (kept p R c W)
+halve_kept zero p R c at W = subst⁻¹ (λ (h : List ℕ × Maybe ℕ). Kept p h.0 R c) (halve_nil p at) (kept p R c W)
 halve_kept (suc k) p R c at W =
     go (λ K. halve_kept k (skip p at) R c (up p (up p at)) K) (dec_lt at max_sites) (ℕ_discrete (up p at) at) (dec_lt (up p at) max_sites)
   where
     go : (Well (skip p at) R c → Kept (skip p at) (halve k (skip p at) (up p (up p at))).0 R c)
         → Dec (at < max_sites) → Dec (up p at ≡ at) → Dec (up p at < max_sites) → Kept p (halve (suc k) p at).0 R c
-    go ih (no d) b e = subst⁻¹ (λ (h : List ℕ × Found). Kept p h.0 R c) (halve_out p at (suc k) (omega arith)) (kept p R c W)
-    go ih (yes h) (yes r) e = subst⁻¹ (λ (h : List ℕ × Found). Kept p h.0 R c) (halve_root p at k h r) (kept p R c W)
-    go ih (yes h) (no n) (no d) = subst⁻¹ (λ (h : List ℕ × Found). Kept p h.0 R c) (halve_none p at k h n (omega arith)) (kept p R c W)
+    go ih (no d) b e = subst⁻¹ (λ (h : List ℕ × Maybe ℕ). Kept p h.0 R c) (halve_out p at (suc k) (omega arith)) (kept p R c W)
+    go ih (yes h) (yes r) e = subst⁻¹ (λ (h : List ℕ × Maybe ℕ). Kept p h.0 R c) (halve_root p at k h r) (kept p R c W)
+    go ih (yes h) (no n) (no d) = subst⁻¹ (λ (h : List ℕ × Maybe ℕ). Kept p h.0 R c) (halve_none p at k h n (omega arith)) (kept p R c W)
     go ih (yes h) (no n) (yes j) =
-        subst⁻¹ (λ (h : List ℕ × Found). Kept p h.0 R c) (halve_step p at k h n j)
+        subst⁻¹ (λ (h : List ℕ × Maybe ℕ). Kept p h.0 R c) (halve_step p at k h n j)
         (kept_by p (skip p at) _ R c
         (record { well = skip_well p R c W at h j n; same = same_found p R c W at h j n; shorter = keep p R c W at h j n })
         (ih (skip_well p R c W at h j n)))
 
 -- what it answers at the end of a chain
-halve_led : (k n : ℕ) (p R : List ℕ) (c at r : ℕ) → Well p R c → n < k → Leads n p at r → (halve k p at).1 ≡ At r
+halve_led : (k n : ℕ) (p R : List ℕ) (c at r : ℕ) → Well p R c → n < k → Leads n p at r → (halve k p at).1 ≡ Some r
 halve_led zero n p R c at r W l t = absurd (omega arith)
-halve_led (suc k) zero p R c at r W l t = ap (λ (h : List ℕ × Found). h.1) (halve_root p at k t.0 t.1) ∙ ap At t.2
+halve_led (suc k) zero p R c at r W l t = ap (λ (h : List ℕ × Maybe ℕ). h.1) (halve_root p at k t.0 t.1) ∙ ap Some t.2
 halve_led (suc k) (suc zero) p R c at r W l t =
     let g = t.2.1 in
     let i = keep p R c W at t.0 t.2.0 t.1 0 (up p (up p at)) r (W.closed at t.0 t.2.0, ap (up p) g, g ∙ t.2.2) in
-    ap (λ (h : List ℕ × Found). h.1) (halve_step p at k t.0 t.1 t.2.0)
+    ap (λ (h : List ℕ × Maybe ℕ). h.1) (halve_step p at k t.0 t.1 t.2.0)
     ∙ halve_led k i.0 (skip p at) R c (up p (up p at)) r (skip_well p R c W at t.0 t.2.0 t.1) (omega (arith, i.2)) i.1
 halve_led (suc k) (suc (suc n)) p R c at r W l t =
     let i = keep p R c W at t.0 t.2.0 t.1 n (up p (up p at)) r t.2.2 in
-    ap (λ (h : List ℕ × Found). h.1) (halve_step p at k t.0 t.1 t.2.0)
+    ap (λ (h : List ℕ × Maybe ℕ). h.1) (halve_step p at k t.0 t.1 t.2.0)
     ∙ halve_led k i.0 (skip p at) R c (up p (up p at)) r (skip_well p R c W at t.0 t.2.0 t.1) (omega (arith, i.2)) i.1
 
 -- On a well-made state the halving find answers what the plain find answers, and keeps every answer and the state well made.
@@ -228,8 +228,8 @@ module _ (p R : List ℕ) (c : ℕ) (W : Well p R c) (x : ℕ) where
   halve_found = go (case p R c W x)
     where
       go : Case p R x → (halve max_sites p x).1 ≡ (find_in p x).found
-      go (outside h) = ap (λ (h : List ℕ × Found). h.1) (halve_out p x max_sites h) ∙ sym (ap (λ (t : Trail). t.found) (find_out p x h))
+      go (outside h) = ap (λ (h : List ℕ × Maybe ℕ). h.1) (halve_out p x max_sites h) ∙ sym (ap (λ (t : Trail). t.found) (find_out p x h))
       go (lone h g) =
-          ap (λ (h : List ℕ × Found). h.1) (halve_none p x _ h (λ e. omega arith) g) ∙ sym (ap (λ (t : Trail). t.found) (find_none p x h g))
+          ap (λ (h : List ℕ × Maybe ℕ). h.1) (halve_none p x _ h (λ e. omega arith) g) ∙ sym (ap (λ (t : Trail). t.found) (find_none p x h g))
       go (led n r t b k h j) =
           halve_led max_sites n p R c x r W (omega arith) t ∙ sym (ap (λ (t : Trail). t.found) (find_leads n p x r (omega arith) t))

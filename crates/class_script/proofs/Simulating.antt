@@ -9,19 +9,17 @@ use native.Mathlib.Decide.{ℕ_discrete}
 use lib.ListN.{length, set}
 use lib.Dec.{ltb, leb, eqb}
 use borrow.Author.Tests.{ltb-true, lt-ltb}
-use Rattle.paper.specs.declared.Found.{Found}
-use Rattle.paper.specs.declared.Found.TheVariants.{At, Nothing}
+use Rattle.std.specs.declared.result.Result.TheVariants.{Err, Ok}
+use Rattle.std.specs.declared.option.Option.TheVariants.{None, Some}
+use Rattle.paper.specs.Answered.{Maybe}
 use Rattle.paper.specs.declared.Refusal.TheVariants.{Unknown, Itself}
 use Rattle.std.specs.Prelude.{if◌then◌else◌}
 use Rattle.paper.specs.Words.{has, keep, below}
 use Rattle.paper.specs.Numbers.{max_sites, Outcome, done, ◌>>=◌, demand}
 use Rattle.paper.specs.Classes.{Classes, classes, no_classes, up, Trail, find_in, flatten_in, Flattened, flattened, find, find_mut, one_more, most_rank, most_count, Rooted, alone, rooted, enter, under, raised, link, unite, merge, is_at, in_same_set, Swept, sweep, unjoin, Removed, removed, remove_at, remove_set_of, len, is_empty}
-use Rattle.classes.specs.declared.Looked.{Looked}
-use Rattle.classes.specs.declared.Looked.TheVariants as L
-use Rattle.classes.specs.declared.Sought.TheVariants as S
-use Rattle.classes.specs.declared.Joined.TheVariants as N
-use Rattle.classes.specs.declared.Taken.{Taken}
-use Rattle.classes.specs.declared.Taken.TheVariants as X
+use Rattle.classes.specs.Called.{Looked}
+use Rattle.classes.specs.Called.{Taken}
+use Rattle.classes.specs.declared.Untaken.TheVariants as X
 use Rattle.classes.specs.Answers.{looked, sought_by, two_classes, joined_by, same, over, taken_by, taken_if}
 use Rattle.classes.specs.Well.{Well, WellMade, rank, members, in_class, rep_of, turned, dropped, joined_in}
 use Rattle.classes.specs.Equal.{sites_below}
@@ -41,7 +39,7 @@ use Rattle.class_script.specs.Script.{stepped}
 use Rattle.class_script.proofs.Halving.{halve_in, halve_keeps, halve_found}
 
 abbrev pub Update : Type 0
-Update = List ℕ → ℕ → List ℕ × Found
+Update = List ℕ → ℕ → List ℕ × Maybe ℕ
 
 pub record Fair (u : Update) : Type 0 where
   pub keeps : (p R : List ℕ) (n : ℕ) → Well p R n → (x : ℕ) → Kept p (u p x).0 R n
@@ -82,11 +80,11 @@ sweep_by u zero p r = record { parents = p; members = [] }
 sweep_by u (suc y) p r =
     let s = sweep_by u y p r in
     let h = u s.parents y in
-    record { parents = h.0; members = if is_at h.1 (At r) then s.members ++ (y ∷ []) else s.members }
+    record { parents = h.0; members = if is_at h.1 (Some r) then s.members ++ (y ∷ []) else s.members }
 
-abbrev remove_at_by : Update → Classes → Found → Removed
-remove_at_by u c (At r) = removed c (sweep_by u max_sites c.parents r)
-remove_at_by u c Nothing = record { after = c; members = [] }
+abbrev remove_at_by : Update → Classes → Maybe ℕ → Removed
+remove_at_by u c (Some r) = removed c (sweep_by u max_sites c.parents r)
+remove_at_by u c None = record { after = c; members = [] }
 
 abbrev remove_by : Update → Classes → ℕ → Outcome Removed
 remove_by u c x = demand (ltb x max_sites) (Unknown x) >>= λ _. done (remove_at_by u (after_by u c x) (u c.parents x).1)
@@ -113,12 +111,12 @@ unfolding sweep_by sweep
 sweep_flat zero p r = refl
 sweep_flat (suc k) p r = ap (λ (s : Swept). record {
   parents = (flatten_in s.parents k).0;
-  members = if is_at (flatten_in s.parents k).1 (At r) then s.members ++ (k ∷ []) else s.members;
+  members = if is_at (flatten_in s.parents k).1 (Some r) then s.members ++ (k ∷ []) else s.members;
 }) (sweep_flat k p r)
 
-remove_flat : (c : Classes) (f : Found) → remove_at_by flatten_in c f ≡ remove_at c f
-remove_flat c (At r) = ap (removed c) (sweep_flat max_sites c.parents r)
-remove_flat c Nothing = refl
+remove_flat : (c : Classes) (f : Maybe ℕ) → remove_at_by flatten_in c f ≡ remove_at c f
+remove_flat c (Some r) = ap (removed c) (sweep_flat max_sites c.parents r)
+remove_flat c None = refl
 
 pub stepped_flat : (c : Classes) (m : List ℕ) (k : Call) → stepped_by flatten_in c m k ≡ stepped c m k
 unfolding merge unite enter flattened two_classes find_mut remove_set_of
@@ -136,8 +134,8 @@ stepped_flat c m K.Bad = refl
 -- ---- answers but for the links
 
 abbrev bare_looked : Looked → Looked
-bare_looked (L.Got t) = L.Got (record { found = t.found; links = 0 })
-bare_looked (L.Refused e) = L.Refused e
+bare_looked (Ok t) = Ok (record { found = t.found; links = 0 })
+bare_looked (Err e) = Err e
 
 abbrev pub bare : Reply → Reply
 bare (R.Found l) = R.Found (bare_looked l)
@@ -158,10 +156,10 @@ pub record Alike (c d : Classes) : Type 0 where
   pub count : c.count ≡ d.count
   pub reps : (z : ℕ) → rep_of c z ≡ rep_of d z
 
-never : {A : Type 0} {r : ℕ} → Nothing ≡ At r → A
+never : {A : Type 0} {r : ℕ} → None ≡ Some r → A
 never e = absurd (let z : ◌≡◌ {A = ℕ} 0 1 = cc in omega arith)
 
-no_up : (c : Classes) → WellMade c → (x : ℕ) → x < max_sites → rep_of c x ≡ Nothing → max_sites ≤ up c.parents x
+no_up : (c : Classes) → WellMade c → (x : ℕ) → x < max_sites → rep_of c x ≡ None → max_sites ≤ up c.parents x
 no_up c W x h e = go (case c.parents c.ranks c.count W x)
   where
     go : Case c.parents c.ranks x → max_sites ≤ up c.parents x
@@ -171,36 +169,36 @@ no_up c W x h e = go (case c.parents c.ranks c.count W x)
 
 -- x's class, made where it has none: the root is x's, and no other find answers otherwise
 module _ (c : Classes) (W : WellMade c) (x : ℕ) (hx : x < max_sites) where
-  rooted_well : (f : Found) → rep_of c x ≡ f → WellMade (rooted c x f).after
-  rooted_well (At r) e = W
-  rooted_well Nothing e = enter_well c.parents c.ranks c.count W x hx (no_up c W x hx e)
+  rooted_well : (f : Maybe ℕ) → rep_of c x ≡ f → WellMade (rooted c x f).after
+  rooted_well (Some r) e = W
+  rooted_well None e = enter_well c.parents c.ranks c.count W x hx (no_up c W x hx e)
 
-  rooted_mine : (f : Found) → rep_of c x ≡ f → rep_of (rooted c x f).after x ≡ At (rooted c x f).root
-  rooted_mine (At r) e = e
-  rooted_mine Nothing e = found_x c.parents c.ranks c.count W x hx (no_up c W x hx e)
+  rooted_mine : (f : Maybe ℕ) → rep_of c x ≡ f → rep_of (rooted c x f).after x ≡ Some (rooted c x f).root
+  rooted_mine (Some r) e = e
+  rooted_mine None e = found_x c.parents c.ranks c.count W x hx (no_up c W x hx e)
 
-  rooted_off : (f : Found) → rep_of c x ≡ f → (z : ℕ) → (z ≡ x → ⊥) → rep_of (rooted c x f).after z ≡ rep_of c z
-  rooted_off (At r) e z d = refl
-  rooted_off Nothing e z d = found_off c.parents c.ranks c.count W x hx (no_up c W x hx e) z d
+  rooted_off : (f : Maybe ℕ) → rep_of c x ≡ f → (z : ℕ) → (z ≡ x → ⊥) → rep_of (rooted c x f).after z ≡ rep_of c z
+  rooted_off (Some r) e z d = refl
+  rooted_off None e z d = found_off c.parents c.ranks c.count W x hx (no_up c W x hx e) z d
 
   -- a root stays one
-  rooted_stays : (f : Found) → rep_of c x ≡ f → (z r : ℕ) → rep_of c z ≡ At r → rep_of (rooted c x f).after z ≡ At r
-  rooted_stays (At s) e z r q = q
-  rooted_stays Nothing e z r q = rooted_off Nothing e z (λ o. never (sym e ∙ (ap (rep_of c) (sym o) ∙ q))) ∙ q
+  rooted_stays : (f : Maybe ℕ) → rep_of c x ≡ f → (z r : ℕ) → rep_of c z ≡ Some r → rep_of (rooted c x f).after z ≡ Some r
+  rooted_stays (Some s) e z r q = q
+  rooted_stays None e z r q = rooted_off None e z (λ o. never (sym e ∙ (ap (rep_of c) (sym o) ∙ q))) ∙ q
 
-root_same : (c d : Classes) (x : ℕ) (f : Found) → (rooted c x f).root ≡ (rooted d x f).root
-root_same c d x (At r) = refl
-root_same c d x Nothing = refl
+root_same : (c d : Classes) (x : ℕ) (f : Maybe ℕ) → (rooted c x f).root ≡ (rooted d x f).root
+root_same c d x (Some r) = refl
+root_same c d x None = refl
 
-ranks_same : (c d : Classes) (x : ℕ) (f : Found) → c.ranks ≡ d.ranks → (rooted c x f).after.ranks ≡ (rooted d x f).after.ranks
-ranks_same c d x (At r) e = e
-ranks_same c d x Nothing e = ap (λ (R : List ℕ). set R x 0) e
+ranks_same : (c d : Classes) (x : ℕ) (f : Maybe ℕ) → c.ranks ≡ d.ranks → (rooted c x f).after.ranks ≡ (rooted d x f).after.ranks
+ranks_same c d x (Some r) e = e
+ranks_same c d x None e = ap (λ (R : List ℕ). set R x 0) e
 
-count_same : (c d : Classes) (x : ℕ) (f : Found) → c.count ≡ d.count → (rooted c x f).after.count ≡ (rooted d x f).after.count
-count_same c d x (At r) e = e
-count_same c d x Nothing e = ap (one_more most_count) e
+count_same : (c d : Classes) (x : ℕ) (f : Maybe ℕ) → c.count ≡ d.count → (rooted c x f).after.count ≡ (rooted d x f).after.count
+count_same c d x (Some r) e = e
+count_same c d x None e = ap (one_more most_count) e
 
-rooted_alike : (c d : Classes) → Alike c d → (x : ℕ) → x < max_sites → (f : Found) → rep_of c x ≡ f → Alike (rooted c x f).after (rooted d x f).after
+rooted_alike : (c d : Classes) → Alike c d → (x : ℕ) → x < max_sites → (f : Maybe ℕ) → rep_of c x ≡ f → Alike (rooted c x f).after (rooted d x f).after
 rooted_alike c d A x h f e = record {
   left = rooted_well c A.left x h f e;
   right = rooted_well d A.right x h f g;
@@ -213,7 +211,7 @@ rooted_alike c d A x h f e = record {
     g = sym (A.reps x) ∙ e
 
     at_x : rep_of (rooted c x f).after x ≡ rep_of (rooted d x f).after x
-    at_x = rooted_mine c A.left x h f e ∙ (ap At (root_same c d x f) ∙ sym (rooted_mine d A.right x h f g))
+    at_x = rooted_mine c A.left x h f e ∙ (ap Some (root_same c d x f) ∙ sym (rooted_mine d A.right x h f g))
 
     go : (z : ℕ) → Dec (z ≡ x) → rep_of (rooted c x f).after z ≡ rep_of (rooted d x f).after z
     go z (yes o) = subst⁻¹ (λ (y : ℕ). rep_of (rooted c x f).after y ≡ rep_of (rooted d x f).after y) o at_x
@@ -254,10 +252,10 @@ link_count c a b = pick (eqb a b) (ltb (rank c.ranks a) (rank c.ranks b)) (eqb (
     pick false false true = refl
     pick false false false = refl
 
-abbrev turn_by : List ℕ → ℕ → ℕ → Found → Found
+abbrev turn_by : List ℕ → ℕ → ℕ → Maybe ℕ → Maybe ℕ
 turn_by R a b f = turned (if ltb (rank R a) (rank R b) then b else a) (if ltb (rank R a) (rank R b) then a else b) f
 
-link_alike : (c d : Classes) → Alike c d → (x y a b : ℕ) → rep_of c x ≡ At a → rep_of c y ≡ At b → Alike (link c a b) (link d a b)
+link_alike : (c d : Classes) → Alike c d → (x y a b : ℕ) → rep_of c x ≡ Some a → rep_of c y ≡ Some b → Alike (link c a b) (link d a b)
 link_alike c d A x y a b ea eb =
     let ra = root_of c A.left x a ea in
     let rb = root_of c A.left y b eb in
@@ -299,19 +297,19 @@ module _ (u v : Update) (U : Fair u) (G : Fair v) where
   record Both (c d : Classes) (x : ℕ) : Type 0 where
     alike : Alike (enter_by u c x).after (enter_by v d x).after
     root : (enter_by u c x).root ≡ (enter_by v d x).root
-    mine : rep_of (enter_by u c x).after x ≡ At (enter_by u c x).root
-    stays : (z r : ℕ) → rep_of c z ≡ At r → rep_of (enter_by u c x).after z ≡ At r
+    mine : rep_of (enter_by u c x).after x ≡ Some (enter_by u c x).root
+    stays : (z r : ℕ) → rep_of c z ≡ Some r → rep_of (enter_by u c x).after z ≡ Some r
 
   enter_both : (c d : Classes) → Alike c d → (x : ℕ) → x < max_sites → Both c d x
   enter_both c d A x h = record {
-    alike = subst⁻¹ (λ (f : Found). Alike (rooted (after_by u c x) x f).after (enter_by v d x).after) eu
-        (subst⁻¹ (λ (f : Found). Alike (rooted (after_by u c x) x (rep_of c x)).after (rooted (after_by v d x) x f).after) ev
+    alike = subst⁻¹ (λ (f : Maybe ℕ). Alike (rooted (after_by u c x) x f).after (enter_by v d x).after) eu
+        (subst⁻¹ (λ (f : Maybe ℕ). Alike (rooted (after_by u c x) x (rep_of c x)).after (rooted (after_by v d x) x f).after) ev
         (rooted_alike (after_by u c x) (after_by v d x) B x h (rep_of c x) (same_rep c d A x x)));
-    root = ap (λ (f : Found). (rooted (after_by u c x) x f).root) eu
-        ∙ (root_same (after_by u c x) (after_by v d x) x (rep_of c x) ∙ sym (ap (λ (f : Found). (rooted (after_by v d x) x f).root) ev));
-    mine = subst⁻¹ (λ (f : Found). rep_of (rooted (after_by u c x) x f).after x ≡ At (rooted (after_by u c x) x f).root) eu
+    root = ap (λ (f : Maybe ℕ). (rooted (after_by u c x) x f).root) eu
+        ∙ (root_same (after_by u c x) (after_by v d x) x (rep_of c x) ∙ sym (ap (λ (f : Maybe ℕ). (rooted (after_by v d x) x f).root) ev));
+    mine = subst⁻¹ (λ (f : Maybe ℕ). rep_of (rooted (after_by u c x) x f).after x ≡ Some (rooted (after_by u c x) x f).root) eu
         (rooted_mine (after_by u c x) B.left x h (rep_of c x) (same_rep c d A x x));
-    stays = λ z r q. subst⁻¹ (λ (f : Found). rep_of (rooted (after_by u c x) x f).after z ≡ At r) eu
+    stays = λ z r q. subst⁻¹ (λ (f : Maybe ℕ). rep_of (rooted (after_by u c x) x f).after z ≡ Some r) eu
         (rooted_stays (after_by u c x) B.left x h (rep_of c x) (same_rep c d A x x) z r (same_rep c d A x z ∙ q));
   }
     where
@@ -367,12 +365,12 @@ module _ (u v : Update) (U : Fair u) (G : Fair v) where
         ∙ ap (λ (b : Bool). if b then max_sites else up s.parents z) mine
       where
         mine : has s.members z ≡ in_class s.parents r z
-        mine = rw M (sites_has max_sites c.parents r z ∙ (rw (lt-ltb z max_sites h) (ap (λ (f : Found). is_at f (At r)) (sym (J.same z)))))
+        mine = rw M (sites_has max_sites c.parents r z ∙ (rw (lt-ltb z max_sites h) (ap (λ (f : Maybe ℕ). is_at f (Some r)) (sym (J.same z)))))
 
     count : c.count - length s.members ≡ joined_in q
     count =
         let l = ap length M ∙ sites_count max_sites c.parents r in
-        let a = cnt_ext (in_class s.parents r) (in_class c.parents r) max_sites (λ z l. ap (λ (f : Found). is_at f (At r)) (J.same z)) in
+        let a = cnt_ext (in_class s.parents r) (in_class c.parents r) max_sites (λ z l. ap (λ (f : Maybe ℕ). is_at f (Some r)) (J.same z)) in
         omega (arith, l, a, fewer s.parents c.ranks c.count J.well r q lq uq, J.well.tally)
 
     taken_well : WellMade (removed c (sweep_by w max_sites c.parents r)).after
@@ -389,7 +387,7 @@ module _ (u v : Update) (U : Fair u) (G : Fair v) where
 
   sites_same : (c d : Classes) → Alike c d → (r : ℕ) → sites_below max_sites c.parents r ≡ sites_below max_sites d.parents r
   unfolding sites_below
-  sites_same c d A r = ap (λ (f : ℕ → Bool). keep f (below max_sites (λ z. z))) (fun_ext (λ z. ap (λ (f : Found). is_at f (At r)) (A.reps z)))
+  sites_same c d A r = ap (λ (f : ℕ → Bool). keep f (below max_sites (λ z. z))) (fun_ext (λ z. ap (λ (f : Maybe ℕ). is_at f (Some r)) (A.reps z)))
 
   -- ---- a call
 
@@ -432,17 +430,17 @@ module _ (u v : Update) (U : Fair u) (G : Fair v) where
         go true p true q false r =
             let hx = ltb-true x max_sites p in
             let hy = ltb-true y max_sites q in
-            simp (p, q, r) (record { alike = unite_alike x y hx hy; list = refl; told = ap (λ (b : Bool). R.Merged (N.Done b)) (two_same x y hx hy) })
-        go true p true q true r = simp (p, q, r) (unchanged (R.Merged (N.Refused (Itself x))))
-        go true p false q s r = simp (p, q) (unchanged (R.Merged (N.Refused (Unknown y))))
-        go false p b q s r = simp p (unchanged (R.Merged (N.Refused (Unknown x))))
+            simp (p, q, r) (record { alike = unite_alike x y hx hy; list = refl; told = ap (λ (b : Bool). R.Merged (Ok b)) (two_same x y hx hy) })
+        go true p true q true r = simp (p, q, r) (unchanged (R.Merged (Err (Itself x))))
+        go true p false q s r = simp (p, q) (unchanged (R.Merged (Err (Unknown y))))
+        go false p b q s r = simp p (unchanged (R.Merged (Err (Unknown x))))
 
     agree_find : (x : ℕ) → Agree (stepped_by u c m (K.Find x)) (stepped_by v d m (K.Find x))
     unfolding find
     agree_find x = record { alike = A; list = refl; told = go (ltb x max_sites) refl }
       where
         go : (a : Bool) → ltb x max_sites ≡ a → bare (R.Found (looked (find c x))) ≡ bare (R.Found (looked (find d x)))
-        go true p = simp p (ap (λ (f : Found). R.Found (L.Got (record { found = f; links = 0 }))) (A.reps x))
+        go true p = simp p (ap (λ (f : Maybe ℕ). R.Found (Ok (record { found = f; links = 0 }))) (A.reps x))
         go false p = simp p
 
     agree_find_mut : (x : ℕ) → Agree (stepped_by u c m (K.FindMut x)) (stepped_by v d m (K.FindMut x))
@@ -452,24 +450,24 @@ module _ (u v : Update) (U : Fair u) (G : Fair v) where
         go true p = simp p (record {
           alike = update_alike c d A x;
           list = refl;
-          told = ap (λ (f : Found). R.FoundMut (S.Got f)) (found_u c d A x ∙ sym (found_v c d A x));
+          told = ap (λ (f : Maybe ℕ). R.FoundMut (Ok f)) (found_u c d A x ∙ sym (found_v c d A x));
         })
-        go false p = simp p (unchanged (R.FoundMut (S.Refused (Unknown x))))
+        go false p = simp p (unchanged (R.FoundMut (Err (Unknown x))))
 
     agree_same : (x y : ℕ) → Agree (stepped_by u c m (K.SameSet x y)) (stepped_by v d m (K.SameSet x y))
     unfolding in_same_set
-    agree_same x y = record { alike = A; list = refl; told = ap (λ (f : Found). R.Compared (same (of f (rep_of c y)))) (A.reps x) ∙ ap (λ (f : Found). R.Compared (same (of (rep_of d x) f))) (A.reps y) }
+    agree_same x y = record { alike = A; list = refl; told = ap (λ (f : Maybe ℕ). R.Compared (same (of f (rep_of c y)))) (A.reps x) ∙ ap (λ (f : Maybe ℕ). R.Compared (same (of (rep_of d x) f))) (A.reps y) }
       where
-        of : Found → Found → Outcome Bool
+        of : Maybe ℕ → Maybe ℕ → Outcome Bool
         of f g = do
           _ ← demand (ltb x max_sites) (Unknown x)
           _ ← demand (ltb y max_sites) (Unknown y)
           done (is_at f g)
 
-    agree_removed : (x : ℕ) (f : Found)
+    agree_removed : (x : ℕ) (f : Maybe ℕ)
         → Agree (taken_as (taken_by c m (done (remove_at_by u (after_by u c x) f)))) (taken_as (taken_by d m (done (remove_at_by v (after_by v d x) f))))
-    agree_removed x Nothing = record { alike = update_alike c d A x; list = refl; told = refl }
-    agree_removed x (At r) =
+    agree_removed x None = record { alike = update_alike c d A x; list = refl; told = refl }
+    agree_removed x (Some r) =
         let I = update_alike c d A x in
         let a = after_by u c x in
         let b = after_by v d x in
@@ -484,7 +482,7 @@ module _ (u v : Update) (U : Fair u) (G : Fair v) where
             reps = λ z. taken_rep u U a I.left r z ∙ (ap (dropped r) (I.reps z) ∙ sym (taken_rep v G b I.right r z));
           };
           list = ap (over m) e;
-          told = ap (λ (l : List ℕ). R.Removed (X.Members (length l))) e;
+          told = ap (λ (l : List ℕ). R.Removed (Ok (length l))) e;
         }
 
     agree_remove : (x : ℕ) → Agree (stepped_by u c m (K.Remove x)) (stepped_by v d m (K.Remove x))
@@ -492,12 +490,12 @@ module _ (u v : Update) (U : Fair u) (G : Fair v) where
       where
         go : (b a : Bool) → ltb x max_sites ≡ a → Agree (taken_as (taken_if b c m (remove_by u c x))) (taken_as (taken_if b d m (remove_by v d x)))
         go true true p = simp p
-            (subst⁻¹ (λ (f : Found). Agree (taken_as (taken_by c m (done (remove_at_by u (after_by u c x) f)))) (taken_as (taken_by d m (done (remove_at_by v (after_by v d x) (v d.parents x).1)))))
+            (subst⁻¹ (λ (f : Maybe ℕ). Agree (taken_as (taken_by c m (done (remove_at_by u (after_by u c x) f)))) (taken_as (taken_by d m (done (remove_at_by v (after_by v d x) (v d.parents x).1)))))
             (found_u c d A x)
-            (subst⁻¹ (λ (f : Found). Agree (taken_as (taken_by c m (done (remove_at_by u (after_by u c x) (rep_of c x))))) (taken_as (taken_by d m (done (remove_at_by v (after_by v d x) f)))))
+            (subst⁻¹ (λ (f : Maybe ℕ). Agree (taken_as (taken_by c m (done (remove_at_by u (after_by u c x) (rep_of c x))))) (taken_as (taken_by d m (done (remove_at_by v (after_by v d x) f)))))
             (found_v c d A x) (agree_removed x (rep_of c x))))
-        go true false p = simp p (unchanged (R.Removed (X.Refused (Unknown x))))
-        go false a p = unchanged (R.Removed X.Short)
+        go true false p = simp p (unchanged (R.Removed (Err (X.Refused (Unknown x)))))
+        go false a p = unchanged (R.Removed (Err X.Short))
 
     agree : (k : Call) → Agree (stepped_by u c m k) (stepped_by v d m k)
     unfolding is_empty

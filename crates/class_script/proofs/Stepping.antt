@@ -3,12 +3,12 @@ use mathlib.Core.Path.{◌≡◌, refl, sym, ◌∙◌, ap}
 use mathlib.Core.List.{List}
 use Prim.Native.Nat.{ℕ}
 use lib.Dec.{eqb}
+use Rattle.std.specs.Prelude.{Bool}
 use Rattle.paper.specs.Classes.{Classes, find, in_same_set, len, is_empty}
-use Rattle.classes.specs.declared.Looked.{Looked}
-use Rattle.classes.specs.declared.Sought.{Sought}
-use Rattle.classes.specs.declared.Joined.{Joined}
-use Rattle.classes.specs.declared.Same.{Same}
-use Rattle.classes.specs.declared.Taken.{Taken}
+use Rattle.classes.specs.Called.{Looked}
+use Rattle.paper.specs.Answered.{Maybe}
+use Rattle.paper.specs.Answered.{Answer}
+use Rattle.classes.specs.Called.{Taken}
 use Rattle.class_script.specs.declared.Call.{Call}
 use Rattle.class_script.specs.declared.Call.TheVariants as K
 use Rattle.class_script.specs.declared.Reply.{Reply}
@@ -25,19 +25,19 @@ module _ (c : Classes) (m s : List ℕ) {k l : Call} (e : k ≡ call_in s) (h : 
   to q = q ∙ ap (stepped c m) (sym h ∙ e)
 
 module _ (c : Classes) (m s : List ℕ) {k : Call} (e : k ≡ call_in s) where
-  pub step_merge : {x y : ℕ} {d : Classes} {j : Joined} → k ≡ K.Merge x y → ◌≡◌ {A = Classes × Joined} (d, j) (joined c x y)
+  pub step_merge : {x y : ℕ} {d : Classes} {j : Answer Bool} → k ≡ K.Merge x y → ◌≡◌ {A = Classes × Answer Bool} (d, j) (joined c x y)
       → ◌≡◌ {A = After} (d, m, R.Merged j) (stepped c m (call_in s))
-  step_merge h q = to c m s e h (ap (λ (u : Classes × Joined). (u.0, m, R.Merged u.1)) q)
+  step_merge h q = to c m s e h (ap (λ (u : Classes × Answer Bool). (u.0, m, R.Merged u.1)) q)
 
   pub step_find : {x : ℕ} {r : Looked} → k ≡ K.Find x → r ≡ looked (find c x) → ◌≡◌ {A = After} (c, m, R.Found r) (stepped c m (call_in s))
   step_find h q = to c m s e h (ap (λ (r : Looked). (c, m, R.Found r)) q)
 
-  pub step_find_mut : {x : ℕ} {d : Classes} {j : Sought} → k ≡ K.FindMut x → ◌≡◌ {A = Classes × Sought} (d, j) (sought c x)
+  pub step_find_mut : {x : ℕ} {d : Classes} {j : Answer (Maybe ℕ)} → k ≡ K.FindMut x → ◌≡◌ {A = Classes × Answer (Maybe ℕ)} (d, j) (sought c x)
       → ◌≡◌ {A = After} (d, m, R.FoundMut j) (stepped c m (call_in s))
-  step_find_mut h q = to c m s e h (ap (λ (u : Classes × Sought). (u.0, m, R.FoundMut u.1)) q)
+  step_find_mut h q = to c m s e h (ap (λ (u : Classes × Answer (Maybe ℕ)). (u.0, m, R.FoundMut u.1)) q)
 
-  pub step_same : {x y : ℕ} {r : Same} → k ≡ K.SameSet x y → r ≡ same (in_same_set c x y) → ◌≡◌ {A = After} (c, m, R.Compared r) (stepped c m (call_in s))
-  step_same h q = to c m s e h (ap (λ (r : Same). (c, m, R.Compared r)) q)
+  pub step_same : {x y : ℕ} {r : Answer Bool} → k ≡ K.SameSet x y → r ≡ same (in_same_set c x y) → ◌≡◌ {A = After} (c, m, R.Compared r) (stepped c m (call_in s))
+  step_same h q = to c m s e h (ap (λ (r : Answer Bool). (c, m, R.Compared r)) q)
 
   pub step_remove : {x : ℕ} {d : Classes} {n : List ℕ} {j : Taken} → k ≡ K.Remove x → ◌≡◌ {A = Classes × List ℕ × Taken} (d, n, j) (taken c m x)
       → ◌≡◌ {A = After} (d, n, R.Removed j) (stepped c m (call_in s))

@@ -1,13 +1,11 @@
 -- A script of class calls on one set of classes, one call a line:
 --     merge X Y    find X    findmut X    same X Y    remove X    len    empty
+use Rattle.std.specs.declared.option.Option.TheVariants.{None, Some}
 use Rattle.std.specs.Prelude.{Bool, true, false, ◌&&◌, List, [], ◌∷◌, ℕ, suc, ◌+◌, ◌-◌, ◌*◌, length, take, drop, leb, eqb}
 use Rattle.std.specs.Prelude.{if◌then◌else◌}
 use Rattle.paper.specs.Text.{unended}
 use Rattle.paper.specs.Classes.{Classes, find, in_same_set, len, is_empty}
-use Rattle.class_script.specs.declared.Number.{Number}
-use Rattle.class_script.specs.declared.Number.TheVariants as N
-use Rattle.class_script.specs.declared.Numbers.{Numbers}
-use Rattle.class_script.specs.declared.Numbers.TheVariants as P
+use Rattle.paper.specs.Answered.{Maybe}
 use Rattle.class_script.specs.declared.Call.{Call}
 use Rattle.class_script.specs.declared.Call.TheVariants as K
 use Rattle.class_script.specs.declared.Reply.{Reply}
@@ -21,12 +19,12 @@ next v d = v * 10 + (d - 48)
 abbrev pub goes_on : ℕ → ℕ → Bool
 goes_on v d = (leb 48 d && leb d 57) && leb (next v d) 65535
 
-unfoldable pub number_from : ℕ → List ℕ → Number
-number_from v [] = N.Is v
-number_from v (d ∷ ds) = elim (goes_on v d) [ true ↦ number_from (next v d) ds | false ↦ N.Not ]
+unfoldable pub number_from : ℕ → List ℕ → Maybe ℕ
+number_from v [] = Some v
+number_from v (d ∷ ds) = elim (goes_on v d) [ true ↦ number_from (next v d) ds | false ↦ None ]
 
-unfoldable pub number_in : List ℕ → Number
-number_in s = if eqb (length s) 0 then N.Not else number_from 0 s
+unfoldable pub number_in : List ℕ → Maybe ℕ
+number_in s = if eqb (length s) 0 then None else number_from 0 s
 
 -- the place of the first space, or the end
 unfoldable pub space_in : List ℕ → ℕ
@@ -39,33 +37,33 @@ starts [] (w ∷ ws) = false
 starts (b ∷ bs) (w ∷ ws) = if eqb b w then starts bs ws else false
 
 -- two numbers with a space between
-abbrev pub both : Number → Number → Numbers
-both (N.Is x) (N.Is y) = P.Are x y
-both (N.Is x) N.Not = P.Not
-both N.Not n = P.Not
+abbrev pub both : Maybe ℕ → Maybe ℕ → Maybe (ℕ × ℕ)
+both (Some x) (Some y) = Some (x, y)
+both (Some x) None = None
+both None n = None
 
-unfoldable pub pair_in : List ℕ → Numbers
+unfoldable pub pair_in : List ℕ → Maybe (ℕ × ℕ)
 pair_in s = both (number_in (take (space_in s) s)) (number_in (drop (suc (space_in s)) s))
 
-abbrev pub to_merge : Numbers → Call
-to_merge (P.Are x y) = K.Merge x y
-to_merge P.Not = K.Bad
+abbrev pub to_merge : Maybe (ℕ × ℕ) → Call
+to_merge (Some (x, y)) = K.Merge x y
+to_merge None = K.Bad
 
-abbrev pub to_same : Numbers → Call
-to_same (P.Are x y) = K.SameSet x y
-to_same P.Not = K.Bad
+abbrev pub to_same : Maybe (ℕ × ℕ) → Call
+to_same (Some (x, y)) = K.SameSet x y
+to_same None = K.Bad
 
-abbrev pub to_find : Number → Call
-to_find (N.Is x) = K.Find x
-to_find N.Not = K.Bad
+abbrev pub to_find : Maybe ℕ → Call
+to_find (Some x) = K.Find x
+to_find None = K.Bad
 
-abbrev pub to_find_mut : Number → Call
-to_find_mut (N.Is x) = K.FindMut x
-to_find_mut N.Not = K.Bad
+abbrev pub to_find_mut : Maybe ℕ → Call
+to_find_mut (Some x) = K.FindMut x
+to_find_mut None = K.Bad
 
-abbrev pub to_remove : Number → Call
-to_remove (N.Is x) = K.Remove x
-to_remove N.Not = K.Bad
+abbrev pub to_remove : Maybe ℕ → Call
+to_remove (Some x) = K.Remove x
+to_remove None = K.Bad
 
 -- the call that a line is
 unfoldable pub call_in : List ℕ → Call

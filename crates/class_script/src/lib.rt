@@ -5,21 +5,8 @@ ghost use Rattle.std.specs.Prelude.{◌≡◌, ◌≤◌, length};
 ghost use Rattle.paper.specs.Classes as C;
 ghost use Rattle.class_script.specs.Script.{number_in, space_in, starts, pair_in, to_merge, to_same, to_find, to_find_mut, to_remove, call_in, stepped};
 
-use classes::{Joined, Looked, Same, Sought, Taken};
-use paper::SITES;
-
-// A number of a line.
-#[derive(Clone, Copy)]
-pub enum Number {
-    Is(u16),
-    Not,
-}
-
-#[derive(Clone, Copy)]
-pub enum Numbers {
-    Are(u16, u16),
-    Not,
-}
+use classes::{Untaken, Trail};
+use paper::{Refusal, SITES};
 
 #[derive(Clone, Copy)]
 pub enum Call {
@@ -36,10 +23,10 @@ pub enum Call {
 // What a line is answered. The members of a removed class stand in the lent memory.
 #[derive(Clone, Copy)]
 pub enum Reply {
-    Merged(Joined),
-    Found(Looked),
-    FoundMut(Sought),
-    Compared(Same),
+    Merged(Result<bool, Refusal>),
+    Found(Result<Trail, Refusal>),
+    FoundMut(Result<Option<u16>, Refusal>),
+    Compared(Result<bool, Refusal>),
     Removed(Taken),
     Length(u16),
     Emptiness(bool),
@@ -47,29 +34,29 @@ pub enum Reply {
 }
 
 // Decimal digits, at most 65,535.
-fn number_of(text: &[u8]) -> Number
+fn number_of(text: &[u8]) -> Option<u16>
     ensures { result ≡ number_in text.now }
 {
     if text.len() == 0 {
-        return Number::Not;
+        return None;
     }
     let mut value: u32 = 0;
     let mut i: usize = 0;
     while i < text.len() {
         let d = text[i];
         if d < b'0' {
-            return Number::Not;
+            return None;
         }
         if b'9' < d {
-            return Number::Not;
+            return None;
         }
         value = value * 10 + (d - b'0') as u32;
         if 65535 < value {
-            return Number::Not;
+            return None;
         }
         i += 1;
     }
-    Number::Is(value as u16)
+    Some(value as u16)
 }
 
 // The place of the first space, or the end.
@@ -103,66 +90,66 @@ fn starts_with(line: &[u8], word: &[u8]) -> bool
 }
 
 // Two numbers with a space between.
-fn pair(text: &[u8]) -> Numbers
+fn pair(text: &[u8]) -> Option<(u16, u16)>
     ensures { result ≡ pair_in text.now }
 {
     let k = space(text);
     if k == text.len() {
-        return Numbers::Not;
+        return None;
     }
     let a = number_of(&text[..k]);
-    let Number::Is(x) = a else {
-        return Numbers::Not;
+    let Some(x) = a else {
+        return None;
     };
     let b = number_of(&text[k + 1..]);
-    let Number::Is(y) = b else {
-        return Numbers::Not;
+    let Some(y) = b else {
+        return None;
     };
-    Numbers::Are(x, y)
+    Some((x, y))
 }
 
-fn to_merge(n: Numbers) -> Call
+fn to_merge(n: Option<(u16, u16)>) -> Call
     ensures { result ≡ to_merge n }
 {
     match n {
-        Numbers::Are(x, y) => Call::Merge(x, y),
-        Numbers::Not => Call::Bad,
+        Some((x, y)) => Call::Merge(x, y),
+        None => Call::Bad,
     }
 }
 
-fn to_same(n: Numbers) -> Call
+fn to_same(n: Option<(u16, u16)>) -> Call
     ensures { result ≡ to_same n }
 {
     match n {
-        Numbers::Are(x, y) => Call::SameSet(x, y),
-        Numbers::Not => Call::Bad,
+        Some((x, y)) => Call::SameSet(x, y),
+        None => Call::Bad,
     }
 }
 
-fn to_find(n: Number) -> Call
+fn to_find(n: Option<u16>) -> Call
     ensures { result ≡ to_find n }
 {
     match n {
-        Number::Is(x) => Call::Find(x),
-        Number::Not => Call::Bad,
+        Some(x) => Call::Find(x),
+        None => Call::Bad,
     }
 }
 
-fn to_find_mut(n: Number) -> Call
+fn to_find_mut(n: Option<u16>) -> Call
     ensures { result ≡ to_find_mut n }
 {
     match n {
-        Number::Is(x) => Call::FindMut(x),
-        Number::Not => Call::Bad,
+        Some(x) => Call::FindMut(x),
+        None => Call::Bad,
     }
 }
 
-fn to_remove(n: Number) -> Call
+fn to_remove(n: Option<u16>) -> Call
     ensures { result ≡ to_remove n }
 {
     match n {
-        Number::Is(x) => Call::Remove(x),
-        Number::Not => Call::Bad,
+        Some(x) => Call::Remove(x),
+        None => Call::Bad,
     }
 }
 

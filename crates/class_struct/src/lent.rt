@@ -6,28 +6,29 @@ ghost use Rattle.classes.specs.Answers.{looked, sought, joined, taken};
 ghost use Rattle.class_struct.specs.Fields.{of};
 ghost use Rattle.class_struct.specs.Turns.{turns};
 
+use paper::Refusal;
 use crate::Classes;
-use classes::{Joined, Looked, Sought, Taken};
+use classes::{Untaken, Trail};
 
-pub fn find(c: &Classes, x: u16) -> Looked
+pub fn find(c: &Classes, x: u16) -> Result<Trail, Refusal>
     ensures { result ≡ looked (C.find (of c.now) x) }
 {
     classes::find_in(&c.parents, x)
 }
 
-pub fn find_mut(c: &mut Classes, x: u16) -> Sought
+pub fn find_mut(c: &mut Classes, x: u16) -> Result<Option<u16>, Refusal>
     ensures { (of c.new, result) ≡ sought (of c.old) x }
 {
     classes::find_mut_in(&mut c.parents, x)
 }
 
-pub fn merge(c: &mut Classes, x: u16, y: u16) -> Joined
+pub fn merge(c: &mut Classes, x: u16, y: u16) -> Result<bool, Refusal>
     ensures { (of c.new, result) ≡ joined (of c.old) x y }
 {
     classes::merge_in(&mut c.parents, &mut c.ranks, &mut c.count, x, y)
 }
 
-pub fn remove_set_of(c: &mut Classes, x: u16, members: &mut [u16]) -> Taken
+pub fn remove_set_of(c: &mut Classes, x: u16, members: &mut [u16]) -> Result<usize, Untaken>
     ensures { (of c.new, members.new, result) ≡ taken (of c.old) members.old x }
 {
     class_removal::remove_set_of_in(&mut c.parents, &mut c.count, x, members)
@@ -37,10 +38,10 @@ pub fn remove_set_of(c: &mut Classes, x: u16, members: &mut [u16]) -> Taken
 #[derive(Drop)]
 pub struct InTurn {
     pub classes: Classes,
-    pub joined: Joined,
-    pub sought: Sought,
-    pub looked: Looked,
-    pub taken: Taken,
+    pub joined: Result<bool, Refusal>,
+    pub sought: Result<Option<u16>, Refusal>,
+    pub looked: Result<Trail, Refusal>,
+    pub taken: Result<usize, Untaken>,
 }
 
 // Joins x and y, finds y with an update, finds x, and removes the class of x: one set of classes, which each call changes where it stands.

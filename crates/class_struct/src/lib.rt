@@ -7,8 +7,8 @@ ghost use Rattle.paper.specs.Classes as C;
 ghost use Rattle.classes.specs.Answers.{looked, sought, joined, same, taken};
 ghost use Rattle.class_struct.specs.Fields.{of};
 
-use classes::{Joined, Looked, NEVER, Same, Sought, Taken};
-use paper::SITES;
+use classes::{NEVER, Untaken, Trail};
+use paper::{Refusal, SITES};
 
 pub mod lent;
 
@@ -23,20 +23,20 @@ pub struct Classes {
 #[derive(Drop)]
 pub struct AfterFind {
     pub classes: Classes,
-    pub answer: Sought,
+    pub answer: Result<Option<u16>, Refusal>,
 }
 
 #[derive(Drop)]
 pub struct AfterMerge {
     pub classes: Classes,
-    pub answer: Joined,
+    pub answer: Result<bool, Refusal>,
 }
 
 #[derive(Drop)]
 pub struct AfterRemove {
     pub classes: Classes,
     pub members: [u16; SITES],
-    pub answer: Taken,
+    pub answer: Result<usize, Untaken>,
 }
 
 pub fn empty() -> Classes
@@ -49,7 +49,7 @@ pub fn empty() -> Classes
     }
 }
 
-pub fn find(c: Classes, x: u16) -> Looked
+pub fn find(c: Classes, x: u16) -> Result<Trail, Refusal>
     ensures { result ≡ looked (C.find (of c) x) }
 {
     classes::find_in(&c.parents, x)
@@ -79,7 +79,7 @@ pub fn merge(c: Classes, x: u16, y: u16) -> AfterMerge
     }
 }
 
-pub fn in_same_set(c: Classes, x: u16, y: u16) -> Same
+pub fn in_same_set(c: Classes, x: u16, y: u16) -> Result<bool, Refusal>
     ensures { result ≡ same (C.in_same_set (of c) x y) }
 {
     classes::in_same_set_in(&c.parents, x, y)

@@ -6,18 +6,15 @@ use Prim.Native.Nat.{ℕ, ◌-◌, ◌≤◌, ◌<◌}
 use lib.ListN.{get_or, set}
 use lib.Dec.{ltb, eqb}
 use borrow.Author.Tests.{lt-ltb, le-ltb, eq-eqb, ne_eqb}
-use Rattle.paper.specs.declared.Found.{Found}
-use Rattle.paper.specs.declared.Found.TheVariants.{At, Nothing}
+use Rattle.std.specs.declared.result.Result.TheVariants.{Err, Ok}
+use Rattle.std.specs.declared.option.Option.TheVariants.{None, Some}
+use Rattle.std.specs.Prelude.{Bool}
+use Rattle.paper.specs.Answered.{Maybe}
 use Rattle.paper.specs.declared.Refusal.TheVariants.{Unknown, Itself}
 use Rattle.paper.specs.Numbers.{max_sites}
 use Rattle.paper.specs.Classes.{Classes, classes, Trail, trail, find_in, passed, hung, flat_to, flat, flatten_in, flattened, find, find_mut, one_more, most_rank, most_count, Rooted, rooted, enter, link, unite, merge, is_at, in_same_set}
 use Rattle.classes.specs.declared.Trail as T
-use Rattle.classes.specs.declared.Looked.TheVariants as L
-use Rattle.classes.specs.declared.Sought.{Sought}
-use Rattle.classes.specs.declared.Sought.TheVariants as S
-use Rattle.classes.specs.declared.Joined.{Joined}
-use Rattle.classes.specs.declared.Joined.TheVariants as J
-use Rattle.classes.specs.declared.Same.TheVariants as E
+use Rattle.paper.specs.Answered.{Answer}
 use Rattle.classes.specs.Answers.{root_in, or_self, rep, trail_of, looked, sought, two_classes, joined, same}
 use Rattle.classes.specs.Well.{Leads}
 use Rattle.classes.proofs.Updating.{find_led, update_lt}
@@ -31,61 +28,61 @@ module _ (x w : ℕ) (e : w ≡ x) where
 
 -- ---- finds
 
-pub rep_at : (p : List ℕ) (x : ℕ) (t : T.Trail) (f : Found) → trail t.found t.links ≡ find_in p x → t.found ≡ f → or_self x f ≡ rep p x
+pub rep_at : (p : List ℕ) (x : ℕ) (t : T.Trail) (f : Maybe ℕ) → trail t.found t.links ≡ find_in p x → t.found ≡ f → or_self x f ≡ rep p x
 unfolding rep
 rep_at p x t f q e = ap (or_self x) (sym e ∙ ap (λ (t : Trail). t.found) q)
 
 -- the updating find: t is the way to the root
 module _ (p : List ℕ) (x : ℕ) (t : T.Trail) (q : trail t.found t.links ≡ find_in p x) where
-  by_way : (f : Found) → t.found ≡ f → ◌≡◌ {A = List ℕ × Found} (flat_to p x t.links f, f) (flatten_in p x)
+  by_way : (f : Maybe ℕ) → t.found ≡ f → ◌≡◌ {A = List ℕ × Maybe ℕ} (flat_to p x t.links f, f) (flatten_in p x)
   unfolding flatten_in flat
   by_way f e =
-      sym (ap (λ (f : Found). (flat_to p x t.links f, f)) e)
+      sym (ap (λ (f : Maybe ℕ). (flat_to p x t.links f, f)) e)
       ∙ ap (λ (u : Trail). (flat_to p x u.links u.found, u.found)) q
 
-  pub flatten_none : t.found ≡ Nothing → ◌≡◌ {A = List ℕ × Found} (p, Nothing) (flatten_in p x)
-  flatten_none e = by_way Nothing e
+  pub flatten_none : t.found ≡ None → ◌≡◌ {A = List ℕ × Maybe ℕ} (p, None) (flatten_in p x)
+  flatten_none e = by_way None e
 
-  pub flatten_led : (r : ℕ) → t.found ≡ At r → Leads t.links p x r
+  pub flatten_led : (r : ℕ) → t.found ≡ Some r → Leads t.links p x r
   flatten_led r e =
       subst⁻¹ (λ (k : ℕ). Leads k p x r) (ap (λ (u : Trail). u.links) q) (find_led p x r (sym (ap (λ (u : Trail). u.found) q) ∙ e))
 
-  pub flatten_at : (r : ℕ) (p' : List ℕ) → t.found ≡ At r → p' ≡ hung p (passed t.links p x) r → ◌≡◌ {A = List ℕ × Found} (p', At r) (flatten_in p x)
-  flatten_at r p' e h = ap (λ (l : List ℕ). (l, At r)) h ∙ by_way (At r) e
+  pub flatten_at : (r : ℕ) (p' : List ℕ) → t.found ≡ Some r → p' ≡ hung p (passed t.links p x) r → ◌≡◌ {A = List ℕ × Maybe ℕ} (p', Some r) (flatten_in p x)
+  flatten_at r p' e h = ap (λ (l : List ℕ). (l, Some r)) h ∙ by_way (Some r) e
 
 module _ (c : Classes) (x : ℕ) where
-  pub looked_out : ltb x max_sites ≡ false → L.Refused (Unknown x) ≡ looked (find c x)
+  pub looked_out : ltb x max_sites ≡ false → Err (Unknown x) ≡ looked (find c x)
   unfolding find
   looked_out h = simp h
 
-  pub looked_in : ltb x max_sites ≡ true → (t : T.Trail) → trail t.found t.links ≡ find_in c.parents x → L.Got t ≡ looked (find c x)
+  pub looked_in : ltb x max_sites ≡ true → (t : T.Trail) → trail t.found t.links ≡ find_in c.parents x → Ok t ≡ looked (find c x)
   unfolding find
-  looked_in h t e = simp h (ap (λ (u : Trail). L.Got (trail_of u)) e)
+  looked_in h t e = simp h (ap (λ (u : Trail). Ok (trail_of u)) e)
 
-  pub sought_out : ltb x max_sites ≡ false → ◌≡◌ {A = Classes × Sought} (c, S.Refused (Unknown x)) (sought c x)
+  pub sought_out : ltb x max_sites ≡ false → ◌≡◌ {A = Classes × Answer (Maybe ℕ)} (c, Err (Unknown x)) (sought c x)
   unfolding find_mut
   sought_out h = simp h
 
-  pub sought_in : ltb x max_sites ≡ true → {q : List ℕ} {f : Found} → ◌≡◌ {A = List ℕ × Found} (q, f) (flatten_in c.parents x)
-      → ◌≡◌ {A = Classes × Sought} (classes q c.ranks c.count, S.Got f) (sought c x)
+  pub sought_in : ltb x max_sites ≡ true → {q : List ℕ} {f : Maybe ℕ} → ◌≡◌ {A = List ℕ × Maybe ℕ} (q, f) (flatten_in c.parents x)
+      → ◌≡◌ {A = Classes × Answer (Maybe ℕ)} (classes q c.ranks c.count, Ok f) (sought c x)
   unfolding find_mut flattened
-  sought_in h e = simp h (ap (λ (g : List ℕ × Found). (classes g.0 c.ranks c.count, S.Got g.1)) e)
+  sought_in h e = simp h (ap (λ (g : List ℕ × Maybe ℕ). (classes g.0 c.ranks c.count, Ok g.1)) e)
 
 -- ---- joins
 
-module _ (c : Classes) (x : ℕ) {q : List ℕ} {f : Found} (e : ◌≡◌ {A = List ℕ × Found} (q, f) (flatten_in c.parents x)) where
+module _ (c : Classes) (x : ℕ) {q : List ℕ} {f : Maybe ℕ} (e : ◌≡◌ {A = List ℕ × Maybe ℕ} (q, f) (flatten_in c.parents x)) where
   d : Classes
   d = classes q c.ranks c.count
 
   by : ◌≡◌ {A = Rooted} (rooted d x f) (enter c x)
   unfolding enter flattened d
-  by = ap (λ (g : List ℕ × Found). rooted (classes g.0 c.ranks c.count) x g.1) e
+  by = ap (λ (g : List ℕ × Maybe ℕ). rooted (classes g.0 c.ranks c.count) x g.1) e
 
-  pub entered : (r : ℕ) → f ≡ At r → root_in (classes q c.ranks c.count) r ≡ enter c x
+  pub entered : (r : ℕ) → f ≡ Some r → root_in (classes q c.ranks c.count) r ≡ enter c x
   unfolding d
   entered r g = sym (ap (rooted d x) g) ∙ by
 
-  pub entered_new : (w n : ℕ) → w ≡ x → n ≡ one_more most_count c.count → f ≡ Nothing
+  pub entered_new : (w n : ℕ) → w ≡ x → n ≡ one_more most_count c.count → f ≡ None
       → root_in (classes (set q w x) (set c.ranks w 0) n) x ≡ enter c x
   unfolding d
   entered_new w n o m g = rw (o, m) (sym (ap (rooted d x) g) ∙ by)
@@ -115,56 +112,56 @@ pub root_lt : (c : Classes) (x : ℕ) → x < max_sites → (enter c x).root < m
 unfolding enter flattened
 root_lt c x h = go (flattened c x).after (flatten_in c.parents x).1 refl
   where
-    go : (d : Classes) (f : Found) → (flatten_in c.parents x).1 ≡ f → (rooted d x f).root < max_sites
-    go d (At r) e = update_lt c.parents x e
-    go d Nothing e = h
+    go : (d : Classes) (f : Maybe ℕ) → (flatten_in c.parents x).1 ≡ f → (rooted d x f).root < max_sites
+    go d (Some r) e = update_lt c.parents x e
+    go d None e = h
 
 pub rooted_lt : (c : Classes) (x : ℕ) → x < max_sites → (s : Rooted) → s ≡ enter c x → s.root < max_sites
 rooted_lt c x h s e = subst⁻¹ (λ (s : Rooted). s.root < max_sites) e (root_lt c x h)
 
 module _ (c : Classes) (x y : ℕ) where
-  pub merge_x : ltb x max_sites ≡ false → ◌≡◌ {A = Classes × Joined} (c, J.Refused (Unknown x)) (joined c x y)
+  pub merge_x : ltb x max_sites ≡ false → ◌≡◌ {A = Classes × Answer Bool} (c, Err (Unknown x)) (joined c x y)
   unfolding merge
   merge_x h = simp h
 
   module _ (hx : ltb x max_sites ≡ true) where
-    pub merge_y : ltb y max_sites ≡ false → ◌≡◌ {A = Classes × Joined} (c, J.Refused (Unknown y)) (joined c x y)
+    pub merge_y : ltb y max_sites ≡ false → ◌≡◌ {A = Classes × Answer Bool} (c, Err (Unknown y)) (joined c x y)
     unfolding merge
     merge_y h = simp (hx, h)
 
     module _ (hy : ltb y max_sites ≡ true) where
-      pub merge_same : x ≡ y → ◌≡◌ {A = Classes × Joined} (c, J.Refused (Itself x)) (joined c x y)
+      pub merge_same : x ≡ y → ◌≡◌ {A = Classes × Answer Bool} (c, Err (Itself x)) (joined c x y)
       unfolding merge
       merge_same e = simp (hx, hy, eq-eqb x y e)
 
       pub merge_done : (x ≡ y → ⊥) → (s t : Rooted) (d : Classes) → s ≡ enter c x → t ≡ enter s.after y → d ≡ link t.after s.root t.root
-          → ◌≡◌ {A = Classes × Joined} (d, J.Done (not (eqb s.root t.root))) (joined c x y)
+          → ◌≡◌ {A = Classes × Answer Bool} (d, Ok (not (eqb s.root t.root))) (joined c x y)
       unfolding merge unite two_classes
       merge_done n s t d es et ed = simp (hx, hy, ne_eqb x y n) (rw (ed, et, es))
 
 -- ---- sameness
 
 module _ (c : Classes) (x y : ℕ) where
-  pub same_x : ltb x max_sites ≡ false → E.Refused (Unknown x) ≡ same (in_same_set c x y)
+  pub same_x : ltb x max_sites ≡ false → Err (Unknown x) ≡ same (in_same_set c x y)
   unfolding in_same_set
   same_x h = simp h
 
   module _ (hx : ltb x max_sites ≡ true) where
-    pub same_y : ltb y max_sites ≡ false → E.Refused (Unknown y) ≡ same (in_same_set c x y)
+    pub same_y : ltb y max_sites ≡ false → Err (Unknown y) ≡ same (in_same_set c x y)
     unfolding in_same_set
     same_y h = simp (hx, h)
 
     module _ (hy : ltb y max_sites ≡ true) where
-      of_two : (f g : Found) → (find_in c.parents x).found ≡ f → (find_in c.parents y).found ≡ g → E.Is (is_at f g) ≡ same (in_same_set c x y)
+      of_two : (f g : Maybe ℕ) → (find_in c.parents x).found ≡ f → (find_in c.parents y).found ≡ g → Ok (is_at f g) ≡ same (in_same_set c x y)
       unfolding in_same_set
       of_two f g e o = simp (hx, hy, e, o)
 
-      found : (p : List ℕ) (z : ℕ) (t : T.Trail) (f : Found) → trail t.found t.links ≡ find_in p z → t.found ≡ f → (find_in p z).found ≡ f
+      found : (p : List ℕ) (z : ℕ) (t : T.Trail) (f : Maybe ℕ) → trail t.found t.links ≡ find_in p z → t.found ≡ f → (find_in p z).found ≡ f
       found p z t f q e = sym (ap (λ (t : Trail). t.found) q) ∙ e
 
-      pub same_no : (t : T.Trail) → trail t.found t.links ≡ find_in c.parents x → t.found ≡ Nothing → E.Is false ≡ same (in_same_set c x y)
-      same_no t q e = of_two Nothing (find_in c.parents y).found (found c.parents x t Nothing q e) refl
+      pub same_no : (t : T.Trail) → trail t.found t.links ≡ find_in c.parents x → t.found ≡ None → Ok false ≡ same (in_same_set c x y)
+      same_no t q e = of_two None (find_in c.parents y).found (found c.parents x t None q e) refl
 
-      pub same_two : (t u : T.Trail) (a : ℕ) (g : Found) → trail t.found t.links ≡ find_in c.parents x → t.found ≡ At a
-          → trail u.found u.links ≡ find_in c.parents y → u.found ≡ g → E.Is (is_at (At a) g) ≡ same (in_same_set c x y)
-      same_two t u a g q e r o = of_two (At a) g (found c.parents x t (At a) q e) (found c.parents y u g r o)
+      pub same_two : (t u : T.Trail) (a : ℕ) (g : Maybe ℕ) → trail t.found t.links ≡ find_in c.parents x → t.found ≡ Some a
+          → trail u.found u.links ≡ find_in c.parents y → u.found ≡ g → Ok (is_at (Some a) g) ≡ same (in_same_set c x y)
+      same_two t u a g q e r o = of_two (Some a) g (found c.parents x t (Some a) q e) (found c.parents y u g r o)

@@ -8,8 +8,8 @@ use lib.ListN.{set, length-set}
 use lib.Seq.{get_or-set_same, get_or-set_other}
 use lib.Dec.{ltb, eqb}
 use borrow.Author.Tests.{lt-ltb, le-ltb, eq-eqb, ne_eqb}
-use Rattle.paper.specs.declared.Found.{Found}
-use Rattle.paper.specs.declared.Found.TheVariants.{At}
+use Rattle.std.specs.declared.option.Option.TheVariants.{Some}
+use Rattle.paper.specs.Answered.{Maybe}
 use Rattle.paper.specs.Numbers.{max_sites}
 use Rattle.paper.specs.Classes.{up, find_in, one_more, most_count, Trail, is_at}
 use Rattle.classes.specs.Well.{log_sites, Leads, Well, rank, members, joined_in, has_up, in_class, bit}
@@ -40,7 +40,7 @@ module _ (p R : List ℕ) (c : ℕ) (W : Well p R c) (x : ℕ) (hx : x < max_sit
   keep (suc n) z s t =
       lead_by (set p x x) z (up p z) n s (off_x z (joined_off z (lead_lt n p (up p z) s t.2))) t.0 t.1 (keep n (up p z) s t.2)
 
-  pub found_x : (find_in (set p x x) x).found ≡ At x
+  pub found_x : (find_in (set p x x) x).found ≡ Some x
   found_x = ap (λ (t : Trail). t.found) (find_leads 0 (set p x x) x x (omega arith) (hx, at_x, refl))
 
   pub found_off : (z : ℕ) → (z ≡ x → ⊥) → (find_in (set p x x) z).found ≡ (find_in p z).found
@@ -59,8 +59,8 @@ module _ (p R : List ℕ) (c : ℕ) (W : Well p R c) (x : ℕ) (hx : x < max_sit
       go : Dec (z ≡ x) → in_class (set p x x) r z ≡ in_class p r z
       go (yes e) =
           subst⁻¹ (λ (y : ℕ). in_class (set p x x) r y ≡ in_class p r y) e
-          (ap (λ (f : Found). is_at f (At r)) found_x ∙ ne_eqb x r (λ q. d (sym q)) ∙ sym (ap (λ (t : Trail). is_at t.found (At r)) (find_none p x hx gx)))
-      go (no o) = ap (λ (f : Found). is_at f (At r)) (found_off z o)
+          (ap (λ (f : Maybe ℕ). is_at f (Some r)) found_x ∙ ne_eqb x r (λ q. d (sym q)) ∙ sym (ap (λ (t : Trail). is_at t.found (Some r)) (find_none p x hx gx)))
+      go (no o) = ap (λ (f : Maybe ℕ). is_at f (Some r)) (found_off z o)
 
   one_member : 1 ≤ members (set p x x) x
   one_member =
@@ -69,7 +69,7 @@ module _ (p R : List ℕ) (c : ℕ) (W : Well p R c) (x : ℕ) (hx : x < max_sit
       go : (z : ℕ) → Dec (z ≡ x) → bit (eqb z x) ≤ bit (in_class (set p x x) x z)
       go z (yes e) =
           subst⁻¹ (λ (y : ℕ). bit (eqb y x) ≤ bit (in_class (set p x x) x y)) e
-          (omega (arith, ap bit (eq-eqb x x refl), ap bit (ap (λ (f : Found). is_at f (At x)) found_x ∙ eq-eqb x x refl)))
+          (omega (arith, ap bit (eq-eqb x x refl), ap bit (ap (λ (f : Maybe ℕ). is_at f (Some x)) found_x ∙ eq-eqb x x refl)))
       go z (no d) = omega (arith, ap bit (ne_eqb z x d))
 
   grown : joined_in (set p x x) ≡ joined_in p + 1

@@ -9,8 +9,8 @@ use lib.ListN.{set, length-set}
 use lib.Seq.{get_or-set_same, get_or-set_other}
 use lib.Dec.{ltb}
 use borrow.Author.Tests.{lt-ltb}
-use Rattle.paper.specs.declared.Found.{Found}
-use Rattle.paper.specs.declared.Found.TheVariants.{At, Nothing}
+use Rattle.std.specs.declared.option.Option.TheVariants.{None, Some}
+use Rattle.paper.specs.Answered.{Maybe}
 use Rattle.std.specs.Prelude.{if◌then◌else◌}
 use Rattle.paper.specs.Words.{has}
 use Rattle.paper.specs.Numbers.{max_sites}
@@ -78,7 +78,7 @@ module _ (p R : List ℕ) (c : ℕ) (W : Well p R c) (n x r : ℕ) (t : Leads (s
           let b = find_leads m p z s (omega arith) u in cc
 
   same_members : (s : ℕ) → members (set p x r) s ≡ members p s
-  same_members s = cnt_ext (in_class (set p x r) s) (in_class p s) max_sites (λ z l. ap (λ (f : Found). is_at f (At s)) (same_found z))
+  same_members s = cnt_ext (in_class (set p x r) s) (in_class p s) max_sites (λ z l. ap (λ (f : Maybe ℕ). is_at f (Some s)) (same_found z))
 
   same_ups : (z : ℕ) → has_up (set p x r) z ≡ has_up p z
   same_ups z = go (ℕ_discrete z x)
@@ -166,9 +166,9 @@ module _ (p R : List ℕ) (c : ℕ) (W : Well p R c) (x : ℕ) where
   unfolding flatten_in flat
   flattened_kept = go (find_in p x).found refl
     where
-      go : (f : Found) → (find_in p x).found ≡ f → Kept p (flat_to p x (find_in p x).links f) R c
-      go (At r) e = hung_kept (find_in p x).links p R c x r W (find_led p x r e)
-      go Nothing e = kept p R c W
+      go : (f : Maybe ℕ) → (find_in p x).found ≡ f → Kept p (flat_to p x (find_in p x).links f) R c
+      go (Some r) e = hung_kept (find_in p x).links p R c x r W (find_led p x r e)
+      go None e = kept p R c W
 
   pub flattened_found : (flatten_in p x).1 ≡ (find_in p x).found
   unfolding flatten_in

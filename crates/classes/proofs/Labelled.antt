@@ -5,8 +5,8 @@ use mathlib.Core.List.{[]}
 use Prim.Native.Nat.{ℕ}
 use native.Mathlib.Decide.{ℕ_discrete}
 use borrow.Author.Tests.{eq-eqb, ne_eqb}
-use Rattle.paper.specs.declared.Found.{Found}
-use Rattle.paper.specs.declared.Found.TheVariants.{At, Nothing}
+use Rattle.std.specs.declared.option.Option.TheVariants.{None, Some}
+use Rattle.paper.specs.Answered.{Maybe}
 use Rattle.paper.specs.Words.{look}
 use Rattle.paper.specs.Numbers.{done}
 use Rattle.paper.specs.Classes.{Classes, no_classes, Flattened, find_mut, merge, Removed, remove_set_of}
@@ -57,18 +57,18 @@ find_mut_holds c W x h e f H =
 
 -- ---- a removal
 
-module _ (c : Classes) (W : WellMade c) (x r : ℕ) (q : Removed) (mine : rep_of c x ≡ At r) (T : TakesOut c r q) (f : ℕ → ℕ) (L : Lowest f) (H : Holds c.parents f) where
+module _ (c : Classes) (W : WellMade c) (x r : ℕ) (q : Removed) (mine : rep_of c x ≡ Some r) (T : TakesOut c r q) (f : ℕ → ℕ) (L : Lowest f) (H : Holds c.parents f) where
   root : rep c.parents x ≡ r
   unfolding rep
   root = ap (or_self x) mine
 
-  gone_by : (z : ℕ) (g : Found) → or_self z g ≡ r → or_self z (dropped r g) ≡ z
-  gone_by z (At s) e = simp (eq-eqb s r e)
-  gone_by z Nothing e = refl
+  gone_by : (z : ℕ) (g : Maybe ℕ) → or_self z g ≡ r → or_self z (dropped r g) ≡ z
+  gone_by z (Some s) e = simp (eq-eqb s r e)
+  gone_by z None e = refl
 
-  left_by : (z : ℕ) (g : Found) → (or_self z g ≡ r → ⊥) → or_self z (dropped r g) ≡ or_self z g
-  left_by z (At s) d = simp (ne_eqb s r d)
-  left_by z Nothing d = refl
+  left_by : (z : ℕ) (g : Maybe ℕ) → (or_self z g ≡ r → ⊥) → or_self z (dropped r g) ≡ or_self z g
+  left_by z (Some s) d = simp (ne_eqb s r d)
+  left_by z None d = refl
 
   gone : (z : ℕ) → f z ≡ f x → rep q.after.parents z ≡ z
   unfolding rep root
@@ -106,6 +106,6 @@ module _ (c : Classes) (W : WellMade c) (x r : ℕ) (q : Removed) (mine : rep_of
       back_by u v o (no a) (no b) = left u a ∙ (H.from u v (sym (out_of_it u a) ∙ (o ∙ out_of_it v b)) ∙ sym (left v b))
 
 -- the class taken out is the one whose lowest member is x's
-pub remove_holds : (c : Classes) → WellMade c → (x r : ℕ) (q : Removed) → remove_set_of c x ≡ done q → rep_of c x ≡ At r
+pub remove_holds : (c : Classes) → WellMade c → (x r : ℕ) (q : Removed) → remove_set_of c x ≡ done q → rep_of c x ≡ Some r
     → (f : ℕ → ℕ) → Lowest f → Holds c.parents f → Holds q.after.parents (dissolve_at f (f x))
 remove_holds c W x r q e mine f L H = takes_holds c W x r q mine (remove_takes c W x q e r mine) f L H

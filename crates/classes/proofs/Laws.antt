@@ -10,8 +10,8 @@ use native.Mathlib.Decide.{ℕ_discrete, dec_lt}
 use lib.Dec.{ltb, eqb}
 use lib.ListN.{get_or-replicate}
 use borrow.Author.Tests.{ltb-true, eqb-false, eq-eqb, ne_eqb, le-ltb}
-use Rattle.paper.specs.declared.Found.{Found}
-use Rattle.paper.specs.declared.Found.TheVariants.{At, Nothing}
+use Rattle.std.specs.declared.option.Option.TheVariants.{None, Some}
+use Rattle.paper.specs.Answered.{Maybe}
 use Rattle.paper.specs.Words.{any, has, keep, below}
 use Rattle.paper.specs.Numbers.{max_sites, Outcome, done, refused}
 use Rattle.paper.specs.Classes.{Classes, no_classes, up, Trail, find_in, passed, flatten_in, is_at, Flattened, flattened, find, find_mut, enter, unite, merge, Removed, remove_at, remove_set_of}
@@ -94,11 +94,11 @@ remove_is c x q e = go (ltb x max_sites) refl
 
 module _ (c : Classes) (W : WellMade c) (x : ℕ) where
   -- the links reported are the links of the chain to the root, and at most log2 of the class's members, rounded down: at most ten
-  pub find_links : (t : Trail) (r : ℕ) → find c x ≡ done t → t.found ≡ At r
+  pub find_links : (t : Trail) (r : ℕ) → find c x ≡ done t → t.found ≡ Some r
       → Leads t.links c.parents x r × (2 ^ t.links ≤ members c.parents r) × (t.links ≤ log_sites)
   find_links t r e f =
       let q = (find_is c x t e).1 in
-      let g : (find_in c.parents x).found ≡ At r = sym (ap (λ (t : Trail). t.found) q) ∙ f in
+      let g : (find_in c.parents x).found ≡ Some r = sym (ap (λ (t : Trail). t.found) q) ∙ f in
       let l = found_leads c.parents c.ranks c.count W x r g in
       let o : t.links ≡ l.0 = ap (λ (t : Trail). t.links) q ∙ l.3 in
       let m : 2 ^ t.links ≤ members c.parents r = rw q (links_log c.parents c.ranks c.count W x r g) in
@@ -123,7 +123,7 @@ module _ (c : Classes) (W : WellMade c) (x : ℕ) where
       subst⁻¹ (λ (h : Flattened). (find_in h.after.parents z).links ≤ (find_in c.parents z).links) (find_mut_is c x h e).1
       (links_fewer c.parents c.ranks c.count W x z)
 
-  pub find_mut_passed : (h : Flattened) (r : ℕ) → find_mut c x ≡ done h → rep_of c x ≡ At r
+  pub find_mut_passed : (h : Flattened) (r : ℕ) → find_mut c x ≡ done h → rep_of c x ≡ Some r
       → (y : ℕ) → has (passed (find_in c.parents x).links c.parents x) y ≡ true → (find_in h.after.parents y).links ≤ 1
   unfolding flattened flatten_in
   find_mut_passed h r e f y o =
@@ -185,33 +185,33 @@ module _ (c : Classes) (W : WellMade c) (x : ℕ) (q : Removed) (e : remove_set_
   unfolding d
   same = (flattened_keeps c W x).2
 
-  by : (f : Found) → rep_of c x ≡ f → q ≡ remove_at d f
+  by : (f : Maybe ℕ) → rep_of c x ≡ f → q ≡ remove_at d f
   unfolding d
   by f o = (remove_is c x q e).1 ∙ ap (remove_at (flattened c x).after) ((flattened_keeps c W x).1 ∙ o)
 
   same_list : (k r : ℕ) → Q.sites_below k d.parents r ≡ Q.sites_below k c.parents r
   unfolding Q.sites_below d
-  same_list k r = ap (λ (f : ℕ → Bool). keep f (below k (λ z. z))) (fun_ext (λ z. ap (λ (f : Found). is_at f (At r)) ((flattened_keeps c W x).2 z)))
+  same_list k r = ap (λ (f : ℕ → Bool). keep f (below k (λ z. z))) (fun_ext (λ z. ap (λ (f : Maybe ℕ). is_at f (Some r)) ((flattened_keeps c W x).2 z)))
 
-  pub remove_takes : (r : ℕ) → rep_of c x ≡ At r → Q.TakesOut c r q
+  pub remove_takes : (r : ℕ) → rep_of c x ≡ Some r → Q.TakesOut c r q
   unfolding d
-  remove_takes r o = subst⁻¹ (λ (q : Removed). Q.TakesOut c r q) (by (At r) o) takes
+  remove_takes r o = subst⁻¹ (λ (q : Removed). Q.TakesOut c r q) (by (Some r) o) takes
     where
-      T : Q.TakesOut d r (remove_at d (At r))
+      T : Q.TakesOut d r (remove_at d (Some r))
       T = takes_out d D r
 
-      takes : Q.TakesOut c r (remove_at d (At r))
+      takes : Q.TakesOut c r (remove_at d (Some r))
       takes = record {
         well = T.well;
         found = λ z. T.found z ∙ ap (dropped r) (same z);
         list = T.list ∙ same_list max_sites r;
-        size = T.size ∙ cnt_ext (in_class d.parents r) (in_class c.parents r) max_sites (λ z l. ap (λ (f : Found). is_at f (At r)) (same z));
+        size = T.size ∙ cnt_ext (in_class d.parents r) (in_class c.parents r) max_sites (λ z l. ap (λ (f : Maybe ℕ). is_at f (Some r)) (same z));
         direct = T.direct;
-        leaves = λ z h. T.leaves z h ∙ ap (λ (b : Bool). b && not (has (remove_at d (At r)).members z)) (has_same c W x z h);
+        leaves = λ z h. T.leaves z h ∙ ap (λ (b : Bool). b && not (has (remove_at d (Some r)).members z)) (has_same c W x z h);
       }
 
-  pub remove_leaves : rep_of c x ≡ Nothing → Leaves c q
-  remove_leaves o = subst⁻¹ (λ (q : Removed). Leaves c q) (by Nothing o) (record { well = D; none = refl; found = same })
+  pub remove_leaves : rep_of c x ≡ None → Leaves c q
+  remove_leaves o = subst⁻¹ (λ (q : Removed). Leaves c q) (by None o) (record { well = D; none = refl; found = same })
 
   -- in either case
   pub remove_well : WellMade q.after × ((z : ℕ) → z < max_sites → has_up q.after.parents z ≡ (has_up c.parents z && not (has q.members z)))
@@ -224,10 +224,10 @@ module _ (c : Classes) (W : WellMade c) (x : ℕ) (q : Removed) (e : remove_set_
           ∙ (sym (joined_has c W z h)
           ∙ (and_true (has_up c.parents z) ∙ sym (ap (λ (b : Bool). has_up c.parents z && not b) (ap (λ (l : List ℕ). has l z) L.none ∙ has_none z)))))
 
-      go : (f : Found) → rep_of c x ≡ f
+      go : (f : Maybe ℕ) → rep_of c x ≡ f
           → WellMade q.after × ((z : ℕ) → z < max_sites → has_up q.after.parents z ≡ (has_up c.parents z && not (has q.members z)))
-      go (At r) o = let T = remove_takes r o in (T.well, T.leaves)
-      go Nothing o = let L = remove_leaves o in (L.well, nothing L)
+      go (Some r) o = let T = remove_takes r o in (T.well, T.leaves)
+      go None o = let L = remove_leaves o in (L.well, nothing L)
 
 -- ---- what calls made
 

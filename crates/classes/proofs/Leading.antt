@@ -4,32 +4,32 @@ use mathlib.Core.List.{List}
 use Prim.Native.Nat.{ℕ, zero, suc, ◌+◌, ◌≤◌, ◌<◌}
 use native.Mathlib.Omega.{arith}
 use native.Mathlib.Decide.{ℕ_discrete}
-use Rattle.paper.specs.declared.Found.TheVariants.{At, Nothing}
+use Rattle.std.specs.declared.option.Option.TheVariants.{None, Some}
 use Rattle.paper.specs.Numbers.{max_sites}
 use Rattle.paper.specs.Classes.{up, trail, seek, find_in}
 use Rattle.classes.specs.Well.{log_sites, Leads, Well, rank}
 use Rattle.classes.proofs.Steps.{seek_out, seek_root, seek_step}
 
-pub seek_leads : (n k : ℕ) (p : List ℕ) (x r l : ℕ) → n < k → Leads n p x r → seek k p x l ≡ trail (At r) (l + n)
+pub seek_leads : (n k : ℕ) (p : List ℕ) (x r l : ℕ) → n < k → Leads n p x r → seek k p x l ≡ trail (Some r) (l + n)
 seek_leads zero zero p x r l h t = absurd (omega arith)
 seek_leads zero (suc k) p x r l h t =
     let e : l ≡ l + 0 = omega arith in
-    seek_root p x k l t.0 t.1 ∙ (rw t.2 (ap (trail (At r)) e))
+    seek_root p x k l t.0 t.1 ∙ (rw t.2 (ap (trail (Some r)) e))
 seek_leads (suc n) zero p x r l h t = absurd (omega arith)
 seek_leads (suc n) (suc k) p x r l h t =
     let e : (l + 1) + n ≡ l + suc n = omega arith in
-    seek_step p x k l t.0 t.1 ∙ seek_leads n k p (up p x) r (l + 1) (omega arith) t.2 ∙ ap (trail (At r)) e
+    seek_step p x k l t.0 t.1 ∙ seek_leads n k p (up p x) r (l + 1) (omega arith) t.2 ∙ ap (trail (Some r)) e
 
-pub find_leads : (n : ℕ) (p : List ℕ) (x r : ℕ) → n < max_sites → Leads n p x r → find_in p x ≡ trail (At r) n
+pub find_leads : (n : ℕ) (p : List ℕ) (x r : ℕ) → n < max_sites → Leads n p x r → find_in p x ≡ trail (Some r) n
 unfolding find_in
-find_leads n p x r h t = let e : 0 + n ≡ n = omega arith in seek_leads n max_sites p x r 0 h t ∙ ap (trail (At r)) e
+find_leads n p x r h t = let e : 0 + n ≡ n = omega arith in seek_leads n max_sites p x r 0 h t ∙ ap (trail (Some r)) e
 
-pub find_out : (p : List ℕ) (x : ℕ) → max_sites ≤ x → find_in p x ≡ trail Nothing 0
+pub find_out : (p : List ℕ) (x : ℕ) → max_sites ≤ x → find_in p x ≡ trail None 0
 unfolding find_in
 find_out p x h = seek_out p x max_sites 0 h
 
 -- a site with no parent
-pub find_none : (p : List ℕ) (x : ℕ) → x < max_sites → max_sites ≤ up p x → find_in p x ≡ trail Nothing 0
+pub find_none : (p : List ℕ) (x : ℕ) → x < max_sites → max_sites ≤ up p x → find_in p x ≡ trail None 0
 unfolding find_in
 find_none p x h g = seek_step p x _ 0 h (λ e. omega arith) ∙ seek_out p (up p x) _ 1 g
 

@@ -6,7 +6,7 @@ use native.Mathlib.Omega.{arith}
 use native.Mathlib.Nat.{le_trans}
 use native.Mathlib.Decide.{dec_lt}
 use lib.Pow.{pow_mono}
-use Rattle.paper.specs.declared.Found.TheVariants.{At}
+use Rattle.std.specs.declared.option.Option.TheVariants.{Some}
 use Rattle.paper.specs.Numbers.{max_sites}
 use Rattle.paper.specs.Classes.{up, trail, find_in, Trail}
 use Rattle.classes.specs.Well.{log_sites, Leads, Well, rank, members}
@@ -32,19 +32,19 @@ module _ (p R : List ℕ) (c : ℕ) (W : Well p R c) where
           led i.0 i.1 i.2 (omega (arith, i.3)) (omega (arith, i.3, W.low i.1 q.0 l)) h j
 
   -- a find that answers r has followed r's chain
-  pub found_leads : (x r : ℕ) → (find_in p x).found ≡ At r → (n : ℕ) × Leads n p x r × (n ≤ rank R r) × ((find_in p x).links ≡ n)
+  pub found_leads : (x r : ℕ) → (find_in p x).found ≡ Some r → (n : ℕ) × Leads n p x r × (n ≤ rank R r) × ((find_in p x).links ≡ n)
   found_leads x r e = go (case x)
     where
       go : Case p R x → (n : ℕ) × Leads n p x r × (n ≤ rank R r) × ((find_in p x).links ≡ n)
       go (outside h) = let f = find_out p x h in let z : ◌≡◌ {A = ℕ} 0 1 = cc in absurd (omega arith)
       go (lone h g) = let f = find_none p x h g in let z : ◌≡◌ {A = ℕ} 0 1 = cc in absurd (omega arith)
       go (led n s t b k h j) =
-          let f : find_in p x ≡ trail (At s) n = find_leads n p x s (omega arith) t in
+          let f : find_in p x ≡ trail (Some s) n = find_leads n p x s (omega arith) t in
           let q : s ≡ r = cc in
           (n, subst (λ (y : ℕ). Leads n p x y) q t, subst (λ (y : ℕ). n ≤ rank R y) q b, ap (λ (y : Trail). y.links) f)
 
   -- the links that a find follows to the root r: at most log2 of the members of r's class
-  pub links_log : (x r : ℕ) → (find_in p x).found ≡ At r → 2 ^ (find_in p x).links ≤ members p r
+  pub links_log : (x r : ℕ) → (find_in p x).found ≡ Some r → 2 ^ (find_in p x).links ≤ members p r
   links_log x r e =
       let i = found_leads x r e in
       let q = is_root i.0 p x r i.1 in

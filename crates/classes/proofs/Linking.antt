@@ -8,8 +8,8 @@ use lib.ListN.{length, set, length-set}
 use lib.Seq.{get_or-set_same, get_or-set_other}
 use lib.Dec.{ltb, eqb}
 use borrow.Author.Tests.{lt-ltb, eq-eqb, ne_eqb}
-use Rattle.paper.specs.declared.Found.{Found}
-use Rattle.paper.specs.declared.Found.TheVariants.{At, Nothing}
+use Rattle.std.specs.declared.option.Option.TheVariants.{None, Some}
+use Rattle.paper.specs.Answered.{Maybe}
 use Rattle.paper.specs.Numbers.{max_sites}
 use Rattle.paper.specs.Classes.{up, find_in, Trail, is_at}
 use Rattle.classes.specs.Well.{log_sites, Leads, Well, rank, members, has_up, in_class, bit, turned}
@@ -18,20 +18,20 @@ use Rattle.classes.proofs.Leading.{find_leads, find_out, find_none, lead_by}
 use Rattle.classes.proofs.Linked.{Case, outside, lone, led, case}
 
 -- how `turned` counts
-turned_other : (a b r : ℕ) → (r ≡ a → ⊥) → (r ≡ b → ⊥) → (f : Found) → is_at (turned a b f) (At r) ≡ is_at f (At r)
-turned_other a b r da db Nothing = refl
-turned_other a b r da db (At s) = go (ℕ_discrete s b)
+turned_other : (a b r : ℕ) → (r ≡ a → ⊥) → (r ≡ b → ⊥) → (f : Maybe ℕ) → is_at (turned a b f) (Some r) ≡ is_at f (Some r)
+turned_other a b r da db None = refl
+turned_other a b r da db (Some s) = go (ℕ_discrete s b)
   where
-    go : Dec (s ≡ b) → is_at (turned a b (At s)) (At r) ≡ eqb s r
+    go : Dec (s ≡ b) → is_at (turned a b (Some s)) (Some r) ≡ eqb s r
     go (yes e) =
         simp (eq-eqb s b e) (ne_eqb a r (λ q. da (sym q)) ∙ sym (ne_eqb s r (λ q. db (sym q ∙ e))))
     go (no d) = simp (ne_eqb s b d)
 
-turned_sum : (a b : ℕ) → (a ≡ b → ⊥) → (f : Found) → bit (is_at (turned a b f) (At a)) ≡ bit (is_at f (At a)) + bit (is_at f (At b))
-turned_sum a b n Nothing = refl
-turned_sum a b n (At s) = go (ℕ_discrete s b)
+turned_sum : (a b : ℕ) → (a ≡ b → ⊥) → (f : Maybe ℕ) → bit (is_at (turned a b f) (Some a)) ≡ bit (is_at f (Some a)) + bit (is_at f (Some b))
+turned_sum a b n None = refl
+turned_sum a b n (Some s) = go (ℕ_discrete s b)
   where
-    go : Dec (s ≡ b) → bit (is_at (turned a b (At s)) (At a)) ≡ bit (eqb s a) + bit (eqb s b)
+    go : Dec (s ≡ b) → bit (is_at (turned a b (Some s)) (Some a)) ≡ bit (eqb s a) + bit (eqb s b)
     go (yes e) = simp (eq-eqb s b e, eq-eqb a a refl, ne_eqb s a (λ q. n (sym q ∙ e)))
     go (no d) = simp (ne_eqb s b d) (omega arith)
 
@@ -61,7 +61,7 @@ module _ (p R : List ℕ) (c : ℕ) (W : Well p R c) (a b : ℕ) (ha : a < max_s
   pub found_after : (z : ℕ) → (find_in (set p b a) z).found ≡ turned a b (find_in p z).found
   found_after z = go (case p R c W z)
     where
-      at : (k r : ℕ) → Leads k p z r → k ≤ log_sites → Dec (r ≡ b) → (find_in (set p b a) z).found ≡ turned a b (At r)
+      at : (k r : ℕ) → Leads k p z r → k ≤ log_sites → Dec (r ≡ b) → (find_in (set p b a) z).found ≡ turned a b (Some r)
       at k r t l (yes e) =
           ap (λ (t : Trail). t.found) (find_leads (suc k) (set p b a) z a (omega arith) (move k z (subst (λ (y : ℕ). Leads k p z y) e t)))
           ∙ simp (eq-eqb r b e)
@@ -81,12 +81,12 @@ module _ (p R : List ℕ) (c : ℕ) (W : Well p R c) (a b : ℕ) (ha : a < max_s
   pub members_a : members (set p b a) a ≡ members p a + members p b
   members_a =
       cnt_add (in_class (set p b a) a) (in_class p a) (in_class p b) max_sites
-      (λ z l. ap (λ (f : Found). bit (is_at f (At a))) (found_after z) ∙ turned_sum a b n (find_in p z).found)
+      (λ z l. ap (λ (f : Maybe ℕ). bit (is_at f (Some a))) (found_after z) ∙ turned_sum a b n (find_in p z).found)
 
   members_other : (r : ℕ) → (r ≡ a → ⊥) → (r ≡ b → ⊥) → members (set p b a) r ≡ members p r
   members_other r da db =
       cnt_ext (in_class (set p b a) r) (in_class p r) max_sites
-      (λ z l. ap (λ (f : Found). is_at f (At r)) (found_after z) ∙ turned_other a b r da db (find_in p z).found)
+      (λ z l. ap (λ (f : Maybe ℕ). is_at f (Some r)) (found_after z) ∙ turned_other a b r da db (find_in p z).found)
 
   same_ups : (z : ℕ) → has_up (set p b a) z ≡ has_up p z
   same_ups z = go (ℕ_discrete z b)

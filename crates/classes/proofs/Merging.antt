@@ -9,8 +9,8 @@ use lib.Seq.{get_or-set_same, get_or-set_other}
 use lib.Dec.{ltb, eqb}
 use lib.Pow.{pow-lt, pow-add}
 use borrow.Author.Tests.{lt-ltb, le-ltb, eq-eqb, ne_eqb}
-use Rattle.paper.specs.declared.Found.{Found}
-use Rattle.paper.specs.declared.Found.TheVariants.{At, Nothing}
+use Rattle.std.specs.declared.option.Option.TheVariants.{None, Some}
+use Rattle.paper.specs.Answered.{Maybe}
 use Rattle.std.specs.Prelude.{if◌then◌else◌}
 use Rattle.paper.specs.Numbers.{max_sites}
 use Rattle.paper.specs.Classes.{up, Classes, classes, no_classes, flattened, one_more, most_rank, alone, rooted, enter, link, under, raised}
@@ -38,12 +38,12 @@ pub record Turned (c d : Classes) (a b : ℕ) : Type 0 where
   pub well : WellMade d
   pub found : (z : ℕ) → rep_of d z ≡ turned a b (rep_of c z)
 
-turned_self : (a b : ℕ) → a ≡ b → (f : Found) → f ≡ turned a b f
-turned_self a b e Nothing = refl
-turned_self a b e (At s) = go (ℕ_discrete s b)
+turned_self : (a b : ℕ) → a ≡ b → (f : Maybe ℕ) → f ≡ turned a b f
+turned_self a b e None = refl
+turned_self a b e (Some s) = go (ℕ_discrete s b)
   where
-    go : Dec (s ≡ b) → At s ≡ turned a b (At s)
-    go (yes q) = simp (eq-eqb s b q) (ap At (q ∙ sym e))
+    go : Dec (s ≡ b) → Some s ≡ turned a b (Some s)
+    go (yes q) = simp (eq-eqb s b q) (ap Some (q ∙ sym e))
     go (no d) = simp (ne_eqb s b d)
 
 module _ (c : Classes) (W : WellMade c) where
@@ -109,10 +109,10 @@ module _ (c : Classes) (W : WellMade c) where
 pub record Entered (c d : Classes) (x r : ℕ) : Type 0 where
   pub well : WellMade d
   pub found : (z : ℕ) → rep_of d z ≡ alone_as x z (rep_of c z)
-  pub mine : rep_of d x ≡ At r
+  pub mine : rep_of d x ≡ Some r
 
 -- the root that a find answers is a root
-pub root_of : (c : Classes) → WellMade c → (x r : ℕ) → rep_of c x ≡ At r → (r < max_sites) × (up c.parents r ≡ r)
+pub root_of : (c : Classes) → WellMade c → (x r : ℕ) → rep_of c x ≡ Some r → (r < max_sites) × (up c.parents r ≡ r)
 root_of c W x r e =
     let i = found_leads c.parents c.ranks c.count W x r e in
     is_root i.0 c.parents x r i.1
@@ -137,14 +137,14 @@ module _ (c : Classes) (W : WellMade c) (x : ℕ) (hx : x < max_sites) where
   unfolding flattened
   answer = flattened_found c.parents c.ranks c.count W x
 
-  at_root : (r : ℕ) → rep_of c x ≡ At r → Entered c d x r
+  at_root : (r : ℕ) → rep_of c x ≡ Some r → Entered c d x r
   at_root r e = record { well = D; found = λ z. same z ∙ go z (rep_of c z) refl; mine = same x ∙ e }
     where
-      go : (z : ℕ) (f : Found) → rep_of c z ≡ f → f ≡ alone_as x z f
-      go z (At s) q = refl
-      go z Nothing q = simp (ne_eqb z x (λ o. let w : rep_of c x ≡ Nothing = ap (rep_of c) (sym o) ∙ q in let k : ◌≡◌ {A = ℕ} 0 1 = cc in omega arith))
+      go : (z : ℕ) (f : Maybe ℕ) → rep_of c z ≡ f → f ≡ alone_as x z f
+      go z (Some s) q = refl
+      go z None q = simp (ne_eqb z x (λ o. let w : rep_of c x ≡ None = ap (rep_of c) (sym o) ∙ q in let k : ◌≡◌ {A = ℕ} 0 1 = cc in omega arith))
 
-  at_none : rep_of c x ≡ Nothing → Entered c (alone d x) x x
+  at_none : rep_of c x ≡ None → Entered c (alone d x) x x
   at_none e = record {
     well = enter_well d.parents d.ranks d.count D x hx no_up;
     found = λ z. go z (ℕ_discrete z x);
@@ -168,17 +168,17 @@ module _ (c : Classes) (W : WellMade c) (x : ℕ) (hx : x < max_sites) where
           (found_x d.parents d.ranks d.count D x hx no_up ∙ sym (ap (alone_as x x) e ∙ simp (eq-eqb x x refl)))
       go z (no o) = found_off d.parents d.ranks d.count D x hx no_up z o ∙ same z ∙ out (rep_of c z)
         where
-          out : (f : Found) → f ≡ alone_as x z f
-          out (At s) = refl
-          out Nothing = simp (ne_eqb z x o)
+          out : (f : Maybe ℕ) → f ≡ alone_as x z f
+          out (Some s) = refl
+          out None = simp (ne_eqb z x o)
 
   pub enter_entered : Entered c (enter c x).after x (enter c x).root
   unfolding enter d
   enter_entered = go (flattened c x).found (sym answer)
     where
-      go : (f : Found) → rep_of c x ≡ f → Entered c (rooted (flattened c x).after x f).after x (rooted (flattened c x).after x f).root
-      go (At r) e = at_root r e
-      go Nothing e = at_none e
+      go : (f : Maybe ℕ) → rep_of c x ≡ f → Entered c (rooted (flattened c x).after x f).after x (rooted (flattened c x).after x f).root
+      go (Some r) e = at_root r e
+      go None e = at_none e
 
 -- "Classes start empty": that state is well made
 cnt_zero : (f : ℕ → Bool) (n : ℕ) → ((z : ℕ) → z < n → f z ≡ false) → cnt f n ≡ 0

@@ -9,8 +9,8 @@ use lib.ListN.{length, set, length-set, length-append}
 use lib.Seq.{get_or-set_same, get_or-set_other}
 use lib.Dec.{ltb, eqb}
 use borrow.Author.Tests.{lt-ltb, le-ltb, eq-eqb, ne_eqb}
-use Rattle.paper.specs.declared.Found.{Found}
-use Rattle.paper.specs.declared.Found.TheVariants.{At, Nothing}
+use Rattle.std.specs.declared.option.Option.TheVariants.{None, Some}
+use Rattle.paper.specs.Answered.{Maybe}
 use Rattle.std.specs.Prelude.{if◌then◌else◌}
 use Rattle.paper.specs.Words.{any, has, keep, below}
 use Rattle.paper.specs.Numbers.{max_sites}
@@ -24,10 +24,10 @@ use Rattle.classes.proofs.Shortening.{Direct, own_direct, direct_stays}
 use Rattle.classes.proofs.Uniting.{is_joined, joined_has}
 use Rattle.classes.proofs.Removing.{found_after, fewer, remove_well}
 
-never_at : {A : Type 0} {r : ℕ} → Nothing ≡ At r → A
+never_at : {A : Type 0} {r : ℕ} → None ≡ Some r → A
 never_at e = absurd (let z : ◌≡◌ {A = ℕ} 0 1 = cc in omega arith)
 
-same_at : {a b : ℕ} → At a ≡ At b → a ≡ b
+same_at : {a b : ℕ} → Some a ≡ Some b → a ≡ b
 same_at e = cc
 
 -- ---- the sweep
@@ -168,7 +168,7 @@ module _ (c : Classes) (W : WellMade c) (r : ℕ) where
 
   -- in the swept parents the members are those of the class
   mine : (z : ℕ) → z < max_sites → has s.members z ≡ in_class s.parents r z
-  mine z h = rw L (sites_has max_sites c.parents r z ∙ (rw (lt-ltb z max_sites h) (ap (λ (f : Found). is_at f (At r)) (sym (K.same z)))))
+  mine z h = rw L (sites_has max_sites c.parents r z ∙ (rw (lt-ltb z max_sites h) (ap (λ (f : Maybe ℕ). is_at f (Some r)) (sym (K.same z)))))
 
   q : List ℕ
   q = unjoin s.parents s.members
@@ -188,7 +188,7 @@ module _ (c : Classes) (W : WellMade c) (r : ℕ) where
   few = fewer s.parents c.ranks c.count K.well r q lq uq
 
   all : members s.parents r ≡ members c.parents r
-  all = cnt_ext (in_class s.parents r) (in_class c.parents r) max_sites (λ z l. ap (λ (f : Found). is_at f (At r)) (K.same z))
+  all = cnt_ext (in_class s.parents r) (in_class c.parents r) max_sites (λ z l. ap (λ (f : Maybe ℕ). is_at f (Some r)) (K.same z))
 
   count : c.count - length s.members ≡ joined_in q
   count = omega (arith, size, all, few, K.well.tally)
@@ -213,25 +213,25 @@ module _ (c : Classes) (W : WellMade c) (r : ℕ) where
       go true = le-ltb max_sites max_sites (omega arith) ∙ no_more (has_up c.parents z)
       go false = same ∙ still (has_up c.parents z)
 
-  direct : (z v : ℕ) → z < max_sites → (find_in q z).found ≡ At v → up q z ≡ v
+  direct : (z v : ℕ) → z < max_sites → (find_in q z).found ≡ Some v → up q z ≡ v
   unfolding s
   direct z v h e = go (find_in s.parents z).found refl
     where
       D : Direct s.parents z
       D = sweep_direct max_sites c.parents c.ranks c.count r W (omega arith) z h
 
-      from : (f : Found) → (find_in s.parents z).found ≡ f → dropped r f ≡ At v
+      from : (f : Maybe ℕ) → (find_in s.parents z).found ≡ f → dropped r f ≡ Some v
       from f o = sym (found_after s.parents c.ranks c.count K.well r q lq uq z ∙ ap (dropped r) o) ∙ e
 
-      out : (w : ℕ) → (find_in s.parents z).found ≡ At w → Dec (w ≡ r) → up q z ≡ v
-      out w o (yes i) = never_at (sym (simp (eq-eqb w r i)) ∙ from (At w) o)
+      out : (w : ℕ) → (find_in s.parents z).found ≡ Some w → Dec (w ≡ r) → up q z ≡ v
+      out w o (yes i) = never_at (sym (simp (eq-eqb w r i)) ∙ from (Some w) o)
       out w o (no d) =
-          uq z h ∙ (ap (λ (f : Found). if is_at f (At r) then max_sites else up s.parents z) o
-          ∙ (simp (ne_eqb w r d) (D w o ∙ same_at (sym (simp (ne_eqb w r d)) ∙ from (At w) o))))
+          uq z h ∙ (ap (λ (f : Maybe ℕ). if is_at f (Some r) then max_sites else up s.parents z) o
+          ∙ (simp (ne_eqb w r d) (D w o ∙ same_at (sym (simp (ne_eqb w r d)) ∙ from (Some w) o))))
 
-      go : (f : Found) → (find_in s.parents z).found ≡ f → up q z ≡ v
-      go (At w) o = out w o (ℕ_discrete w r)
-      go Nothing o = never_at (from Nothing o)
+      go : (f : Maybe ℕ) → (find_in s.parents z).found ≡ f → up q z ≡ v
+      go (Some w) o = out w o (ℕ_discrete w r)
+      go None o = never_at (from None o)
 
   pub takes_out : TakesOut c r (removed c (sweep max_sites c.parents r))
   unfolding s q

@@ -8,8 +8,8 @@ use native.Mathlib.Decide.{ℕ_discrete}
 use lib.ListN.{length}
 use lib.Dec.{ltb, eqb}
 use borrow.Author.Tests.{lt-ltb, le-ltb, eq-eqb, ne_eqb}
-use Rattle.paper.specs.declared.Found.{Found}
-use Rattle.paper.specs.declared.Found.TheVariants.{At, Nothing}
+use Rattle.std.specs.declared.option.Option.TheVariants.{None, Some}
+use Rattle.paper.specs.Answered.{Maybe}
 use Rattle.std.specs.Prelude.{if◌then◌else◌}
 use Rattle.paper.specs.Numbers.{max_sites}
 use Rattle.paper.specs.Classes.{up, Trail, find_in, is_at}
@@ -33,7 +33,7 @@ module _ (p R : List ℕ) (c : ℕ) (W : Well p R c) (r : ℕ) (q : List ℕ) (l
           next zero y s t = rw t.1 t.0
           next (suc m) y s t = lead_lt m p (up p y) s t.2
       go (led n v u b k h j) =
-          ap (λ (t : Trail). is_at t.found (At r)) (find_leads n p y v (omega arith) u) ∙ ap (λ (w : ℕ). eqb w r) (one_root n m p y v s u t).0
+          ap (λ (t : Trail). is_at t.found (Some r)) (find_leads n p y v (omega arith) u) ∙ ap (λ (w : ℕ). eqb w r) (one_root n m p y v s u t).0
 
   gone : (z : ℕ) → z < max_sites → in_class p r z ≡ true → up q z ≡ max_sites
   gone z h e = uq z h ∙ simp e
@@ -49,7 +49,7 @@ module _ (p R : List ℕ) (c : ℕ) (W : Well p R c) (r : ℕ) (q : List ℕ) (l
   pub found_after : (z : ℕ) → (find_in q z).found ≡ dropped r (find_in p z).found
   found_after z = go (case p R c W z)
     where
-      at : (k s : ℕ) → Leads k p z s → k ≤ log_sites → z < max_sites → Dec (s ≡ r) → (find_in q z).found ≡ dropped r (At s)
+      at : (k s : ℕ) → Leads k p z s → k ≤ log_sites → z < max_sites → Dec (s ≡ r) → (find_in q z).found ≡ dropped r (Some s)
       at k s t l h (yes e) =
           ap (λ (t : Trail). t.found) (find_none q z h (rw (gone z h (class_of k z s t ∙ eq-eqb s r e)) (omega arith))) ∙ sym (simp (eq-eqb s r e))
       at k s t l h (no d) = ap (λ (t : Trail). t.found) (find_leads k q z s (omega arith) (still k z s d t)) ∙ sym (simp (ne_eqb s r d))
@@ -58,16 +58,16 @@ module _ (p R : List ℕ) (c : ℕ) (W : Well p R c) (r : ℕ) (q : List ℕ) (l
       go (outside h) = ap (λ (t : Trail). t.found) (find_out q z h) ∙ sym (ap (λ (t : Trail). dropped r t.found) (find_out p z h))
       go (lone h g) =
           let f = find_none p z h g in
-          let e : up q z ≡ up p z = left z h (ap (λ (t : Trail). is_at t.found (At r)) f) in
+          let e : up q z ≡ up p z = left z h (ap (λ (t : Trail). is_at t.found (Some r)) f) in
           ap (λ (t : Trail). t.found) (find_none q z h (rw e g)) ∙ sym (ap (λ (t : Trail). dropped r t.found) f)
       go (led k s t b l h j) =
           at k s t l h (ℕ_discrete s r) ∙ sym (ap (λ (t : Trail). dropped r t.found) (find_leads k p z s (omega arith) t))
 
-  dropped_other : (s : ℕ) → (s ≡ r → ⊥) → (f : Found) → is_at (dropped r f) (At s) ≡ is_at f (At s)
-  dropped_other s d Nothing = refl
-  dropped_other s d (At v) = go (ℕ_discrete v r)
+  dropped_other : (s : ℕ) → (s ≡ r → ⊥) → (f : Maybe ℕ) → is_at (dropped r f) (Some s) ≡ is_at f (Some s)
+  dropped_other s d None = refl
+  dropped_other s d (Some v) = go (ℕ_discrete v r)
     where
-      go : Dec (v ≡ r) → is_at (dropped r (At v)) (At s) ≡ eqb v s
+      go : Dec (v ≡ r) → is_at (dropped r (Some v)) (Some s) ≡ eqb v s
       go (yes e) = simp (eq-eqb v r e) (sym (ne_eqb v s (λ o. d (sym o ∙ e))))
       go (no o) = simp (ne_eqb v r o)
 
@@ -76,8 +76,8 @@ module _ (p R : List ℕ) (c : ℕ) (W : Well p R c) (r : ℕ) (q : List ℕ) (l
   joined_up z e = go (case p R c W z)
     where
       go : Case p R z → up p z < max_sites
-      go (outside h) = let f = ap (λ (t : Trail). is_at t.found (At r)) (find_out p z h) in let k : ◌≡◌ {A = ℕ} 0 1 = ap bit (sym f ∙ e) in absurd (omega arith)
-      go (lone h g) = let f = ap (λ (t : Trail). is_at t.found (At r)) (find_none p z h g) in let k : ◌≡◌ {A = ℕ} 0 1 = ap bit (sym f ∙ e) in absurd (omega arith)
+      go (outside h) = let f = ap (λ (t : Trail). is_at t.found (Some r)) (find_out p z h) in let k : ◌≡◌ {A = ℕ} 0 1 = ap bit (sym f ∙ e) in absurd (omega arith)
+      go (lone h g) = let f = ap (λ (t : Trail). is_at t.found (Some r)) (find_none p z h g) in let k : ◌≡◌ {A = ℕ} 0 1 = ap bit (sym f ∙ e) in absurd (omega arith)
       go (led n v u b k h j) = j
 
   pub fewer : joined_in p ≡ joined_in q + members p r
@@ -133,5 +133,5 @@ module _ (p R : List ℕ) (c : ℕ) (W : Well p R c) (r : ℕ) (q : List ℕ) (l
           let o : up p s ≡ s = sym (left s h f) ∙ e in
           let d : s ≡ r → ⊥ = λ w. let k : ◌≡◌ {A = ℕ} 0 1 = ap bit (sym f ∙ class_of 0 s s (h, o, refl) ∙ eq-eqb s r w) in omega arith in
           subst⁻¹ (λ (k : ℕ). 2 ^ rank R s ≤ k)
-          (cnt_ext (in_class q s) (in_class p s) max_sites (λ z l. ap (λ (f : Found). is_at f (At s)) (found_after z) ∙ dropped_other s d (find_in p z).found))
+          (cnt_ext (in_class q s) (in_class p s) max_sites (λ z l. ap (λ (f : Maybe ℕ). is_at f (Some s)) (found_after z) ∙ dropped_other s d (find_in p z).found))
           (W.big s h o)

@@ -7,8 +7,8 @@ use native.Mathlib.Omega.{arith}
 use native.Mathlib.Decide.{ℕ_discrete}
 use lib.Dec.{eqb}
 use borrow.Author.Tests.{eq-eqb, ne_eqb}
-use Rattle.paper.specs.declared.Found.{Found}
-use Rattle.paper.specs.declared.Found.TheVariants.{At, Nothing}
+use Rattle.std.specs.declared.option.Option.TheVariants.{None, Some}
+use Rattle.paper.specs.Answered.{Maybe}
 use Rattle.std.specs.Prelude.{if◌then◌else◌}
 use Rattle.paper.specs.Words.{any, has}
 use Rattle.paper.specs.Numbers.{max_sites}
@@ -22,7 +22,7 @@ use Rattle.classes.proofs.Flattening.{Kept, flattened_kept}
 not_so : {A : Type 0} (b : Bool) → b ≡ false → b ≡ true → A
 not_so b e f = let z : ◌≡◌ {A = ℕ} 0 1 = sym (ap bit e) ∙ ap bit f in absurd (omega arith)
 
-same_at : {a b : ℕ} → At a ≡ At b → a ≡ b
+same_at : {a b : ℕ} → Some a ≡ Some b → a ≡ b
 same_at e = cc
 
 -- the sites that are passed are sites; the first of them is x
@@ -41,7 +41,7 @@ passed_first n p x = ap (λ (b : Bool). b || has (passed n p (up p x)) x) (eq-eq
 
 -- z's parent is its representative
 abbrev pub Direct : List ℕ → ℕ → Type 0
-Direct p z = (s : ℕ) → (find_in p z).found ≡ At s → up p z ≡ s
+Direct p z = (s : ℕ) → (find_in p z).found ≡ Some s → up p z ≡ s
 
 module _ (p R : List ℕ) (c : ℕ) (W : Well p R c) (x : ℕ) where
   K : Kept p (flat p x) R c
@@ -67,7 +67,7 @@ module _ (p R : List ℕ) (c : ℕ) (W : Well p R c) (x : ℕ) where
           let b = ap (λ (t : Trail). t.links) (find_leads n p z r (omega arith) t) in
           omega (arith, a, b, i.2)
 
-  module _ (r : ℕ) (e : (find_in p x).found ≡ At r) where
+  module _ (r : ℕ) (e : (find_in p x).found ≡ Some r) where
     n : ℕ
     n = (find_in p x).links
 
@@ -134,6 +134,6 @@ module _ (p R : List ℕ) (c : ℕ) (W : Well p R c) (x : ℕ) where
   pub direct_stays : (z : ℕ) → z < max_sites → Direct p z → Direct (flat p x) z
   direct_stays z h d = go (find_in p x).found refl
     where
-      go : (f : Found) → (find_in p x).found ≡ f → Direct (flat p x) z
-      go (At r) e = stays_at r e z h d
-      go Nothing e = subst⁻¹ (λ (q : List ℕ). Direct q z) (flat_none p x e) d
+      go : (f : Maybe ℕ) → (find_in p x).found ≡ f → Direct (flat p x) z
+      go (Some r) e = stays_at r e z h d
+      go None e = subst⁻¹ (λ (q : List ℕ). Direct q z) (flat_none p x e) d

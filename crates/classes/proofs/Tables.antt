@@ -6,7 +6,7 @@ use mathlib.Core.List.{[], ◌∷◌}
 use Prim.Native.Nat.{ℕ}
 use native.Mathlib.Decide.{ℕ_discrete}
 use lib.Dec.{eqb}
-use Rattle.paper.specs.declared.Found.TheVariants.{At}
+use Rattle.std.specs.declared.option.Option.TheVariants.{Some}
 use Rattle.std.specs.Prelude.{if◌then◌else◌}
 use Rattle.paper.specs.Words.{or_else, keep, look}
 use Rattle.paper.specs.Numbers.{done}
@@ -55,7 +55,7 @@ lowest_dissolve k o low n = ap (λ (v : Option ℕ). or_else v n) (look_dissolve
         by false = refl
 
 -- a removal is paper's `dissolve` of the class whose lowest member is x's
-pub remove_dissolves : (c : Classes) → WellMade c → (x r : ℕ) (q : Removed) → remove_set_of c x ≡ done q → rep_of c x ≡ At r
+pub remove_dissolves : (c : Classes) → WellMade c → (x r : ℕ) (q : Removed) → remove_set_of c x ≡ done q → rep_of c x ≡ Some r
     → (k : Labels) → Sound k → Once k → Holds c.parents (lowest k) → Holds q.after.parents (lowest (dissolve k (lowest k x)))
 remove_dissolves c W x r q e mine k S o H =
     subst⁻¹ (λ (g : ℕ → ℕ). Holds q.after.parents g) (fun_ext (λ n. lowest_dissolve k o (lowest k x) n))

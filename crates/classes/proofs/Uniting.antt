@@ -8,8 +8,8 @@ use native.Mathlib.Omega.{arith}
 use native.Mathlib.Decide.{ℕ_discrete, dec_lt}
 use lib.Dec.{eqb}
 use borrow.Author.Tests.{lt-ltb, le-ltb, eq-eqb, ne_eqb}
-use Rattle.paper.specs.declared.Found.{Found}
-use Rattle.paper.specs.declared.Found.TheVariants.{At, Nothing}
+use Rattle.std.specs.declared.option.Option.TheVariants.{None, Some}
+use Rattle.paper.specs.Answered.{Maybe}
 use Rattle.std.specs.Prelude.{if◌then◌else◌}
 use Rattle.paper.specs.Numbers.{max_sites}
 use Rattle.paper.specs.Classes.{up, find_in, Trail, Classes, enter, unite}
@@ -22,13 +22,13 @@ use Rattle.classes.proofs.Linked.{Case, outside, lone, led, case, found_leads}
 use Rattle.classes.proofs.Merging.{Turned, link_turned, Entered, enter_entered, root_of}
 
 -- a find at a root answers it
-pub root_found : (p : List ℕ) (r : ℕ) → r < max_sites → up p r ≡ r → (find_in p r).found ≡ At r
+pub root_found : (p : List ℕ) (r : ℕ) → r < max_sites → up p r ≡ r → (find_in p r).found ≡ Some r
 root_found p r h e = ap (λ (t : Trail). t.found) (find_leads 0 p r r (omega arith) (h, e, refl))
 
 -- a joined site is one that a find answers of
-abbrev pub is_joined : Found → Bool
-is_joined (At s) = true
-is_joined Nothing = false
+abbrev pub is_joined : Maybe ℕ → Bool
+is_joined (Some s) = true
+is_joined None = false
 
 pub joined_has : (c : Classes) → WellMade c → (z : ℕ) → z < max_sites → has_up c.parents z ≡ is_joined (rep_of c z)
 joined_has c W z h = go (case c.parents c.ranks c.count W z)
@@ -38,15 +38,15 @@ joined_has c W z h = go (case c.parents c.ranks c.count W z)
     go (lone l g) = le-ltb _ _ g ∙ sym (ap (λ (t : Trail). is_joined t.found) (find_none c.parents z l g))
     go (led n r t b k l j) = lt-ltb _ _ j ∙ sym (ap (λ (t : Trail). is_joined t.found) (find_leads n c.parents z r (omega arith) t))
 
-turned_joined : (a b : ℕ) (f : Found) → is_joined (turned a b f) ≡ is_joined f
-turned_joined a b (At s) = refl
-turned_joined a b Nothing = refl
+turned_joined : (a b : ℕ) (f : Maybe ℕ) → is_joined (turned a b f) ≡ is_joined f
+turned_joined a b (Some s) = refl
+turned_joined a b None = refl
 
-alone_joined : (x z : ℕ) (f : Found) → is_joined (alone_as x z f) ≡ (is_joined f || eqb z x)
-alone_joined x z (At s) = refl
-alone_joined x z Nothing = go (eqb z x)
+alone_joined : (x z : ℕ) (f : Maybe ℕ) → is_joined (alone_as x z f) ≡ (is_joined f || eqb z x)
+alone_joined x z (Some s) = refl
+alone_joined x z None = go (eqb z x)
   where
-    go : (t : Bool) → is_joined (if t then At x else Nothing) ≡ (false || t)
+    go : (t : Bool) → is_joined (if t then Some x else None) ≡ (false || t)
     go true = refl
     go false = refl
 
@@ -60,21 +60,21 @@ module _ (p R : List ℕ) (n : ℕ) (W : Well p R n) where
   unfolding rep
   rep_rep x = go (find_in p x).found refl
     where
-      go : (f : Found) → (find_in p x).found ≡ f → or_self (or_self x f) (find_in p (or_self x f)).found ≡ or_self x f
-      go (At r) e =
+      go : (f : Maybe ℕ) → (find_in p x).found ≡ f → or_self (or_self x f) (find_in p (or_self x f)).found ≡ or_self x f
+      go (Some r) e =
           let i = found_leads p R n W x r e in
           let q = is_root i.0 p x r i.1 in
           ap (or_self r) (root_found p r q.0 q.1)
-      go Nothing e = ap (or_self x) e
+      go None e = ap (or_self x) e
 
   pub rep_inside : (x : ℕ) → x < max_sites → rep p x < max_sites
   unfolding rep
   rep_inside x h = go (find_in p x).found refl
     where
-      go : (f : Found) → (find_in p x).found ≡ f → or_self x f < max_sites
-      go (At r) e =
+      go : (f : Maybe ℕ) → (find_in p x).found ≡ f → or_self x f < max_sites
+      go (Some r) e =
           let i = found_leads p R n W x r e in (is_root i.0 p x r i.1).0
-      go Nothing e = h
+      go None e = h
 
 -- one value of a function onto representatives gives way to another
 module _ (f g : ℕ → ℕ) (a b : ℕ) (fa : f a ≡ a) (fb : f b ≡ b) (G : (z : ℕ) → g z ≡ (if eqb (f z) b then a else f z)) where
@@ -128,17 +128,17 @@ module _ (f g : ℕ → ℕ) (a b : ℕ) (fa : f a ≡ a) (fb : f b ≡ b) (G : 
       omega (arith, k, cnt_one b max_sites h)
 
 -- the answers after a join, as representatives
-alone_same : (x z : ℕ) (f : Found) → or_self z (alone_as x z f) ≡ or_self z f
-alone_same x z (At s) = refl
-alone_same x z Nothing = go (ℕ_discrete z x)
+alone_same : (x z : ℕ) (f : Maybe ℕ) → or_self z (alone_as x z f) ≡ or_self z f
+alone_same x z (Some s) = refl
+alone_same x z None = go (ℕ_discrete z x)
   where
-    go : Dec (z ≡ x) → or_self z (if eqb z x then At x else Nothing) ≡ z
+    go : Dec (z ≡ x) → or_self z (if eqb z x then Some x else None) ≡ z
     go (yes e) = simp (eq-eqb z x e) (sym e)
     go (no d) = simp (ne_eqb z x d)
 
-turned_rep : (a b z : ℕ) (f : Found) → (f ≡ Nothing → z ≡ b → ⊥) → or_self z (turned a b f) ≡ (if eqb (or_self z f) b then a else or_self z f)
-turned_rep a b z (At s) h = refl
-turned_rep a b z Nothing h = simp (ne_eqb z b (h refl))
+turned_rep : (a b z : ℕ) (f : Maybe ℕ) → (f ≡ None → z ≡ b → ⊥) → or_self z (turned a b f) ≡ (if eqb (or_self z f) b then a else or_self z f)
+turned_rep a b z (Some s) h = refl
+turned_rep a b z None h = simp (ne_eqb z b (h refl))
 
 module _ (c : Classes) (W : WellMade c) (x y : ℕ) (hx : x < max_sites) (hy : y < max_sites) where
   -- the two roots are the representatives
@@ -196,15 +196,15 @@ module _ (c : Classes) (W : WellMade c) (x y : ℕ) (hx : x < max_sites) (hy : y
         (λ h. rw h.1 (rep_inside c.parents c.ranks c.count W x hx)) ends
 
     -- the loser is in a class
-    in_class : rep_of t b ≡ Nothing → ⊥
+    in_class : rep_of t b ≡ None → ⊥
     unfolding t f
     in_class e = ⊎_elim (λ h. by y F.mine (h.1 ∙ sym root_y)) (λ h. by x (F.found x ∙ ap (alone_as y x) E.mine) (h.1 ∙ sym root_x)) ends
       where
-        by : (z : ℕ) {s : ℕ} → rep_of t z ≡ At s → b ≡ s → ⊥
+        by : (z : ℕ) {s : ℕ} → rep_of t z ≡ Some s → b ≡ s → ⊥
         by z {s} m q =
             let k = root_of t F.well z s m in
             let o = root_found t.parents s k.0 k.1 in
-            let n : rep_of t s ≡ Nothing = rw q at e in
+            let n : rep_of t s ≡ None = rw q at e in
             let z : ◌≡◌ {A = ℕ} 0 1 = cc in omega arith
 
     turns : (z : ℕ) → g z ≡ (if eqb (f z) b then a else f z)
@@ -228,7 +228,7 @@ module _ (c : Classes) (W : WellMade c) (x y : ℕ) (hx : x < max_sites) (hy : y
         ∙ (turned_joined a b (rep_of t z)
         ∙ (ap is_joined (F.found z)
         ∙ (alone_joined y z (rep_of (enter c x).after z)
-        ∙ (ap (λ (f : Found). is_joined f || eqb z y) (E.found z)
+        ∙ (ap (λ (f : Maybe ℕ). is_joined f || eqb z y) (E.found z)
         ∙ (ap (λ (b : Bool). b || eqb z y) (alone_joined x z (rep_of c z))
         ∙ (or_assoc (is_joined (rep_of c z)) (eqb z x) (eqb z y)
         ∙ ap (λ (b : Bool). b || (eqb z x || eqb z y)) (sym (joined_has c W z h)))))))))

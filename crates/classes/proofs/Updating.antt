@@ -10,8 +10,8 @@ use lib.Dec.{eqb}
 use native.Mathlib.Omega.{arith}
 use native.Mathlib.Decide.{ℕ_discrete, dec_lt}
 use borrow.Author.Tests.{eq-eqb, ne_eqb}
-use Rattle.paper.specs.declared.Found.{Found}
-use Rattle.paper.specs.declared.Found.TheVariants.{At, Nothing}
+use Rattle.std.specs.declared.option.Option.TheVariants.{None, Some}
+use Rattle.paper.specs.Answered.{Maybe}
 use Rattle.std.specs.Prelude.{if◌then◌else◌}
 use Rattle.paper.specs.Words.{any, has}
 use Rattle.paper.specs.Numbers.{max_sites}
@@ -20,19 +20,19 @@ use Rattle.classes.specs.Well.{Leads}
 use Rattle.classes.proofs.Steps.{seek_out, seek_none, seek_root, seek_step}
 use Rattle.classes.proofs.Leading.{find_out, find_none, one_root, is_root, lead_by, lead_lt}
 
-never : {A : Type 0} {r : ℕ} → Nothing ≡ At r → A
+never : {A : Type 0} {r : ℕ} → None ≡ Some r → A
 never e = absurd (let z : ◌≡◌ {A = ℕ} 0 1 = cc in omega arith)
 
 -- ---- a find that answers r has followed the links to it
 
-seek_led : (k : ℕ) (p : List ℕ) (x l r : ℕ) → (seek k p x l).found ≡ At r → (m : ℕ) × Leads m p x r × ((seek k p x l).links ≡ l + m)
+seek_led : (k : ℕ) (p : List ℕ) (x l r : ℕ) → (seek k p x l).found ≡ Some r → (m : ℕ) × Leads m p x r × ((seek k p x l).links ≡ l + m)
 seek_led zero p x l r e = never (sym (ap (λ (t : Trail). t.found) (seek_none p x l)) ∙ e)
 seek_led (suc k) p x l r e = go (λ f. seek_led k p (up p x) (l + 1) r f) (dec_lt x max_sites) (ℕ_discrete (up p x) x)
   where
-    is : {t : Trail} → seek (suc k) p x l ≡ t → t.found ≡ At r
+    is : {t : Trail} → seek (suc k) p x l ≡ t → t.found ≡ Some r
     is q = sym (ap (λ (t : Trail). t.found) q) ∙ e
 
-    go : ((seek k p (up p x) (l + 1)).found ≡ At r → (m : ℕ) × Leads m p (up p x) r × ((seek k p (up p x) (l + 1)).links ≡ (l + 1) + m))
+    go : ((seek k p (up p x) (l + 1)).found ≡ Some r → (m : ℕ) × Leads m p (up p x) r × ((seek k p (up p x) (l + 1)).links ≡ (l + 1) + m))
         → Dec (x < max_sites) → Dec (up p x ≡ x) → (m : ℕ) × Leads m p x r × ((seek (suc k) p x l).links ≡ l + m)
     go ih (no d) b = never (is (seek_out p x (suc k) l (omega arith)))
     go ih (yes h) (yes o) =
@@ -47,7 +47,7 @@ seek_led (suc k) p x l r e = go (λ f. seek_led k p (up p x) (l + 1) r f) (dec_l
         let n = ap (λ (t : Trail). t.links) q in
         (suc i.0, (h, o, i.1), omega (arith, n, i.2))
 
-pub find_led : (p : List ℕ) (x r : ℕ) → (find_in p x).found ≡ At r → Leads (find_in p x).links p x r
+pub find_led : (p : List ℕ) (x r : ℕ) → (find_in p x).found ≡ Some r → Leads (find_in p x).links p x r
 unfolding find_in
 find_led p x r e =
     let i = seek_led max_sites p x 0 r e in
@@ -118,33 +118,33 @@ hung_up (y ∷ ys) p r z h = hung_up ys (set p y r) r z (rw (length-set p y r) h
     go (no d) true = simp (ne_eqb z y d)
     go (no d) false = simp (ne_eqb z y d) (get_or-set_other p y z r 0 d)
 
-pub flat_at : (p : List ℕ) (x r : ℕ) → (find_in p x).found ≡ At r → flat p x ≡ hung p (passed (find_in p x).links p x) r
+pub flat_at : (p : List ℕ) (x r : ℕ) → (find_in p x).found ≡ Some r → flat p x ≡ hung p (passed (find_in p x).links p x) r
 unfolding flat
 flat_at p x r e = ap (flat_to p x (find_in p x).links) e
 
-pub flat_none : (p : List ℕ) (x : ℕ) → (find_in p x).found ≡ Nothing → flat p x ≡ p
+pub flat_none : (p : List ℕ) (x : ℕ) → (find_in p x).found ≡ None → flat p x ≡ p
 unfolding flat
 flat_none p x e = ap (flat_to p x (find_in p x).links) e
 
 -- "every site it passed directly under the representative": a site that was passed has r as its parent, and any other the parent that it had
-pub flat_up : (p : List ℕ) (x r : ℕ) → (find_in p x).found ≡ At r → (z : ℕ) → z < length p
+pub flat_up : (p : List ℕ) (x r : ℕ) → (find_in p x).found ≡ Some r → (z : ℕ) → z < length p
     → up (flat p x) z ≡ (if has (passed (find_in p x).links p x) z then r else up p z)
 flat_up p x r e z h = ap (λ (q : List ℕ). up q z) (flat_at p x r e) ∙ hung_up (passed (find_in p x).links p x) p r z h
 
 -- ---- what the calls above rest on
 
 -- a number that is no site has no root
-pub update_out : (p : List ℕ) (x : ℕ) → max_sites ≤ x → flatten_in p x ≡ (p, Nothing)
+pub update_out : (p : List ℕ) (x : ℕ) → max_sites ≤ x → flatten_in p x ≡ (p, None)
 unfolding flatten_in flat
 update_out p x h = ap (λ (t : Trail). (flat_to p x t.links t.found, t.found)) (find_out p x h)
 
 -- nor has a site that was never joined
-pub update_none : (p : List ℕ) (x : ℕ) → x < max_sites → max_sites ≤ up p x → flatten_in p x ≡ (p, Nothing)
+pub update_none : (p : List ℕ) (x : ℕ) → x < max_sites → max_sites ≤ up p x → flatten_in p x ≡ (p, None)
 unfolding flatten_in flat
 update_none p x h g = ap (λ (t : Trail). (flat_to p x t.links t.found, t.found)) (find_none p x h g)
 
 -- a root that is answered is a site
-pub update_lt : (p : List ℕ) (x : ℕ) {r : ℕ} → (flatten_in p x).1 ≡ At r → r < max_sites
+pub update_lt : (p : List ℕ) (x : ℕ) {r : ℕ} → (flatten_in p x).1 ≡ Some r → r < max_sites
 unfolding flatten_in
 update_lt p x {r} e = (is_root (find_in p x).links p x r (find_led p x r e)).0
 
@@ -161,6 +161,6 @@ pub update_leaves : (p : List ℕ) (x z : ℕ) → max_sites ≤ up p z → up (
 unfolding flatten_in
 update_leaves p x z g = go (find_in p x).found refl
   where
-    go : (f : Found) → (find_in p x).found ≡ f → up (flat p x) z ≡ up p z
-    go (At r) e = ap (λ (q : List ℕ). up q z) (flat_at p x r e) ∙ hung_leaves (find_in p x).links p x r z (find_led p x r e) g
-    go Nothing e = ap (λ (q : List ℕ). up q z) (flat_none p x e)
+    go : (f : Maybe ℕ) → (find_in p x).found ≡ f → up (flat p x) z ≡ up p z
+    go (Some r) e = ap (λ (q : List ℕ). up q z) (flat_at p x r e) ∙ hung_leaves (find_in p x).links p x r z (find_led p x r e) g
+    go None e = ap (λ (q : List ℕ). up q z) (flat_none p x e)

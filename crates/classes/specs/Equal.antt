@@ -1,9 +1,9 @@
 -- The classes as an equivalence: sites with one representative (`rep`: a site of no class stands for itself). What a join and a removal do to it.
+use Rattle.std.specs.declared.option.Option.TheVariants.{Some}
 use Rattle.std.specs.Prelude.{◌≡◌, List, Bool, true, false, ◌||◌, ◌&&◌, not, ℕ, ◌+◌, ◌<◌, eqb, length}
 use Rattle.std.specs.Prelude.{if◌then◌else◌}
 use Rattle.paper.specs.Words.{keep, below, has}
 use Rattle.paper.specs.Numbers.{max_sites}
-use Rattle.paper.specs.declared.Found.TheVariants.{At}
 use Rattle.paper.specs.Classes.{Classes, Removed, up}
 use Rattle.classes.specs.Answers.{rep}
 use Rattle.classes.specs.Well.{WellMade, cnt, has_up, in_class, members, rep_of, dropped}
@@ -40,7 +40,7 @@ pub record TakesOut (c : Classes) (r : ℕ) (q : Removed) : Type 0 where
   pub size : length q.members ≡ members c.parents r
   pub leaves : (z : ℕ) → z < max_sites → has_up q.after.parents z ≡ (has_up c.parents z && not (has q.members z))
   -- 02 [2]: every site that is still joined hangs directly under its representative
-  pub direct : (z s : ℕ) → z < max_sites → rep_of q.after z ≡ At s → up q.after.parents z ≡ s
+  pub direct : (z s : ℕ) → z < max_sites → rep_of q.after z ≡ Some s → up q.after.parents z ≡ s
 
 -- The parts hold the classes that a function to a member gives: as paper's labels do, by their lowest members.
 pub record Holds (p : List ℕ) (f : ℕ → ℕ) : Type 0 where

@@ -3,3 +3,4 @@ pub mod Answers
 pub mod Well
 pub mod Equal
 pub mod Made
+pub mod Called

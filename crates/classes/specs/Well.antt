@@ -1,7 +1,7 @@
 -- What a well-made state is: what the calls make of the empty one (proofs/Laws.antt, `made_well`), and what the laws hold of.
+use Rattle.std.specs.declared.option.Option.TheVariants.{None, Some}
 use Rattle.std.specs.Prelude.{◌≡◌, List, Bool, true, false, ℕ, zero, suc, ◌+◌, ◌^◌, ◌≤◌, ◌<◌, get_or, length, ltb, eqb}
-use Rattle.paper.specs.declared.Found.{Found}
-use Rattle.paper.specs.declared.Found.TheVariants.{At, Nothing}
+use Rattle.paper.specs.Answered.{Maybe}
 use Rattle.std.specs.Prelude.{if◌then◌else◌}
 use Rattle.paper.specs.Numbers.{max_sites}
 use Rattle.paper.specs.Classes.{Classes, up, find_in, is_at}
@@ -26,7 +26,7 @@ cnt f (suc n) = bit (f n) + cnt f n
 
 -- z's root is r; z has a parent
 abbrev pub in_class : List ℕ → ℕ → ℕ → Bool
-in_class p r z = is_at (find_in p z).found (At r)
+in_class p r z = is_at (find_in p z).found (Some r)
 
 abbrev pub has_up : List ℕ → ℕ → Bool
 has_up p z = ltb (up p z) max_sites
@@ -55,23 +55,23 @@ abbrev pub WellMade : Classes → Type 0
 WellMade c = Well c.parents c.ranks c.count
 
 -- the representative of x's class, or nothing
-abbrev pub rep_of : Classes → ℕ → Found
+abbrev pub rep_of : Classes → ℕ → Maybe ℕ
 rep_of c x = (find_in c.parents x).found
 
 -- an answer after the root b went under the root a
-abbrev pub turned : ℕ → ℕ → Found → Found
-turned a b (At s) = At (if eqb s b then a else s)
-turned a b Nothing = Nothing
+abbrev pub turned : ℕ → ℕ → Maybe ℕ → Maybe ℕ
+turned a b (Some s) = Some (if eqb s b then a else s)
+turned a b None = None
 
 -- an answer at z after the site x, if it was in no class, became a class of its own
-abbrev pub alone_as : ℕ → ℕ → Found → Found
-alone_as x z (At s) = At s
-alone_as x z Nothing = if eqb z x then At x else Nothing
+abbrev pub alone_as : ℕ → ℕ → Maybe ℕ → Maybe ℕ
+alone_as x z (Some s) = Some s
+alone_as x z None = if eqb z x then Some x else None
 
 -- an answer after the class of the root r was taken out
-abbrev pub dropped : ℕ → Found → Found
-dropped r (At s) = if eqb s r then Nothing else At s
-dropped r Nothing = Nothing
+abbrev pub dropped : ℕ → Maybe ℕ → Maybe ℕ
+dropped r (Some s) = if eqb s r then None else Some s
+dropped r None = None
 
 -- of two roots the one that stays a root, and the one that goes under it
 abbrev pub winner : Classes → ℕ → ℕ → ℕ

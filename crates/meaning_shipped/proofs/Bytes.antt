@@ -1,4 +1,6 @@
 -- The shipped reader's own bytes and words, fed any bytes in any pieces: each line leaves them as calls do. The proofs.
+use Rattle.std.specs.declared.result.Result.TheVariants.{Err, Ok}
+use Rattle.std.specs.declared.option.Option.TheVariants.{None, Some}
 use Rattle.std.specs.Prelude.{◌≡◌, Bool, ◌&&◌, List, [], ◌∷◌, ℕ, zero, suc, ◌+◌, ◌-◌, ◌*◌, ◌≤◌, ◌<◌, min, length, get_or, take, drop, eqb, ltb, leb}
 use Rattle.std.proofs.Math.Path.{refl}
 use Rattle.std.proofs.Common.{sym, ap, ◌∙◌, ⊎_elim, arith, length-append, ltb-true, ltb-false}
@@ -10,8 +12,7 @@ use Rattle.paper.specs.declared.Item.TheVariants.{Is, Equal}
 use Rattle.paper.specs.declared.Refusal.{Refusal}
 use Rattle.paper.specs.declared.Refusal.TheVariants.{Layout, Repeated, TooManyRules}
 use Rattle.paper.specs.declared.Rule.{Rule}
-use Rattle.paper.specs.declared.Verdict.{Verdict}
-use Rattle.paper.specs.declared.Verdict.TheVariants as verdict
+use Rattle.paper.specs.Answered.{Verdict}
 use Rattle.std.specs.Prelude.{if◌then◌else◌}
 use Rattle.paper.specs.Numbers.{max_digits, max_rules, last_line, Outcome, done, refused}
 use Rattle.paper.specs.Sites.{Added}
@@ -45,8 +46,7 @@ use Rattle.sheet_reader.specs.declared.OpenSet.{OpenSet}
 use Rattle.sheet_reader.specs.declared.Reader.{Reader}
 use Rattle.sheet_reader.specs.declared.Stands.{Stands}
 use Rattle.sheet_reader.specs.declared.Stands.TheVariants.{Outside, Sites, Rules, Items}
-use Rattle.sheet_reader.specs.declared.Where.{Where}
-use Rattle.sheet_reader.specs.declared.Where.TheVariants.{In, Not}
+use Rattle.paper.specs.Answered.{Maybe}
 use Rattle.sheet_reader.proofs.Standing.{where_not}
 use Rattle.sheet_sites.specs.Numbers.{next_of}
 use Rattle.sheet_sites.specs.Leaves.{new_set, begin_judged, begin_in, one_site_more, site_numbered, site_where, site_in, site_line_in}
@@ -245,13 +245,13 @@ abbrev StaysIn : After → Type 0
 StaysIn o = StaysAt o.memory o.answer.reader.stands
 
 -- where a frame may stand, the set that it is for is made
-site_open : (t : Stands) (s : OpenSet) → site_set t ≡ In s → t ≡ Sites s
+site_open : (t : Stands) (s : OpenSet) → site_set t ≡ Some s → t ≡ Sites s
 site_open Outside s e = where_not (sym e)
 site_open (Sites g) s e = let z : g ≡ s = cc in ap Sites z
 site_open (Rules g) s e = where_not (sym e)
 site_open (Items g w n) s e = where_not (sym e)
 
-rule_open : (k : Lent) (t : Stands) (s : OpenSet) → rule_set t ≡ In s → StaysAt k t → InSet k.sites k.words s
+rule_open : (k : Lent) (t : Stands) (s : OpenSet) → rule_set t ≡ Some s → StaysAt k t → InSet k.sites k.words s
 rule_open k Outside s e M = where_not (sym e)
 rule_open k (Sites g) s e M = let z : g ≡ s = cc in rw z at M
 rule_open k (Rules g) s e M = let z : g ≡ s = cc in rw z at M
@@ -285,16 +285,16 @@ module _ (r : Reader) (room : List ℕ) (at : ℕ) where
   begin_stays k t f M = go (is_outside r.stands) (verdict_as (may_begin r.ended t r.line))
     where
       go : (b : Bool) (v : Verdict) → StaysIn (if b then begin_judged r k room at (new_set t f) v else stop_in r k room at (Layout r.line))
-      go true verdict.Fine = gone_stays k (Sites (new_set t f)) event.Begun at (started k.sites k.words)
-      go true (verdict.Refused why) = stop_stays k why M
+      go true (Ok _) = gone_stays k (Sites (new_set t f)) event.Begun at (started k.sites k.words)
+      go true (Err why) = stop_stays k why M
       go false v = stop_stays k (Layout r.line) M
 
   -- 02
-  added_stays : (k : Lent) (b : List ℕ) (s : OpenSet) → r.stands ≡ Sites s → InSet k.sites k.words s → StaysIn (site_where r k room at b (In s))
+  added_stays : (k : Lent) (b : List ℕ) (s : OpenSet) → r.stands ≡ Sites s → InSet k.sites k.words s → StaysIn (site_where r k room at b (Some s))
   added_stays k b s q M = go (added_in k.sites s.sites r.line b) refl
     where
       numbers : (a : Added) → added_in k.sites s.sites r.line b ≡ done a → (t : Bool) → ltb a.number s.sites ≡ t →
-          StaysIn (site_numbered r (with_added k s (done a)) room at s (if t then numbered.Known a.number else numbered.Fresh a.number))
+          StaysIn (site_numbered r (with_added k s (done a)) room at s (if t then (Ok (numbered.Known a.number)) else (Ok (numbered.Fresh a.number))))
       numbers a e true f =
           let c = (counted k.sites s.sites r.line b a e).was (ltb-true _ _ f) in
           let N : InSet (after_add k.sites s.sites (done a)) k.words s = rw c at (site-more r.line b a M e) in
@@ -313,9 +313,9 @@ module _ (r : Reader) (room : List ℕ) (at : ℕ) where
   unfolding site_in
   site_stays k b M = go (site_set r.stands) refl
     where
-      go : (v : Where) → site_set r.stands ≡ v → StaysIn (site_where r k room at b v)
-      go Not e = stop_stays k (Layout r.line) M
-      go (In s) e = let q = site_open r.stands s e in added_stays k b s q (rw q at M)
+      go : (v : Maybe OpenSet) → site_set r.stands ≡ v → StaysIn (site_where r k room at b v)
+      go None e = stop_stays k (Layout r.line) M
+      go (Some s) e = let q = site_open r.stands s e in added_stays k b s q (rw q at M)
 
   site_line_stays : (k : Lent) (l : List ℕ) → StaysAt k r.stands → StaysIn (site_line_in r k room at l)
   unfolding site_line_in
@@ -350,9 +350,9 @@ module _ (r : Reader) (room : List ℕ) (at : ℕ) where
       counts s N true = read_stays k s w N S
       counts s N false = gone_stays k (Items s w w.count) event.Item at (N, S)
 
-      go : (v : Where) → rule_set r.stands ≡ v → StaysIn (rule_where r k room at w v)
-      go Not e = stop_stays k (Layout r.line) M
-      go (In s) e = counts s (rule_open k r.stands s e M) (eqb w.count 0)
+      go : (v : Maybe OpenSet) → rule_set r.stands ≡ v → StaysIn (rule_where r k room at w v)
+      go None e = stop_stays k (Layout r.line) M
+      go (Some s) e = counts s (rule_open k r.stands s e M) (eqb w.count 0)
 
   -- 04 and 05
   item_stays : (k : Lent) (i : Item) → StaysAt k r.stands → StaysIn (item_in r k room at i)
@@ -374,9 +374,9 @@ module _ (r : Reader) (room : List ℕ) (at : ℕ) where
   unfolding end_in
   end_stays k M = go (rule_set r.stands)
     where
-      go : (v : Where) → StaysIn (end_where r k room at v)
-      go Not = stop_stays k (Layout r.line) M
-      go (In s) = tt
+      go : (v : Maybe OpenSet) → StaysIn (end_where r k room at v)
+      go None = stop_stays k (Layout r.line) M
+      go (Some s) = tt
 
   frame_stays : (k : Lent) (l : List ℕ) (f : Frame) → SmallFrame f → StaysAt k r.stands → StaysIn (frame_in r k room at l f)
   frame_stays k l (said.Begin t f) S M = begin_stays k t f M

@@ -11,6 +11,7 @@ use lib.ListN.{length, get_or}
 use lib.Dec.{leb}
 use borrow.Author.Tests.{leb-true, leb-false}
 use borrow.Author.Count.{below_more}
+use Rattle.std.specs.declared.option.Option.TheVariants.{None, Some}
 use Rattle.paper.specs.declared.Constraint.{Constraint}
 use Rattle.paper.specs.declared.Overlap.{Overlap}
 use Rattle.paper.specs.declared.Overlap.TheVariants.{Yes, Subset}
@@ -20,8 +21,7 @@ use Rattle.paper.specs.Sites.{same_constraint}
 use Rattle.paper.specs.Rules.{differ, other_there, no_equals, compare_with}
 use Rattle.paper.proofs.Lists.{or_true}
 use Rattle.rule_words.specs.Stored.{first_constrained, constrained_word, constrained_count, run, constraint_at, constrained_at, kept_at}
-use Rattle.overlap.specs.declared.Seen.{Seen}
-use Rattle.overlap.specs.declared.Seen.TheVariants.{Told, Unclear}
+use Rattle.paper.specs.Answered.{Maybe}
 use Rattle.overlap.specs.Rising.{Rising}
 use Rattle.overlap.specs.Equals.{subset_or_yes}
 use Rattle.overlap.proofs.WalkLaws.{look_hit, look_next, look_end, Walked, walked_none, walked_missing, walked_same}
@@ -30,10 +30,10 @@ use Rattle.overlap.proofs.AnswerLaws.{site_here, same_here, answer_part, answer_
 pub never : {A : Type 0} → false ≡ true → A
 never e = let z : ◌≡◌ {A = ℕ} 0 1 = cc in absurd (omega arith)
 
-pub told : (k o : Overlap) → Told k ≡ Told o → k ≡ o
+pub told : (k o : Overlap) → Some k ≡ Some o → k ≡ o
 told k o e = cc
 
-pub unclear : {A : Type 0} (o : Overlap) → Unclear ≡ Told o → A
+pub unclear : {A : Type 0} (o : Overlap) → None ≡ Some o → A
 unclear o e = let z : ◌≡◌ {A = ℕ} 0 1 = cc in absurd (omega arith)
 
 -- ---- numbers that ascend
@@ -238,7 +238,7 @@ module _ (ws : List ℕ) (a n b m : ℕ) (all : Bool) (last p q : ℕ) (w : Besi
         site : (k : ℕ) → w.y ≤ k → get_or ws (q + 4 * (k - w.y)) 0 ≡ (constrained_at ws b k).0
         site k g = site_here ws b k _ (omega (arith, w.at_q))
 
-    pub beside_ended : (s : Seen) → ((o : Overlap) → s ≡ Told o → all ≡ true → o ≡ subset_or_yes (kept_at ws a) (kept_at ws b)) → ((o : Overlap) → s ≡ Told o → all ≡ false → (o ≡ Yes) × Rising ws q (constrained_word b m) last) → (o : Overlap) → s ≡ Told o → o ≡ compare_with (kept_at ws a) (kept_at ws b)
+    pub beside_ended : (s : Maybe Overlap) → ((o : Overlap) → s ≡ Some o → all ≡ true → o ≡ subset_or_yes (kept_at ws a) (kept_at ws b)) → ((o : Overlap) → s ≡ Some o → all ≡ false → (o ≡ Yes) × Rising ws q (constrained_word b m) last) → (o : Overlap) → s ≡ Some o → o ≡ compare_with (kept_at ws a) (kept_at ws b)
     beside_ended s f g o e = go all refl
       where
         go : (t : Bool) → all ≡ t → o ≡ compare_with (kept_at ws a) (kept_at ws b)

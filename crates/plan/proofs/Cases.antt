@@ -3,10 +3,11 @@ use mathlib.Core.Path.{◌≡◌, refl}
 use mathlib.Core.List.{List, [], ◌∷◌}
 use Prim.Native.Nat.{ℕ}
 use mathlib.Core.Bool.{true}
+use Rattle.std.specs.declared.result.Result.TheVariants.{Err, Ok}
 use Rattle.paper.specs.declared.Constraint.TheVariants.{ConstBool, ConstInt, ConstPrim}
 use Rattle.paper.specs.Loading.{Kept, Set, Constraints}
 use Rattle.paper.specs.declared.Break.TheVariants.{Edge, Order}
-use Rattle.plan.specs.declared.Judged.TheVariants.{Accepted, Bad, WrongLength}
+use Rattle.plan.specs.declared.Fault.TheVariants.{Bad, WrongLength}
 use Rattle.plan.specs.Plans.{proposal, no_proposal, by_mask, by_sameness, check, plan, all_plans}
 
 abbrev of_rules : ℕ → List Kept → Set
@@ -23,7 +24,7 @@ pub three_plan : plan three ≡ proposal (0 ∷ 2 ∷ 1 ∷ [])
 unfolding all_plans
 three_plan = refl
 
-pub three_check : check three (0 ∷ 1 ∷ 1 ∷ []) ≡ Bad Edge 1 2
+pub three_check : check three (0 ∷ 1 ∷ 1 ∷ []) ≡ Err (Bad Edge 1 2)
 unfolding all_plans
 three_check = refl
 
@@ -38,22 +39,22 @@ unfolding all_plans
 same_plan = refl
 
 -- reading 1: 0 is 5 at 0, 0 is 6 at 1, both proposed 0
-pub reading_1 : check (of_rules 0 (a_rule 1 0 ((0, ConstPrim 5) ∷ []) ∷ a_rule 2 1 ((0, ConstPrim 6) ∷ []) ∷ [])) (0 ∷ 0 ∷ []) ≡ Bad Order 0 1
+pub reading_1 : check (of_rules 0 (a_rule 1 0 ((0, ConstPrim 5) ∷ []) ∷ a_rule 2 1 ((0, ConstPrim 6) ∷ []) ∷ [])) (0 ∷ 0 ∷ []) ≡ Err (Bad Order 0 1)
 unfolding all_plans
 reading_1 = refl
 
 -- reading 2: the bad pairs are the first and the fourth, the second and the third
-pub reading_2 : check (of_rules 0 (a_rule 4 0 ((0, ConstPrim 5) ∷ []) ∷ a_rule 3 0 ((0, ConstPrim 6) ∷ []) ∷ a_rule 2 0 ((0, ConstPrim 6) ∷ []) ∷ a_rule 1 0 ((0, ConstPrim 5) ∷ []) ∷ [])) (0 ∷ 0 ∷ 0 ∷ 0 ∷ []) ≡ Bad Edge 0 3
+pub reading_2 : check (of_rules 0 (a_rule 4 0 ((0, ConstPrim 5) ∷ []) ∷ a_rule 3 0 ((0, ConstPrim 6) ∷ []) ∷ a_rule 2 0 ((0, ConstPrim 6) ∷ []) ∷ a_rule 1 0 ((0, ConstPrim 5) ∷ []) ∷ [])) (0 ∷ 0 ∷ 0 ∷ 0 ∷ []) ≡ Err (Bad Edge 0 3)
 unfolding all_plans
 reading_2 = refl
 
 -- reading 3: no items at 0, 0 is 5 at 1, both proposed 0: an edge before an order
-pub reading_3 : check (of_rules 0 (a_rule 1 0 [] ∷ a_rule 2 1 ((0, ConstPrim 5) ∷ []) ∷ [])) (0 ∷ 0 ∷ []) ≡ Bad Edge 0 1
+pub reading_3 : check (of_rules 0 (a_rule 1 0 [] ∷ a_rule 2 1 ((0, ConstPrim 5) ∷ []) ∷ [])) (0 ∷ 0 ∷ []) ≡ Err (Bad Edge 0 1)
 unfolding all_plans
 reading_3 = refl
 
 -- reading 4: a multi term, one kept rule, two priorities
-pub reading_4 : check (of_rules 1 (a_rule 1 0 [] ∷ [])) (0 ∷ 0 ∷ []) ≡ WrongLength 2
+pub reading_4 : check (of_rules 1 (a_rule 1 0 [] ∷ [])) (0 ∷ 0 ∷ []) ≡ Err (WrongLength 2)
 unfolding all_plans
 reading_4 = refl
 
@@ -73,7 +74,7 @@ unfolding all_plans
 negative = refl
 
 -- reading 9: a set without rules
-pub reading_9 : check (of_rules 0 []) [] ≡ Accepted
+pub reading_9 : check (of_rules 0 []) [] ≡ Ok tt
 unfolding all_plans
 reading_9 = refl
 

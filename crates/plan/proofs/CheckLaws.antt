@@ -10,6 +10,7 @@ use native.Mathlib.Decide.{ℕ_discrete}
 use lib.ListN.{length, get_or}
 use lib.Dec.{eqb, ltb, leb}
 use borrow.Author.Tests.{eq-eqb, ne_eqb, lt-ltb, le-ltb}
+use Rattle.std.specs.declared.result.Result.TheVariants.{Err, Ok}
 use Rattle.paper.specs.declared.Overlap.{Overlap}
 use Rattle.std.specs.Prelude.{if◌then◌else◌}
 use Rattle.paper.specs.Words.{or_else}
@@ -17,8 +18,8 @@ use Rattle.paper.specs.Loading.{Kept, Set}
 use Rattle.paper.specs.Rules.{may_overlap, total, rank, is_yes_told, is_subset_told, edge, masks, is_multi, no_rule}
 use Rattle.rule_words.specs.Stored.{run, base, kept_at, kept_in, kept_first}
 use Rattle.paper.specs.declared.Break.TheVariants.{Edge, Mask, Order}
-use Rattle.plan.specs.declared.Judged.{Judged}
-use Rattle.plan.specs.declared.Judged.TheVariants.{Accepted, Bad, WrongLength}
+use Rattle.plan.specs.Answered.{Judged}
+use Rattle.plan.specs.declared.Fault.TheVariants.{Bad, WrongLength}
 use Rattle.paper.specs.Priorities.{proposed, rule, level}
 use Rattle.plan.specs.Plans.{has_edge, has_mask, loses_order, broken, told, first_of, bad_pair, first_bad, check}
 use Rattle.plan.specs.Lent.{set_in, under, is_refused}
@@ -184,17 +185,17 @@ module _ (g h : Set) (i j : ℕ) (l : i < j) where
   unfolding bad_pair broken
   pair_as = let q = lt-ltb i j l in rw q refl
 
-  pub pair_edge : (a : Bool) → a ≡ has_edge h i j → a ≡ true → Bad Edge i j ≡ or_else (bad_pair g h i j) Accepted
-  pair_edge a p x = let s = sym p ∙ x in sym (ap (λ o. or_else o Accepted) pair_as ∙ rw s refl)
+  pub pair_edge : (a : Bool) → a ≡ has_edge h i j → a ≡ true → (Err (Bad Edge i j)) ≡ or_else (bad_pair g h i j) (Ok tt)
+  pair_edge a p x = let s = sym p ∙ x in sym (ap (λ o. or_else o (Ok tt)) pair_as ∙ rw s refl)
 
-  pub pair_mask : (a b : Bool) → a ≡ has_edge h i j → a ≡ false → b ≡ has_mask h i j → b ≡ true → Bad Mask i j ≡ or_else (bad_pair g h i j) Accepted
-  pair_mask a b p x q y = let s = sym p ∙ x in let t = sym q ∙ y in sym (ap (λ o. or_else o Accepted) pair_as ∙ rw (s, t) refl)
+  pub pair_mask : (a b : Bool) → a ≡ has_edge h i j → a ≡ false → b ≡ has_mask h i j → b ≡ true → (Err (Bad Mask i j)) ≡ or_else (bad_pair g h i j) (Ok tt)
+  pair_mask a b p x q y = let s = sym p ∙ x in let t = sym q ∙ y in sym (ap (λ o. or_else o (Ok tt)) pair_as ∙ rw (s, t) refl)
 
-  pub pair_order : (a b c : Bool) → a ≡ has_edge h i j → a ≡ false → b ≡ has_mask h i j → b ≡ false → c ≡ loses_order g h i j → c ≡ true → Bad Order i j ≡ or_else (bad_pair g h i j) Accepted
-  pair_order a b c p x q y r z = let s = sym p ∙ x in let t = sym q ∙ y in let u = sym r ∙ z in sym (ap (λ o. or_else o Accepted) pair_as ∙ rw (s, t, u) refl)
+  pub pair_order : (a b c : Bool) → a ≡ has_edge h i j → a ≡ false → b ≡ has_mask h i j → b ≡ false → c ≡ loses_order g h i j → c ≡ true → (Err (Bad Order i j)) ≡ or_else (bad_pair g h i j) (Ok tt)
+  pair_order a b c p x q y r z = let s = sym p ∙ x in let t = sym q ∙ y in let u = sym r ∙ z in sym (ap (λ o. or_else o (Ok tt)) pair_as ∙ rw (s, t, u) refl)
 
-  pub pair_fine : (a b c : Bool) → a ≡ has_edge h i j → a ≡ false → b ≡ has_mask h i j → b ≡ false → c ≡ loses_order g h i j → c ≡ false → Accepted ≡ or_else (bad_pair g h i j) Accepted
-  pair_fine a b c p x q y r z = let s = sym p ∙ x in let t = sym q ∙ y in let u = sym r ∙ z in sym (ap (λ o. or_else o Accepted) pair_as ∙ rw (s, t, u) refl)
+  pub pair_fine : (a b c : Bool) → a ≡ has_edge h i j → a ≡ false → b ≡ has_mask h i j → b ≡ false → c ≡ loses_order g h i j → c ≡ false → (Ok tt) ≡ or_else (bad_pair g h i j) (Ok tt)
+  pair_fine a b c p x q y r z = let s = sym p ∙ x in let t = sym q ∙ y in let u = sym r ∙ z in sym (ap (λ o. or_else o (Ok tt)) pair_as ∙ rw (s, t, u) refl)
 
 -- ---- the first of many
 
@@ -208,12 +209,12 @@ pub row_tells : (g h : Set) (n : ℕ) → Tells (λ i. first_of n (bad_pair g h 
 row_tells g h n k v e = let w = some_of n (bad_pair g h k) v e in pair_tells g h k w.0 v w.2
 
 module _ (f : ℕ → Option Judged) (T : Tells f) where
-  pub first_on : (k : ℕ) (v : Judged) (t : Bool) → v ≡ or_else (f k) Accepted → t ≡ is_refused v → t ≡ false → first_of k f ≡ none → first_of (k + 1) f ≡ none
+  pub first_on : (k : ℕ) (v : Judged) (t : Bool) → v ≡ or_else (f k) (Ok tt) → t ≡ is_refused v → t ≡ false → first_of k f ≡ none → first_of (k + 1) f ≡ none
   first_on k v t e p x o = let z = add-one k in rw z (of_none (suc k) f (λ m l. at m l (either m l)))
     where
       here : (q : Option Judged) → f k ≡ q → f k ≡ none
       here none r = r
-      here (some u) r = let y : v ≡ u = e ∙ ap (λ q. or_else q Accepted) r in absurd (apart (rw y (T k u r)) (sym p ∙ x))
+      here (some u) r = let y : v ≡ u = e ∙ ap (λ q. or_else q (Ok tt)) r in absurd (apart (rw y (T k u r)) (sym p ∙ x))
 
       either : (m : ℕ) → m < suc k → Dec (m ≡ k)
       either m l = ℕ_discrete m k
@@ -222,14 +223,14 @@ module _ (f : ℕ → Option Judged) (T : Tells f) where
       at m l (yes q) = ap f q ∙ here (f k) refl
       at m l (no q) = none_of k f o m (omega arith)
 
-  pub first_here : (n k : ℕ) (v : Judged) (t : Bool) → k < n → v ≡ or_else (f k) Accepted → t ≡ is_refused v → t ≡ true → first_of k f ≡ none → v ≡ or_else (first_of n f) Accepted
+  pub first_here : (n k : ℕ) (v : Judged) (t : Bool) → k < n → v ≡ or_else (f k) (Ok tt) → t ≡ is_refused v → t ≡ true → first_of k f ≡ none → v ≡ or_else (first_of n f) (Ok tt)
   first_here n k v t l e p x o = go (f k) refl
     where
-      go : (q : Option Judged) → f k ≡ q → v ≡ or_else (first_of n f) Accepted
-      go none r = let y : v ≡ Accepted = e ∙ ap (λ q. or_else q Accepted) r in let z : is_refused v ≡ false = rw y refl in absurd (apart x (p ∙ z))
-      go (some u) r = let y : v ≡ u = e ∙ ap (λ q. or_else q Accepted) r in let s = of_some n f k u l r (none_of k f o) in y ∙ rw s refl
+      go : (q : Option Judged) → f k ≡ q → v ≡ or_else (first_of n f) (Ok tt)
+      go none r = let y : v ≡ (Ok tt) = e ∙ ap (λ q. or_else q (Ok tt)) r in let z : is_refused v ≡ false = rw y refl in absurd (apart x (p ∙ z))
+      go (some u) r = let y : v ≡ u = e ∙ ap (λ q. or_else q (Ok tt)) r in let s = of_some n f k u l r (none_of k f o) in y ∙ rw s refl
 
-  pub first_end : (n k : ℕ) → k ≤ n → n ≤ k → first_of k f ≡ none → Accepted ≡ or_else (first_of n f) Accepted
+  pub first_end : (n k : ℕ) → k ≤ n → n ≤ k → first_of k f ≡ none → (Ok tt) ≡ or_else (first_of n f) (Ok tt)
   first_end n k l m o = let q : k ≡ n = omega arith in let s : first_of n f ≡ none = rw q at o in rw s refl
 
 pub row_start : (g h : Set) (i : ℕ) → first_of (i + 1) (bad_pair g h i) ≡ none
@@ -242,10 +243,10 @@ rows_start f = refl
 
 -- ---- the check
 
-pub check_other : (ws : List ℕ) (n flags : ℕ) (ps : List ℕ) → (length ps ≡ n → ⊥) → WrongLength (length ps) ≡ check (set_in ws n flags) ps
+pub check_other : (ws : List ℕ) (n flags : ℕ) (ps : List ℕ) → (length ps ≡ n → ⊥) → (Err (WrongLength (length ps))) ≡ check (set_in ws n flags) ps
 unfolding check
 check_other ws n flags ps d = let q = ne_eqb (length ps) (length (set_in ws n flags).kept) (λ e. d (e ∙ set_length ws n flags)) in rw q refl
 
-pub check_as : (ws : List ℕ) (n flags : ℕ) (ps : List ℕ) → length ps ≡ n → or_else (first_of n (λ i. first_of n (bad_pair (set_in ws n flags) (under ws n flags ps) i))) Accepted ≡ check (set_in ws n flags) ps
+pub check_as : (ws : List ℕ) (n flags : ℕ) (ps : List ℕ) → length ps ≡ n → or_else (first_of n (λ i. first_of n (bad_pair (set_in ws n flags) (under ws n flags ps) i))) (Ok tt) ≡ check (set_in ws n flags) ps
 unfolding check first_bad
 check_as ws n flags ps e = let s = set_length ws n flags in let q = eq-eqb (length ps) (length (set_in ws n flags).kept) (e ∙ sym s) in rw (q, s) refl

@@ -9,6 +9,7 @@ use native.Mathlib.Omega.{arith}
 use lib.ListN.{length}
 use lib.Dec.{ltb, leb}
 use borrow.Author.Tests.{ltb-true, ltb-false, leb-true, lt-ltb, le-leb, eq-eqb, ne_eqb, not-true}
+use Rattle.std.specs.declared.result.Result.TheVariants.{Err, Ok}
 use Rattle.std.specs.Prelude.{if◌then◌else◌}
 use Rattle.paper.specs.Words.{or_else, zip}
 use Rattle.paper.proofs.Labels.{never}
@@ -17,8 +18,8 @@ use native.Mathlib.Decide.{ℕ_discrete}
 use Rattle.paper.specs.Rules.{is_multi, rank, edge, masks}
 use Rattle.paper.specs.declared.Break.{Break}
 use Rattle.paper.specs.declared.Break.TheVariants.{Edge, Mask, Order}
-use Rattle.plan.specs.declared.Judged.{Judged}
-use Rattle.plan.specs.declared.Judged.TheVariants.{Accepted, Bad, WrongLength}
+use Rattle.plan.specs.Answered.{Judged}
+use Rattle.plan.specs.declared.Fault.TheVariants.{Bad, WrongLength}
 use Rattle.paper.specs.Priorities.{with_priority, proposed, rule, level, Passes, Breaks, nth, FirstBad}
 use Rattle.plan.specs.Plans.{has_edge, has_mask, loses_order, broken, told, first_of, bad_pair, first_bad, check}
 use Rattle.plan.proofs.Tools.{apart, either, is_false, and_true, true_and, and_not, or_true, true_or, or_so, none_of, of_none, some_of, of_some}
@@ -149,9 +150,9 @@ told_none : (i j : ℕ) (o : Option Break) → told i j o ≡ none → o ≡ non
 told_none i j none e = refl
 told_none i j (some b) e = absurd (never (sym e))
 
-told_some : (i j : ℕ) (o : Option Break) (v : Judged) → told i j o ≡ some v → (b : Break) × (o ≡ some b) × (v ≡ Bad b i j)
+told_some : (i j : ℕ) (o : Option Break) (v : Judged) → told i j o ≡ some v → (b : Break) × (o ≡ some b) × (v ≡ Err (Bad b i j))
 told_some i j none v e = absurd (never e)
-told_some i j (some b) v e = (b, refl, (let q : v ≡ Bad b i j = cc in q))
+told_some i j (some b) v e = (b, refl, (let q : v ≡ (Err (Bad b i j)) = cc in q))
 
 pair_none : (g h : Set) (i j : ℕ) → bad_pair g h i j ≡ none → i < j → (b : Break) → Breaks g h b i j → ⊥
 unfolding bad_pair
@@ -165,15 +166,15 @@ none_pair g h i j f = go (either (ltb i j))
     go (inl e) = let q = none_broken g h i j (f (ltb-true i j e)) in rw (e, q) refl
     go (inr e) = rw e refl
 
-pub pair_some : (g h : Set) (i j : ℕ) (v : Judged) → bad_pair g h i j ≡ some v → (b : Break) × (v ≡ Bad b i j) × (i < j) × (broken g h i j ≡ some b)
+pub pair_some : (g h : Set) (i j : ℕ) (v : Judged) → bad_pair g h i j ≡ some v → (b : Break) × (v ≡ Err (Bad b i j)) × (i < j) × (broken g h i j ≡ some b)
 unfolding bad_pair
 pair_some g h i j v e = go (either (ltb i j))
   where
-    go : (ltb i j ≡ true) ⊎ (ltb i j ≡ false) → (b : Break) × (v ≡ Bad b i j) × (i < j) × (broken g h i j ≡ some b)
+    go : (ltb i j ≡ true) ⊎ (ltb i j ≡ false) → (b : Break) × (v ≡ Err (Bad b i j)) × (i < j) × (broken g h i j ≡ some b)
     go (inl q) = let f : told i j (broken g h i j) ≡ some v = rw q at e in let w = told_some i j (broken g h i j) v f in (w.0, w.2, ltb-true i j q, w.1)
     go (inr q) = let f : none ≡ some v = rw q at e in absurd (never f)
 
-some_pair : (g h : Set) (i j : ℕ) (b : Break) → i < j → broken g h i j ≡ some b → bad_pair g h i j ≡ some (Bad b i j)
+some_pair : (g h : Set) (i j : ℕ) (b : Break) → i < j → broken g h i j ≡ some b → bad_pair g h i j ≡ some (Err (Bad b i j))
 unfolding bad_pair
 some_pair g h i j b l e = let q = lt-ltb i j l in rw (q, e) refl
 
@@ -192,7 +193,7 @@ bad_none g h = (
     row : ℕ → Option Judged
     row i = first_of n (bad_pair g h i)
 
-pub bad_some : (g h : Set) (v : Judged) → first_bad g h ≡ some v → (b : Break) × (i : ℕ) × (j : ℕ) × (v ≡ Bad b i j) × FirstBad g h b i j
+pub bad_some : (g h : Set) (v : Judged) → first_bad g h ≡ some v → (b : Break) × (i : ℕ) × (j : ℕ) × (v ≡ Err (Bad b i j)) × FirstBad g h b i j
 unfolding first_bad
 bad_some g h v e =
     let r = some_of n row v e in
@@ -211,13 +212,13 @@ bad_some g h v e =
     sooner i j f k x y l m (inl o) = pair_none g h x y (none_of n (bad_pair g h x) (f x o) y m) l
     sooner i j f k x y l m (inr o) = pair_none g h x y (let q = k y o.1 in ap (λ z. bad_pair g h z y) o.0 ∙ q) l
 
-pub some_bad : (g h : Set) (b : Break) (i j : ℕ) → FirstBad g h b i j → first_bad g h ≡ some (Bad b i j)
+pub some_bad : (g h : Set) (b : Break) (i j : ℕ) → FirstBad g h b i j → first_bad g h ≡ some (Err (Bad b i j))
 unfolding first_bad
 some_bad g h b i j F =
     let l = F.in_order in
     let k = F.inside in
-    of_some n row i (Bad b i j) (omega arith)
-    (of_some n (bad_pair g h i) j (Bad b i j) F.inside (some_pair g h i j b F.in_order (some_broken g h i j b F.breaks F.first_break))
+    of_some n row i (Err (Bad b i j)) (omega arith)
+    (of_some n (bad_pair g h i) j (Err (Bad b i j)) F.inside (some_pair g h i j b F.in_order (some_broken g h i j b F.breaks F.first_break))
     (λ m o. none_pair g h i m (λ q. F.first_pair i m q (omega arith) (inr (refl, o)))))
     (λ m o. of_none n (bad_pair g h m) (λ y p. none_pair g h m y (λ q. F.first_pair m y q p (inl o))))
   where
@@ -229,15 +230,15 @@ some_bad g h b i j F =
 
 -- ---- the verdict
 
-told_first : (o : Option Judged) → ((v : Judged) → o ≡ some v → (b : Break) × (i : ℕ) × (j : ℕ) × (v ≡ Bad b i j)) → or_else o Accepted ≡ Accepted → o ≡ none
+told_first : (o : Option Judged) → ((v : Judged) → o ≡ some v → (b : Break) × (i : ℕ) × (j : ℕ) × (v ≡ Err (Bad b i j))) → or_else o (Ok tt) ≡ Ok tt → o ≡ none
 told_first none f e = refl
-told_first (some v) f e = let w = f v refl in let q = w.3 in let z : Bad w.0 w.1 w.2 ≡ Accepted = sym q ∙ e in let y : ◌≡◌ {A = ℕ} 0 1 = cc in absurd (omega arith)
+told_first (some v) f e = let w = f v refl in let q = w.3 in let z : (Err (Bad w.0 w.1 w.2)) ≡ (Ok tt) = sym q ∙ e in let y : ◌≡◌ {A = ℕ} 0 1 = cc in absurd (omega arith)
 
-check_right : (g : Set) (p : List ℕ) → length p ≡ length g.kept → check g p ≡ or_else (first_bad g (proposed g p)) Accepted
+check_right : (g : Set) (p : List ℕ) → length p ≡ length g.kept → check g p ≡ or_else (first_bad g (proposed g p)) (Ok tt)
 unfolding check
 check_right g p e = let q = eq-eqb (length p) (length g.kept) e in rw q refl
 
-check_wrong : (g : Set) (p : List ℕ) → (length p ≡ length g.kept → ⊥) → check g p ≡ WrongLength (length p)
+check_wrong : (g : Set) (p : List ℕ) → (length p ≡ length g.kept → ⊥) → check g p ≡ Err (WrongLength (length p))
 unfolding check
 check_wrong g p f = let q = ne_eqb (length p) (length g.kept) f in rw q refl
 
@@ -311,24 +312,24 @@ passes_fine g p P i j l k Mask w = go w.1
 passes_fine g p P i j l k Order (inl w) = let a = P.keeps_order i j (omega arith) k w.0 in let b = w.1 in omega arith
 passes_fine g p P i j l k Order (inr w) = let a = P.keeps_order j i k (omega arith) w.0 in let b = w.1 in omega arith
 
-pub check_passes : (g : Set) (p : List ℕ) → (check g p ≡ Accepted) ↔ Passes g p
+pub check_passes : (g : Set) (p : List ℕ) → (check g p ≡ Ok tt) ↔ Passes g p
 check_passes g p = (λ e. into (ℕ_discrete (length p) (length g.kept)) e, λ P. check_right g p P.right_length ∙ (let q = (bad_none g (proposed g p)).1 (passes_fine g p P) in rw q refl))
   where
-    bad_is : (v : Judged) → first_bad g (proposed g p) ≡ some v → (b : Break) × (i : ℕ) × (j : ℕ) × (v ≡ Bad b i j)
+    bad_is : (v : Judged) → first_bad g (proposed g p) ≡ some v → (b : Break) × (i : ℕ) × (j : ℕ) × (v ≡ Err (Bad b i j))
     bad_is v e = let w = bad_some g (proposed g p) v e in (w.0, w.1, w.2, w.3)
 
-    into : Dec (length p ≡ length g.kept) → check g p ≡ Accepted → Passes g p
+    into : Dec (length p ≡ length g.kept) → check g p ≡ Ok tt → Passes g p
     into (yes q) e = fine_passes g p q ((bad_none g (proposed g p)).0 (told_first (first_bad g (proposed g p)) bad_is (sym (check_right g p q) ∙ e)))
-    into (no q) e = let z : WrongLength (length p) ≡ Accepted = sym (check_wrong g p q) ∙ e in let y : ◌≡◌ {A = ℕ} 0 1 = cc in absurd (omega arith)
+    into (no q) e = let z : (Err (WrongLength (length p))) ≡ (Ok tt) = sym (check_wrong g p q) ∙ e in let y : ◌≡◌ {A = ℕ} 0 1 = cc in absurd (omega arith)
 
-pub check_first : (g : Set) (p : List ℕ) (b : Break) (i j : ℕ) → (check g p ≡ Bad b i j) ↔ ((length p ≡ length g.kept) × FirstBad g (proposed g p) b i j)
+pub check_first : (g : Set) (p : List ℕ) (b : Break) (i j : ℕ) → (check g p ≡ Err (Bad b i j)) ↔ ((length p ≡ length g.kept) × FirstBad g (proposed g p) b i j)
 check_first g p b i j = (λ e. into (ℕ_discrete (length p) (length g.kept)) e, λ F. check_right g p F.0 ∙ (let q = some_bad g (proposed g p) b i j F.1 in rw q refl))
   where
-    first_is : (o : Option Judged) → first_bad g (proposed g p) ≡ o → or_else o Accepted ≡ Bad b i j → FirstBad g (proposed g p) b i j
+    first_is : (o : Option Judged) → first_bad g (proposed g p) ≡ o → or_else o (Ok tt) ≡ Err (Bad b i j) → FirstBad g (proposed g p) b i j
     first_is none q e = let y : ◌≡◌ {A = ℕ} 0 1 = cc in absurd (omega arith)
     first_is (some v) q e =
         let w = bad_some g (proposed g p) v q in
-        let z : Bad w.0 w.1 w.2 ≡ Bad b i j = sym w.3 ∙ e in
+        let z : (Err (Bad w.0 w.1 w.2)) ≡ (Err (Bad b i j)) = sym w.3 ∙ e in
         let zb : w.0 ≡ b = cc in
         let zi : w.1 ≡ i = cc in
         let zj : w.2 ≡ j = cc in
@@ -337,21 +338,21 @@ check_first g p b i j = (λ e. into (ℕ_discrete (length p) (length g.kept)) e,
         moved : (c : Break) (x y : ℕ) → c ≡ b → x ≡ i → y ≡ j → FirstBad g (proposed g p) c x y → FirstBad g (proposed g p) b i j
         moved c x y r s t F = rw (← r, ← s, ← t) F
 
-    into : Dec (length p ≡ length g.kept) → check g p ≡ Bad b i j → (length p ≡ length g.kept) × FirstBad g (proposed g p) b i j
+    into : Dec (length p ≡ length g.kept) → check g p ≡ Err (Bad b i j) → (length p ≡ length g.kept) × FirstBad g (proposed g p) b i j
     into (yes q) e = (q, first_is (first_bad g (proposed g p)) refl (sym (check_right g p q) ∙ e))
-    into (no q) e = let z : WrongLength (length p) ≡ Bad b i j = sym (check_wrong g p q) ∙ e in let y : ◌≡◌ {A = ℕ} 0 1 = cc in absurd (omega arith)
+    into (no q) e = let z : (Err (WrongLength (length p))) ≡ (Err (Bad b i j)) = sym (check_wrong g p q) ∙ e in let y : ◌≡◌ {A = ℕ} 0 1 = cc in absurd (omega arith)
 
-pub check_length : (g : Set) (p : List ℕ) (n : ℕ) → (check g p ≡ WrongLength n) ↔ ((n ≡ length p) × (length p ≡ length g.kept → ⊥))
-check_length g p n = (λ e. into (ℕ_discrete (length p) (length g.kept)) e, λ w. check_wrong g p w.1 ∙ ap WrongLength (sym w.0))
+pub check_length : (g : Set) (p : List ℕ) (n : ℕ) → (check g p ≡ Err (WrongLength n)) ↔ ((n ≡ length p) × (length p ≡ length g.kept → ⊥))
+check_length g p n = (λ e. into (ℕ_discrete (length p) (length g.kept)) e, λ w. check_wrong g p w.1 ∙ ap (Err (WrongLength (sym w.0))))
   where
-    never_so : (o : Option Judged) → first_bad g (proposed g p) ≡ o → or_else o Accepted ≡ WrongLength n → ⊥
+    never_so : (o : Option Judged) → first_bad g (proposed g p) ≡ o → or_else o (Ok tt) ≡ Err (WrongLength n) → ⊥
     never_so none q e = let y : ◌≡◌ {A = ℕ} 0 1 = cc in omega arith
     never_so (some v) q e =
         let w = bad_some g (proposed g p) v q in
-        let z : Bad w.0 w.1 w.2 ≡ WrongLength n = sym w.3 ∙ e in
+        let z : (Err (Bad w.0 w.1 w.2)) ≡ (Err (WrongLength n)) = sym w.3 ∙ e in
         let y : ◌≡◌ {A = ℕ} 0 1 = cc in
         omega arith
 
-    into : Dec (length p ≡ length g.kept) → check g p ≡ WrongLength n → (n ≡ length p) × (length p ≡ length g.kept → ⊥)
+    into : Dec (length p ≡ length g.kept) → check g p ≡ Err (WrongLength n) → (n ≡ length p) × (length p ≡ length g.kept → ⊥)
     into (yes q) e = absurd (never_so (first_bad g (proposed g p)) refl (sym (check_right g p q) ∙ e))
-    into (no q) e = let z : WrongLength (length p) ≡ WrongLength n = sym (check_wrong g p q) ∙ e in let y : n ≡ length p = cc in (y, q)
+    into (no q) e = let z : (Err (WrongLength (length p))) ≡ (Err (WrongLength n)) = sym (check_wrong g p q) ∙ e in let y : n ≡ length p = cc in (y, q)

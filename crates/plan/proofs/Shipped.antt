@@ -10,12 +10,12 @@ use native.Mathlib.Omega.{arith}
 use lib.ListN.{length, take, drop}
 use lib.Seq.{take_at}
 use borrow.Author.Tests.{le-ltb}
+use Rattle.std.specs.declared.result.Result.TheVariants.{Err, Ok}
 use Rattle.paper.specs.Numbers.{max_rules}
 use Rattle.paper.specs.Loading.{Set}
 use Rattle.paper.specs.Rules.{report}
 use Rattle.paper.specs.Priorities.{Proposable, proposed, old_priorities, Passes, Mends}
-use Rattle.plan.specs.declared.Judged.TheVariants.{Accepted}
-use Rattle.plan.specs.declared.Planned.TheVariants.{Proposed, Nothing}
+use Rattle.plan.specs.declared.Unplanned.TheVariants.{Nothing}
 use Rattle.plan.specs.declared.Hurdle.TheVariants.{Free}
 use Rattle.plan.specs.Plans.{check, Obstacle, by_mask, by_sameness, obstacle, Obstructed, obstructed, Plan, proposal, no_proposal, plan}
 use Rattle.plan.specs.Lent.{hurdle, plan_answer, plan_over, planned, proposal_after}
@@ -32,14 +32,14 @@ module _ (g : Set) (R : Ready g) (m : List ℕ) (room : length g.kept ≤ length
   unfolding proposal_after
   after_so = let t = le-ltb max_rules (length g.kept) R.few in let u = le-ltb (length m) (length g.kept) room in rw (t, u) refl
 
-  apart_answers : Nothing ≡ Proposed → ⊥
+  apart_answers : (Err Nothing) ≡ Ok tt → ⊥
   apart_answers e = let z : ◌≡◌ {A = ℕ} 0 1 = cc in absurd (omega arith)
 
   -- what the lent words hold of a proposal
   pub written : (p : List ℕ) → plan g ≡ proposal p → length p ≡ length g.kept → take (length g.kept) (proposal_after g m) ≡ p
   written p e l = ap (take (length g.kept)) (after_so ∙ ap (λ a. plan_over a m) e) ∙ take_at p (drop (length p) m) (length g.kept) l
 
-  of_proposed : planned g m ≡ Proposed → (p : List ℕ) × (plan g ≡ proposal p)
+  of_proposed : planned g m ≡ Ok tt → (p : List ℕ) × (plan g ≡ proposal p)
   of_proposed e = go (plan g) refl
     where
       go : (a : Plan) → plan g ≡ a → (p : List ℕ) × (plan g ≡ proposal p)
@@ -47,8 +47,8 @@ module _ (g : Set) (R : Ready g) (m : List ℕ) (room : length g.kept ≤ length
       go (no_proposal os) q = absurd (apart_answers (sym (ap plan_answer q) ∙ (sym planned_so ∙ e)))
 
   -- "The planner gives a proposal that passes,": the check accepts it
-  pub proposed_passes : planned g m ≡ Proposed →
-      let p = take (length g.kept) (proposal_after g m) in Proposable p × Passes g p × (check g p ≡ Accepted) × (report (proposed g p) ≡ [])
+  pub proposed_passes : planned g m ≡ Ok tt →
+      let p = take (length g.kept) (proposal_after g m) in Proposable p × Passes g p × (check g p ≡ Ok tt) × (report (proposed g p) ≡ [])
   proposed_passes e =
       let w = of_proposed e in
       let v = plan_passes g R w.0 w.1 in
@@ -57,10 +57,10 @@ module _ (g : Set) (R : Ready g) (m : List ℕ) (room : length g.kept ≤ length
       rw q (v.0, v.1, a, ((accepted_by_report g R w.0).0 a).1)
 
   -- "and says that there is none exactly when no proposal passes."
-  pub nothing_exactly : (planned g m ≡ Nothing) ↔ ((p : List ℕ) → Proposable p → Passes g p → ⊥)
+  pub nothing_exactly : (planned g m ≡ Err Nothing) ↔ ((p : List ℕ) → Proposable p → Passes g p → ⊥)
   nothing_exactly = (λ e. (none_exactly g R).0 (of_nothing e), λ f. let w = (none_exactly g R).1 f in planned_so ∙ ap plan_answer w.1)
     where
-      of_nothing : planned g m ≡ Nothing → (os : List Obstructed) × (plan g ≡ no_proposal os)
+      of_nothing : planned g m ≡ Err Nothing → (os : List Obstructed) × (plan g ≡ no_proposal os)
       of_nothing e = go (plan g) refl
         where
           go : (a : Plan) → plan g ≡ a → (os : List Obstructed) × (plan g ≡ no_proposal os)
@@ -68,7 +68,7 @@ module _ (g : Set) (R : Ready g) (m : List ℕ) (room : length g.kept ≤ length
           go (no_proposal os) q = (os, q)
 
   -- without a proposal the lent words stay
-  pub nothing_changes : planned g m ≡ Nothing → proposal_after g m ≡ m
+  pub nothing_changes : planned g m ≡ Err Nothing → proposal_after g m ≡ m
   nothing_changes e = go (plan g) refl
     where
       go : (a : Plan) → plan g ≡ a → proposal_after g m ≡ m
@@ -76,7 +76,7 @@ module _ (g : Set) (R : Ready g) (m : List ℕ) (room : length g.kept ≤ length
       go (no_proposal os) q = after_so ∙ ap (λ a. plan_over a m) q
 
   -- a set that passes keeps its priorities
-  pub passing_keeps : check g (old_priorities g) ≡ Accepted → (planned g m ≡ Proposed) × (take (length g.kept) (proposal_after g m) ≡ old_priorities g)
+  pub passing_keeps : check g (old_priorities g) ≡ Ok tt → (planned g m ≡ Ok tt) × (take (length g.kept) (proposal_after g m) ≡ old_priorities g)
   passing_keeps e =
       let q = old_stays g R e in
       let v = plan_passes g R (old_priorities g) q in

@@ -6,11 +6,12 @@ use mathlib.Core.Logic.{◌↔◌}
 use mathlib.Core.List.{List, [], map, Memᴰ}
 use Prim.Native.Nat.{ℕ, suc, ◌<◌, ◌^◌}
 use lib.ListN.{length}
+use Rattle.std.specs.declared.result.Result.TheVariants.{Err, Ok}
 use Rattle.paper.specs.Loading.{Kept, Set}
 use Rattle.paper.specs.Rules.{may_overlap, is_multi, report}
 use Rattle.paper.proofs.Tables.{Rising}
 use Rattle.paper.specs.declared.Break.{Break}
-use Rattle.plan.specs.declared.Judged.TheVariants.{Accepted, Bad, WrongLength}
+use Rattle.plan.specs.declared.Fault.TheVariants.{Bad, WrongLength}
 use Rattle.paper.specs.Priorities.{Proposable, proposed, old_priorities, level, KeepsOrder, Passes, FirstBad, Mends}
 use Rattle.plan.specs.Plans.{check, Obstacle, obstacle, Obstructed, obstructed, those, must_rise, greatest, raised, Plan, proposal, no_proposal, plan}
 use Rattle.plan.proofs.Readiness.{Ready}
@@ -25,15 +26,15 @@ use Rattle.plan.proofs.Staying.{rising_still, passing_stays, multi_passes, plan_
 
 -- "The check accepts exactly when the set under the proposed priorities has no overlap edge and no mask, and every pair of rules whose old priorities
 -- differed keeps its order."
-pub accepted_exactly : (g : Set) (p : List ℕ) → (check g p ≡ Accepted) ↔ Passes g p
+pub accepted_exactly : (g : Set) (p : List ℕ) → (check g p ≡ Ok tt) ↔ Passes g p
 accepted_exactly = check_passes
 
 -- "Otherwise it names the first bad pair in rule order and which of the three it breaks, in that order."
-pub bad_exactly : (g : Set) (p : List ℕ) (b : Break) (i j : ℕ) → (check g p ≡ Bad b i j) ↔ ((length p ≡ length g.kept) × FirstBad g (proposed g p) b i j)
+pub bad_exactly : (g : Set) (p : List ℕ) (b : Break) (i j : ℕ) → (check g p ≡ Err (Bad b i j)) ↔ ((length p ≡ length g.kept) × FirstBad g (proposed g p) b i j)
 bad_exactly = check_first
 
 -- "A proposal whose length is not the number of rules is refused with 23."
-pub refused_exactly : (g : Set) (p : List ℕ) (n : ℕ) → (check g p ≡ WrongLength n) ↔ ((n ≡ length p) × (length p ≡ length g.kept → ⊥))
+pub refused_exactly : (g : Set) (p : List ℕ) (n : ℕ) → (check g p ≡ Err (WrongLength n)) ↔ ((n ≡ length p) × (length p ≡ length g.kept → ⊥))
 refused_exactly = check_length
 
 -- ---- what the planner rests on
@@ -47,7 +48,7 @@ pub raised_is : (g : Set) (k : ℕ) → k < length g.kept → raised g k ≡ gre
 raised_is = raised_so
 
 -- By the report: that of the set under the proposed priorities has no 12 and no 13.
-pub accepted_by_report : (g : Set) → Ready g → (p : List ℕ) → (check g p ≡ Accepted) ↔ ((length p ≡ length g.kept) × (report (proposed g p) ≡ []) × KeepsOrder g (proposed g p))
+pub accepted_by_report : (g : Set) → Ready g → (p : List ℕ) → (check g p ≡ Ok tt) ↔ ((length p ≡ length g.kept) × (report (proposed g p) ≡ []) × KeepsOrder g (proposed g p))
 accepted_by_report g R p =
     let r = report_none (proposed g p) (rising_still g p R.rising) in (
       λ e. let P = (check_passes g p).0 e in (P.right_length, r.1 (P.no_edge, P.no_mask), P.keeps_order),
@@ -81,7 +82,7 @@ module _ (g : Set) (R : Ready g) where
       go f (some o) e = (o, in_obstructed g o i j l k e)
 
   -- a set that passes keeps its priorities
-  pub old_stays : check g (old_priorities g) ≡ Accepted → plan g ≡ proposal (old_priorities g)
+  pub old_stays : check g (old_priorities g) ≡ Ok tt → plan g ≡ proposal (old_priorities g)
   old_stays e = passing_stays g R ((check_passes g (old_priorities g)).0 e)
 
   -- "Multi terms are accepted whenever the old order is kept": there the plan is the old priorities
@@ -93,5 +94,5 @@ module _ (g : Set) (R : Ready g) where
   plan_twice p e = let w = plan_passes p e in plan_again g R p w.0 w.1
 
   -- the planner's answer is always accepted by the check
-  pub plan_accepted : (p : List ℕ) → plan g ≡ proposal p → check g p ≡ Accepted
+  pub plan_accepted : (p : List ℕ) → plan g ≡ proposal p → check g p ≡ Ok tt
   plan_accepted p e = (check_passes g p).1 (plan_passes p e).1

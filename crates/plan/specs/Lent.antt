@@ -1,4 +1,5 @@
 -- What the contracts of the code cite. The set that lent words hold, as far as the check and the planner look at it: the first n rules, these flags.
+use Rattle.std.specs.declared.result.Result.TheVariants.{Err, Ok}
 use Rattle.std.specs.Prelude.{◌≡◌, List, [], ◌++◌, map, Bool, true, false, not, ℕ, suc, ◌<◌, length, get_or, drop, ltb}
 use Rattle.std.proofs.Math.Option.{Option, none, some}
 use Rattle.std.specs.Prelude.{if◌then◌else◌}
@@ -6,10 +7,10 @@ use Rattle.paper.specs.Words.{keep, below}
 use Rattle.paper.specs.Numbers.{max_rules}
 use Rattle.paper.specs.Loading.{Set}
 use Rattle.rule_words.specs.Stored.{kept_first}
-use Rattle.plan.specs.declared.Judged.{Judged}
-use Rattle.plan.specs.declared.Judged.TheVariants.{Accepted, Bad, WrongLength}
-use Rattle.plan.specs.declared.Planned.{Planned}
-use Rattle.plan.specs.declared.Planned.TheVariants.{Proposed, Nothing, TooManyRules, NoRoom}
+use Rattle.plan.specs.Answered.{Judged}
+use Rattle.plan.specs.declared.Fault.TheVariants.{Bad, WrongLength}
+use Rattle.plan.specs.Answered.{Planned}
+use Rattle.plan.specs.declared.Unplanned.TheVariants.{Nothing, TooManyRules, NoRoom}
 use Rattle.plan.specs.declared.Hurdle.{Hurdle}
 use Rattle.plan.specs.declared.Hurdle.TheVariants.{Free, Masked, Alike}
 use Rattle.paper.specs.Priorities.{proposed, level}
@@ -22,9 +23,9 @@ abbrev pub under : List ℕ → ℕ → ℕ → List ℕ → Set
 under ws n flags ps = proposed (set_in ws n flags) ps
 
 abbrev pub is_refused : Judged → Bool
-is_refused Accepted = false
-is_refused (Bad b i j) = true
-is_refused (WrongLength n) = true
+is_refused (Ok _) = false
+is_refused (Err (Bad b i j)) = true
+is_refused (Err (WrongLength n)) = true
 
 -- the greatest of the old priority of rule k and of one more than the heights, in a list, of those among the first j rules that it must stand above
 unfoldable pub height_over : Set → List ℕ → ℕ → ℕ → ℕ
@@ -68,8 +69,8 @@ pub record BlockedWith (g : Set) (n i : ℕ) (r : Bool) : Type 0 where
 -- ---- what the planner answers, and the lent words after it
 
 abbrev pub plan_answer : Plan → Planned
-plan_answer (proposal p) = Proposed
-plan_answer (no_proposal os) = Nothing
+plan_answer (proposal p) = Ok tt
+plan_answer (no_proposal os) = Err Nothing
 
 abbrev pub plan_over : Plan → List ℕ → List ℕ
 plan_over (proposal p) m = p ++ drop (length p) m
@@ -77,7 +78,7 @@ plan_over (no_proposal os) m = m
 
 unfoldable pub planned : Set → List ℕ → Planned
 planned g m =
-    if ltb max_rules (length g.kept) then TooManyRules else (if ltb (length m) (length g.kept) then NoRoom else plan_answer (plan g))
+    if ltb max_rules (length g.kept) then (Err TooManyRules) else (if ltb (length m) (length g.kept) then (Err NoRoom) else plan_answer (plan g))
 
 -- a proposal is written from the first word on; without one nothing is
 unfoldable pub proposal_after : Set → List ℕ → List ℕ

@@ -1,11 +1,12 @@
 -- Change request [11], computed: the check, the pairs that no proposal mends, the planner. (paper/specs/Priorities.antt says what a proposal must do;
 -- proofs/Theorems.antt, that what is computed here does it.)
+use Rattle.std.specs.declared.result.Result.TheVariants.{Err, Ok}
 use Rattle.std.specs.Prelude.{Bool, true, false, ◌&&◌, ◌||◌, not, List, [], ◌∷◌, map, ℕ, zero, suc, ◌^◌, max, length, eqb, ltb, leb}
 use Rattle.std.proofs.Math.Option.{Option, none, some}
 use Rattle.paper.specs.declared.Break.{Break}
 use Rattle.paper.specs.declared.Break.TheVariants.{Edge, Mask, Order}
-use Rattle.plan.specs.declared.Judged.{Judged}
-use Rattle.plan.specs.declared.Judged.TheVariants.{Accepted, Bad, WrongLength}
+use Rattle.plan.specs.Answered.{Judged}
+use Rattle.plan.specs.declared.Fault.TheVariants.{Bad, WrongLength}
 use Rattle.std.specs.Prelude.{if◌then◌else◌}
 use Rattle.paper.specs.Words.{or_else, every, keep, below, joined, all_words}
 use Rattle.paper.specs.Loading.{Set}
@@ -32,7 +33,7 @@ broken g h i j =
 
 abbrev pub told : ℕ → ℕ → Option Break → Option Judged
 told i j none = none
-told i j (some b) = some (Bad b i j)
+told i j (some b) = some (Err (Bad b i j))
 
 -- the first that f finds among 0 .. n - 1
 unfoldable pub first_of : {A : Type 0} → ℕ → (ℕ → Option A) → Option A
@@ -48,7 +49,7 @@ first_bad g h = first_of (length g.kept) (λ i. first_of (length g.kept) (bad_pa
 
 -- "A proposal whose length is not the number of rules is refused with 23."
 unfoldable pub check : Set → List ℕ → Judged
-check g p = if eqb (length p) (length g.kept) then or_else (first_bad g (proposed g p)) Accepted else WrongLength (length p)
+check g p = if eqb (length p) (length g.kept) then or_else (first_bad g (proposed g p)) (Ok tt) else (Err (WrongLength (length p)))
 
 -- ---- the pairs that no proposal mends: two rules alike, or a mask of the old priorities, whose order must stay
 

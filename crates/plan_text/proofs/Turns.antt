@@ -9,11 +9,11 @@ use native.Mathlib.Numerals.{add-one}
 use lib.ListN.{length, get_or, take, drop, set, length-drop, length-append, length-set, replicate}
 use lib.Seq.{take-suc, get_or_at, drop-length, set_out, sets, length-sets}
 use lib.Dec.{eqb}
+use Rattle.std.specs.declared.option.Option.TheVariants as option
 use Rattle.paper.specs.Layout.{Lines, nothing, unended, line, lines}
 use Rattle.paper.proofs.Lists.{drop_all}
 use Rattle.sheet_digits.proofs.DigitLaws.{sets_append}
-use Rattle.sheet_lines.specs.declared.Ends.{Ends}
-use Rattle.sheet_lines.specs.declared.Ends.TheVariants.{At, Open}
+use Rattle.paper.specs.Answered.{Maybe}
 use Rattle.sheet_lines.specs.Ends.{line_end, Ending, ends_at}
 use Rattle.sheet_lines.specs.Cut.{part_of, part_there, LeftOf, open_left, line_inside, line_split}
 use Rattle.plan_text.specs.declared.Spoken.{Spoken}
@@ -37,7 +37,7 @@ take_line s k h e =
     long (x ∷ s) zero h = refl
     long (x ∷ s) (suc k) h = ap suc (long s k (omega arith))
 
-with_end : (text : List ℕ) (from e : ℕ) → line_end from (drop from text) ≡ At e → part_of text from (e + 1) ≡ part_of text from e ++ (10 ∷ [])
+with_end : (text : List ℕ) (from e : ℕ) → line_end from (drop from text) ≡ option.Some e → part_of text from (e + 1) ≡ part_of text from e ++ (10 ∷ [])
 with_end text from e g =
     let w = ends_at from e (drop from text) g in
     let i = line_inside text from e g in
@@ -47,7 +47,7 @@ with_end text from e g =
     let z : e + 1 - from ≡ suc (e - from) = omega arith in
     sym (part_there text from (e + 1) (omega arith)) ∙ (ap (λ k. take k (drop from text)) z ∙ (take_line (drop from text) (e - from) (omega arith) w.split ∙ ap (λ x. x ++ (10 ∷ [])) (part_there text from e (omega arith))))
 
-pub next_ended : (text : List ℕ) (from e : ℕ) (l : List ℕ) (s : Spoken) → line_end from (drop from text) ≡ At e → l ≡ part_of text from (e + 1) → s ≡ line_of l → Begins text from (e + 1) s
+pub next_ended : (text : List ℕ) (from e : ℕ) (l : List ℕ) (s : Spoken) → line_end from (drop from text) ≡ option.Some e → l ≡ part_of text from (e + 1) → s ≡ line_of l → Begins text from (e + 1) s
 next_ended text from e l s g f h =
     let i = line_inside text from e g in
     let a = i.0 in
@@ -68,7 +68,7 @@ spoken_none : (text : List ℕ) → spoken (lines (drop (length text) text)) ≡
 unfolding spoken lines
 spoken_none text = ap (λ x. spoken (lines x)) (drop-length text)
 
-pub next_open : (text : List ℕ) (from : ℕ) → from < length text → line_end from (drop from text) ≡ Open → Begins text from (length text) Bad
+pub next_open : (text : List ℕ) (from : ℕ) → from < length text → line_end from (drop from text) ≡ option.None → Begins text from (length text) Bad
 next_open text from h g =
     let n = length-drop from text in
     let w = left_bad (lines (drop from text)) (drop from text) (omega arith) (open_left text from g) in
@@ -190,7 +190,7 @@ with_long m (Rule p q) = refl
 with_long m None = refl
 with_long m Bad = refl
 
-pub line_fits : (text : List ℕ) (from e : ℕ) → line_end from (drop from text) ≡ At e → e < length text
+pub line_fits : (text : List ℕ) (from e : ℕ) → line_end from (drop from text) ≡ option.Some e → e < length text
 line_fits text from e g = (line_inside text from e g).1
 
 pub first_so : (text marks : List ℕ) (r : Laid) → marks ≡ replicate terms 0 → r ≡ laid (bad_by marks false 1 (spoken (lines text))) → r ≡ laid (first_bad text)

@@ -11,7 +11,7 @@ ghost use Rattle.plan_text.specs.Lines.{set_line, digit_at, term_at, place_at, p
 ghost use Rattle.plan_text.specs.Proposal.{spoken, first_bad, Row};
 ghost use Rattle.plan_text.specs.Walk.{misplaced_by, marks_with, bad_by, laid, row_of, inside_after, rows_of, Begins};
 
-use sheet_lines::{Ends, line_end, part};
+use sheet_lines::{line_end, part};
 use tell_text::{put_eight, put_four, put_text, put_two};
 
 // What a line says.
@@ -198,11 +198,11 @@ fn line_from(text: &[u8], from: usize) -> Line
 {
     let end = line_end(text, from);
     match end {
-        Ends::At(e) => Line {
+        Some(e) => Line {
             to: e + 1,
             said: line_of(part(text, from, e + 1)),
         },
-        Ends::Open => Line {
+        None => Line {
             to: text.len(),
             said: Spoken::Bad,
         },

@@ -4,7 +4,7 @@
 ghost use Rattle.std.specs.Prelude.{◌<◌};
 
 use paper::{Refusal, SITES, UNFOLDING};
-use sites::{Numbered, SLOT, Unfolded};
+use sites::{Numbered, SLOT};
 use std::io::{self, Read};
 
 // So much of the input is read.
@@ -79,7 +79,7 @@ fn unfolded<W: io::Write>(
     room: &mut [u8],
 ) -> io::Result<()> {
     let u = sites::unfold(m, count, site, room);
-    let Unfolded::Bytes(n) = u else {
+    let Ok(n) = u else {
         return Ok(());
     };
     output.write_all(b" unfolds ")?;
@@ -99,11 +99,11 @@ fn line<W: io::Write>(
 ) -> io::Result<u16> {
     let a = sites::add(m, count, b, 1);
     match a {
-        Numbered::Known(i) => {
+        Ok(Numbered::Known(i)) => {
             told(output, "known ", u64::from(i))?;
             Ok(count)
         }
-        Numbered::Fresh(i) => {
+        Ok(Numbered::Fresh(i)) => {
             told(output, "new ", u64::from(i))?;
             if i == 65535 {
                 return Ok(count);
@@ -111,7 +111,7 @@ fn line<W: io::Write>(
             unfolded(output, m, i + 1, i, room)?;
             Ok(i + 1)
         }
-        Numbered::Refused(r) => {
+        Err(r) => {
             refused(output, r)?;
             Ok(count)
         }

@@ -5,10 +5,10 @@ use mathlib.Core.List.{List, [], ◌∷◌, ◌++◌, map}
 use Prim.Native.Nat.{ℕ, zero, suc, ◌+◌, ◌-◌, ◌≤◌, ◌<◌}
 use native.Mathlib.Omega.{arith}
 use lib.ListN.{length, take, drop, length-append, length-map, length-drop}
+use Rattle.std.specs.declared.option.Option.TheVariants.{Some}
 use Rattle.sheet_frames.specs.declared.Read.{Read}
 use Rattle.sheet_frames.specs.Said.{padded, reading_of}
-use Rattle.sheet_lines.specs.declared.Ends.{Ends}
-use Rattle.sheet_lines.specs.declared.Ends.TheVariants.{At}
+use Rattle.paper.specs.Answered.{Maybe}
 use Rattle.sheet_lines.specs.Ends.{line_end, ends_at}
 use Rattle.paper.proofs.Lists.{array_long}
 
@@ -23,7 +23,7 @@ length_taken (suc n) (x ∷ s) h = ap suc (length_taken n s (omega arith))
 
 -- the array of a value has its length
 
-pub end_fits : (s : List ℕ) (from e : ℕ) (r : Ends) → from ≤ length s → r ≡ line_end from (drop from s) → r ≡ At e → (from ≤ e) × (e < length s)
+pub end_fits : (s : List ℕ) (from e : ℕ) (r : Maybe ℕ) → from ≤ length s → r ≡ line_end from (drop from s) → r ≡ Some e → (from ≤ e) × (e < length s)
 end_fits s from e r h p q =
     let w = ends_at from e (drop from s) (sym p ∙ q) in
     let lo = w.behind_start in

@@ -3,9 +3,8 @@
 #![tactic(auto)]
 
 use paper::{Constraint, Item};
-use sheet_findings::Room;
 use sheet_frames::Frame;
-use sheet_lines::{Ends, Held};
+use sheet_lines::Held;
 use std::io::{self, Read};
 
 fn field<W: io::Write>(output: &mut W, n: u64) -> io::Result<()> {
@@ -67,7 +66,7 @@ fn show_item<W: io::Write>(output: &mut W, i: Item) -> io::Result<()> {
 fn show_body<W: io::Write>(output: &mut W, s: &[u8]) -> io::Result<()> {
     let mut out = [0u8; 80];
     let room = sheet_findings::write_line(s, &mut out, 0);
-    let Room::To(e) = room else {
+    let Some(e) = room else {
         return Ok(());
     };
     output.write_all(b"02 ")?;
@@ -126,7 +125,7 @@ fn feed<W: io::Write>(output: &mut W, h: Held, s: &[u8]) -> io::Result<Held> {
     let mut at = 0;
     while at <= s.len() {
         let end = sheet_lines::line_end(s, at);
-        let Ends::At(e) = end else {
+        let Some(e) = end else {
             return Ok(sheet_lines::hold(held, &s[at..]));
         };
         let line = sheet_lines::hold(held, &s[at..e]);

@@ -6,7 +6,7 @@
 // Any other line is `bad LINE`, counted from 1, and so is a text that ends inside a line or a graph; nothing after it is read.
 #![tactic(auto)]
 
-use paper::{TERMS, Verdict};
+use paper::TERMS;
 use std::io;
 use term_table::{Listed, WORDS};
 
@@ -32,38 +32,31 @@ struct At {
     stopped: bool,
 }
 
-// A number with one more digit.
-#[derive(Drop)]
-enum Digit {
-    To(u16),
-    Not,
-}
-
 fn grown(n: u16, b: u8) -> Digit {
     if b < b'0' {
-        return Digit::Not;
+        return None;
     }
     if b > b'9' {
-        return Digit::Not;
+        return None;
     }
     let more = (n as u32) * 10 + ((b - b'0') as u32);
     if more > 65535 {
-        return Digit::Not;
+        return None;
     }
-    Digit::To(more as u16)
+    Some(more as u16)
 }
 
 fn from_digit(n: u16, b: u8) -> Line {
     match grown(n, b) {
-        Digit::To(m) => Line::From(m),
-        Digit::Not => Line::Bad,
+        Some(m) => Line::From(m),
+        None => Line::Bad,
     }
 }
 
 fn to_digit(a: u16, n: u16, b: u8) -> Line {
     match grown(n, b) {
-        Digit::To(m) => Line::To(a, m),
-        Digit::Not => Line::Bad,
+        Some(m) => Line::To(a, m),
+        None => Line::Bad,
     }
 }
 
@@ -134,8 +127,8 @@ fn add<W: io::Write>(
     b: u16,
 ) -> io::Result<()> {
     match term_table::add(t, a, b) {
-        Verdict::Fine => Ok(()),
-        Verdict::Refused(_) => output.write_all(b"refused 28\n"),
+        Ok(()) => Ok(()),
+        Err(_) => output.write_all(b"refused 28\n"),
     }
 }
 

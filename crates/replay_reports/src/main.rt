@@ -9,7 +9,7 @@
 #![tactic(auto)]
 
 use paper::{CONSTRAINED, EQUALS, Overlap, RULES};
-use report::{REPORT_ROOM, Reported};
+use report::{REPORT_ROOM, Unreported};
 use rule_words::STRIDE;
 use std::io::{self, Read};
 use widths::word8;
@@ -199,15 +199,15 @@ fn reported<W: io::Write>(
 ) -> io::Result<()> {
     let r = report::report(words, s.rules, (s.d % 256) as u8, room);
     match r {
-        Reported::Done(n) => {
+        Ok(n) => {
             let k = n as usize;
             if room.len() < k {
                 return Ok(());
             }
             output.write_all(&room[..k])
         }
-        Reported::TooManyRules(_) => output.write_all(b"too many rules\n"),
-        Reported::NoRoom => output.write_all(b"no room\n"),
+        Err(Unreported::TooManyRules(_)) => output.write_all(b"too many rules\n"),
+        Err(Unreported::NoRoom) => output.write_all(b"no room\n"),
     }
 }
 

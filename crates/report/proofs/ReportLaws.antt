@@ -9,14 +9,15 @@ use lib.ListN.{length, get_or, take, drop, replicate}
 use lib.Seq.{sets, sets-eq, take_all}
 use lib.Dec.{eqb, ltb}
 use borrow.Author.Tests.{eq-eqb, ne_eqb, lt-ltb, le-ltb}
+use Rattle.std.specs.declared.result.Result.TheVariants.{Err, Ok}
 use Rattle.paper.specs.Numbers.{max_rules}
 use Rattle.std.specs.Prelude.{if◌then◌else◌}
 use Rattle.paper.specs.Words.{joined, sort_by}
 use Rattle.paper.specs.Loading.{Kept}
 use Rattle.paper.specs.Rules.{Listed, report_of, report_for, is_multi}
 use Rattle.rule_words.specs.Stored.{run, kept_first}
-use Rattle.report.specs.declared.Reported.{Reported}
-use Rattle.report.specs.declared.Reported.TheVariants.{Done, TooManyRules, NoRoom}
+use Rattle.report.specs.Reported.{Reported}
+use Rattle.report.specs.declared.Unreported.TheVariants.{TooManyRules, NoRoom}
 use Rattle.report.specs.Rows.{filled, place_in, named, lower_word, row_word, take_from}
 use Rattle.report.specs.Lines.{report_room, Wrote, lists_text, report_text, reported, room_after}
 use Rattle.report.proofs.ListLaws.{joined_none}
@@ -48,15 +49,15 @@ module _ (ws : List ℕ) (n flags : ℕ) where
   text_some e = ap text (multi_not flags (kept_first ws n) e)
 
   module _ (room : List ℕ) where
-    pub many : max_rules < n → (TooManyRules n ≡ reported ws n flags room) × (room ≡ room_after ws n flags room)
+    pub many : max_rules < n → ((Err (TooManyRules n)) ≡ reported ws n flags room) × (room ≡ room_after ws n flags room)
     unfolding reported room_after
     many h = (rw (lt-ltb max_rules n h), rw (lt-ltb max_rules n h))
 
-    pub short : n ≤ max_rules → length room < report_room → (NoRoom ≡ reported ws n flags room) × (room ≡ room_after ws n flags room)
+    pub short : n ≤ max_rules → length room < report_room → ((Err NoRoom) ≡ reported ws n flags room) × (room ≡ room_after ws n flags room)
     unfolding reported room_after
     short h l = (rw (le-ltb max_rules n h, lt-ltb (length room) report_room l), rw (le-ltb max_rules n h, lt-ltb (length room) report_room l))
 
-    done_is : n ≤ max_rules → report_room ≤ length room → reported ws n flags room ≡ Done (length (report_text ws n flags))
+    done_is : n ≤ max_rules → report_room ≤ length room → reported ws n flags room ≡ Ok (length (report_text ws n flags))
     unfolding reported
     done_is h l = rw (le-ltb max_rules n h, le-ltb (length room) report_room l)
 
@@ -64,15 +65,15 @@ module _ (ws : List ℕ) (n flags : ℕ) where
     unfolding room_after
     room_is h l = rw (le-ltb max_rules n h, le-ltb (length room) report_room l)
 
-    pub multi : n ≤ max_rules → report_room ≤ length room → flags % 2 ≡ 1 → (Done 0 ≡ reported ws n flags room) × (room ≡ room_after ws n flags room)
-    multi h l e = (sym (done_is h l ∙ ap (λ z. Done (length z)) (text_none e)), sym (room_is h l ∙ ap (λ z. z ++ drop (length z) room) (text_none e)))
+    pub multi : n ≤ max_rules → report_room ≤ length room → flags % 2 ≡ 1 → (Ok 0 ≡ reported ws n flags room) × (room ≡ room_after ws n flags room)
+    multi h l e = (sym (done_is h l ∙ ap (λ z. Ok (length z)) (text_none e)), sym (room_is h l ∙ ap (λ z. z ++ drop (length z) room) (text_none e)))
 
-    written_so : (room' t : List ℕ) (count : ℕ) → n ≤ max_rules → report_room ≤ length room → t ≡ report_text ws n flags → length t ≤ report_room → Wrote room room' 0 count t → (Done count ≡ reported ws n flags room) × (room' ≡ room_after ws n flags room)
+    written_so : (room' t : List ℕ) (count : ℕ) → n ≤ max_rules → report_room ≤ length room → t ≡ report_text ws n flags → length t ≤ report_room → Wrote room room' 0 count t → (Ok count ≡ reported ws n flags room) × (room' ≡ room_after ws n flags room)
     written_so room' t count h l e k w =
         let z : count ≡ length t = omega (arith, w.ends) in
         let y : 0 + length t ≤ length room = omega arith in
         let x : 0 + length t ≡ length t = omega arith in (
-          ap Done z ∙ sym (done_is h l ∙ ap (λ s. Done (length s)) (sym e)),
+          ap Ok z ∙ sym (done_is h l ∙ ap (λ s. Ok (length s)) (sym e)),
           w.into ∙ (sets-eq t room 0 y ∙ (ap (λ s. t ++ drop s room) x ∙ sym (room_is h l ∙ ap (λ s. s ++ drop (length s) room) (sym e)))),
         )
 
@@ -80,7 +81,7 @@ module _ (ws : List ℕ) (n flags : ℕ) where
         → all ≡ filled (place_in ws) n → (take n os ≡ sort_by (place_in ws) (run (λ j. j) 0 n)) × (length os ≡ max_rules) → names ≡ filled (named ws os) n
         → low ≡ filled (lower_word ws os) n → graph ≡ filled (row_word low n) n → ts ≡ take_from n n graph 18446744073709551615 (replicate max_rules 0)
         → Wrote room room' 0 count (lists_text ws all os names ts n n)
-        → (Done count ≡ reported ws n flags room) × (room' ≡ room_after ws n flags room)
+        → (Ok count ≡ reported ws n flags room) × (room' ≡ room_after ws n flags room)
     done room' all os names low graph ts count h l e a o b c d f w =
         let g : n ≤ length os = omega (arith, o.1) in
         let q : ts ≡ take_from n n (filled (row_word (filled (lower_word ws os) n) n) n) 18446744073709551615 (replicate max_rules 0) = f ∙ ap (λ z. take_from n n z 18446744073709551615 (replicate max_rules 0)) (d ∙ ap (λ z. filled (row_word z n) n) c) in

@@ -1,4 +1,5 @@
 -- The report as lines, piece by piece as they are written; and the report itself.
+use Rattle.std.specs.declared.result.Result.TheVariants.{Err, Ok}
 use Rattle.std.specs.Prelude.{◌≡◌, Bool, true, false, List, [], ◌∷◌, ◌++◌, map, ℕ, zero, suc, ◌+◌, ◌*◌, length, get_or, drop, eqb, ltb}
 use Rattle.std.proofs.lemmas.List.Edits.{sets}
 use Rattle.std.specs.Int.Count.{ones}
@@ -10,8 +11,8 @@ use Rattle.paper.specs.Sheets.{listed_found}
 use Rattle.paper.specs.Rules.{masks, report_for}
 use Rattle.rule_words.specs.Stored.{kept_in, kept_first}
 use Rattle.sheet_digits.specs.Digits.{digits_of}
-use Rattle.report.specs.declared.Reported.{Reported}
-use Rattle.report.specs.declared.Reported.TheVariants.{Done, TooManyRules, NoRoom}
+use Rattle.report.specs.Reported.{Reported}
+use Rattle.report.specs.declared.Unreported.TheVariants.{TooManyRules, NoRoom}
 use Rattle.report.specs.Rows.{bits, bit_at}
 
 -- from `at` up to `end` the text was written into the room
@@ -63,7 +64,7 @@ report_room = 2 * max_rules * line_room
 
 unfoldable pub reported : List ℕ → ℕ → ℕ → List ℕ → Reported
 reported ws n flags room =
-    if ltb max_rules n then TooManyRules n else (if ltb (length room) report_room then NoRoom else Done (length (report_text ws n flags)))
+    if ltb max_rules n then (Err (TooManyRules n)) else (if ltb (length room) report_room then (Err NoRoom) else Ok (length (report_text ws n flags)))
 
 unfoldable pub room_after : List ℕ → ℕ → ℕ → List ℕ → List ℕ
 room_after ws n flags room =
@@ -75,11 +76,11 @@ abbrev pub lent_too_little : ℕ
 lent_too_little = 255
 
 abbrev pub number_of : Reported → ℕ
-number_of (Done count) = 0
-number_of (TooManyRules n) = 23
-number_of NoRoom = lent_too_little
+number_of (Ok count) = 0
+number_of (Err (TooManyRules n)) = 23
+number_of (Err NoRoom) = lent_too_little
 
 abbrev pub told_with : Reported → List ℕ
-told_with (Done count) = count ∷ []
-told_with (TooManyRules n) = n ∷ []
-told_with NoRoom = []
+told_with (Ok count) = count ∷ []
+told_with (Err (TooManyRules n)) = n ∷ []
+told_with (Err NoRoom) = []

@@ -17,7 +17,7 @@ use Rattle.paper.proofs.Laws.{same_constraint_true}
 use Rattle.paper.specs.Loading.{Holder, Labels, lowest, steps, endless, no_endless}
 use Rattle.paper.proofs.Closure.{in_below, of_below}
 use Rattle.classes.specs.Answers.{rep}
-use Rattle.paper.specs.declared.Verdict.{Verdict}
+use Rattle.paper.specs.Answered.{Verdict}
 use Rattle.rule_rows.specs.Holding.{Held, bare, site_of, shape_of, count_of, kid_of, holder_in, holders_to, class_check, verdict_of, Inside}
 use Rattle.rule_classes.specs.Growing.{Rest}
 use Rattle.rule_classes.specs.Meeting.{Reps, Like, Seated}

@@ -4,9 +4,9 @@ use mathlib.Core.Option.{none}
 use mathlib.Core.List.{List, ◌++◌}
 use Prim.Native.Nat.{ℕ, ◌≤◌, ◌<◌, min}
 use lib.ListN.{length, get_or}
+use Rattle.std.specs.declared.result.Result.TheVariants.{Err, Ok}
 use Rattle.paper.specs.declared.Refusal.{Refusal}
-use Rattle.paper.specs.declared.Verdict.{Verdict}
-use Rattle.paper.specs.declared.Verdict.TheVariants.{Fine, Refused}
+use Rattle.paper.specs.Answered.{Verdict}
 use Rattle.paper.specs.Numbers.{max_sites, done, refused}
 use Rattle.rule_rows.specs.Holding.{Held, how_many, holders_in, eqs_in, Inside, class_check, stray, checked, verdict_of}
 use Rattle.rule_rows.proofs.Reading.{strays_are, low_clean, clean_inside}
@@ -29,15 +29,15 @@ no_stray_at eqs H v s e = e ∙ sym (rw s)
 -- ---- by the classes
 
 module _ (eqs : List ℕ) (H : Held) (p boss : List ℕ) (g : Verdict) (G : Grouped eqs H p boss g) where
-  pub judge_refused : (e : Refusal) → g ≡ Refused e → verdict_of (Refused e) ≡ checked eqs H
+  pub judge_refused : (e : Refusal) → g ≡ Err e → verdict_of (Err e) ≡ checked eqs H
   judge_refused e q = let K : checked eqs H ≡ refused e = rw q at G in sym K
 
-  module _ (q : g ≡ Fine) where
+  module _ (q : g ≡ Ok tt) where
     C : Classed eqs H p boss
-    C = let K : Grouped eqs H p boss Fine = rw q at G in K.1
+    C = let K : Grouped eqs H p boss (Ok tt) = rw q at G in K.1
 
     clean : stray (eqs ++ (H.sites ++ H.kids)) ≡ none
-    clean = let K : Grouped eqs H p boss Fine = rw q at G in K.0
+    clean = let K : Grouped eqs H p boss (Ok tt) = rw q at G in K.0
 
     pub inside_sites : Inside H.sites
     inside_sites = (clean_inside eqs H.sites H.kids clean).0

@@ -1,11 +1,11 @@
 -- Check 6 over the classes of parents p: from root to root by the children of each class's first holder.
+use Rattle.std.specs.declared.result.Result.TheVariants.{Err, Ok}
 use Rattle.std.specs.Prelude.{◌≡◌, ◌⊎◌, List, ℕ, ◌+◌, ◌≤◌, ◌<◌, get_or, set, length, eqb}
 use Rattle.paper.specs.Numbers.{max_sites}
 use Rattle.classes.specs.Answers.{rep}
 use Rattle.classes.specs.Well.{cnt}
 use Rattle.paper.specs.declared.Refusal.TheVariants.{Endless}
-use Rattle.paper.specs.declared.Verdict.{Verdict}
-use Rattle.paper.specs.declared.Verdict.TheVariants.{Fine, Refused}
+use Rattle.paper.specs.Answered.{Verdict}
 use Rattle.rule_rows.specs.Holding.{Held, chart, site_of, count_of, kid_of, Inside}
 use Rattle.rule_classes.specs.Meeting.{Reps}
 
@@ -130,6 +130,6 @@ abbrev pub Of : Held → Held
 Of H = chart H.rows H.words H.kids
 
 pub data WalksIs (H : Held) (p boss : List ℕ) (m : ℕ) : Verdict → Type 0 where
-  none_of : ((h : ℕ) → h < m → Path (Of H) p boss (rep p (site_of H h)) (rep p (site_of H h)) → ⊥) → WalksIs H p boss m Fine
-  none_at : ((z : ℕ) → z < max_sites → Path (Of H) p boss (rep p z) (rep p z) → ⊥) → WalksIs H p boss m Fine
-  from : (z : ℕ) → z < max_sites → Lowest (Of H) p boss z → WalksIs H p boss m (Refused (Endless z))
+  none_of : ((h : ℕ) → h < m → Path (Of H) p boss (rep p (site_of H h)) (rep p (site_of H h)) → ⊥) → WalksIs H p boss m (Ok tt)
+  none_at : ((z : ℕ) → z < max_sites → Path (Of H) p boss (rep p z) (rep p z) → ⊥) → WalksIs H p boss m (Ok tt)
+  from : (z : ℕ) → z < max_sites → Lowest (Of H) p boss z → WalksIs H p boss m (Err (Endless z))

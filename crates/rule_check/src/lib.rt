@@ -9,7 +9,7 @@ ghost use Rattle.classes.specs.Answers.{rep};
 ghost use Rattle.rule_rows.specs.Holding.{held, chart, kid_count, kid_in, holders_in, eqs_in, Inside, class_check, stray, checked, verdict_of};
 ghost use Rattle.rule_check.specs.Search.{Path, Ready, Safe, Over, Keeps, Visited, Visit, Extends, Marks, Listed, Fresh, Searched, Returns, Told, Lower, LowestOf, AllNamed, Lowest, WalksIs};
 
-use paper::{Refusal, SITES, Verdict};
+use paper::{Refusal, SITES};
 use rule_lists::at;
 use rule_rows::{fields, highest, kid};
 use widths::size16;
@@ -365,7 +365,7 @@ fn walks(
     words: &[u64],
     kids: &[u16],
     m: usize,
-) -> Verdict
+) -> Result<(), Refusal>
     requires ready { Ready p.now kids.now }
     requires inside { Inside sites.now }
     requires all_named { AllNamed p.now boss.now eqs.now sites.now kids.now }
@@ -373,13 +373,13 @@ fn walks(
         WalksIs L p.now boss.now m result }
 {
     if settled(p, boss, sites, rows, words, kids, m) {
-        return Verdict::Fine;
+        return Ok(());
     }
     let z = endless(p, boss, eqs, sites, rows, words, kids);
     if z < NEVER {
-        return Verdict::Refused(Refusal::Endless { site: z });
+        return Err(Refusal::Endless { site: z });
     }
-    Verdict::Fine
+    Ok(())
 }
 
 // ---- the whole
@@ -433,7 +433,7 @@ fn climbs(eqs: &[u16], sites: &[u16], rows: &[u16], words: &[u64], kids: &[u16])
 }
 
 // Both checks, by the classes.
-fn judge(eqs: &[u16], sites: &[u16], rows: &[u16], words: &[u64], kids: &[u16]) -> Verdict
+fn judge(eqs: &[u16], sites: &[u16], rows: &[u16], words: &[u64], kids: &[u16]) -> Result<(), Refusal>
     ensures { let L = held sites.now rows.now words.now kids.now in
         verdict_of result ≡ checked eqs.now L }
 {
@@ -442,8 +442,8 @@ fn judge(eqs: &[u16], sites: &[u16], rows: &[u16], words: &[u64], kids: &[u16]) 
     let mut boss = [0u16; SITES];
     let g = rule_classes::group(&mut p, &mut boss, eqs, sites, rows, words, kids);
     match g {
-        Verdict::Refused(why) => Verdict::Refused(why),
-        Verdict::Fine => {
+        Err(why) => Err(why),
+        Ok(()) => {
             let m = rule_rows::holder_count(sites);
             walks(&p, &boss, eqs, sites, rows, words, kids, size16(m))
         }
@@ -451,12 +451,12 @@ fn judge(eqs: &[u16], sites: &[u16], rows: &[u16], words: &[u64], kids: &[u16]) 
 }
 
 // Checks 4 and 6 of 01 of the written equalities and the holders, after 2 for a number that is no site.
-pub fn check(eqs: &[u16], sites: &[u16], rows: &[u16], words: &[u64], kids: &[u16]) -> Verdict
+pub fn check(eqs: &[u16], sites: &[u16], rows: &[u16], words: &[u64], kids: &[u16]) -> Result<(), Refusal>
     ensures { let L = held sites.now rows.now words.now kids.now in
         verdict_of result ≡ checked eqs.now L }
 {
     if climbs(eqs, sites, rows, words, kids) {
-        return Verdict::Fine;
+        return Ok(());
     }
     judge(eqs, sites, rows, words, kids)
 }

@@ -9,6 +9,7 @@ use lib.ListN.{length, get_or, drop, replicate, length-append, get_or-append}
 use lib.Seq.{sets, ext_get_or, drop_at, get_or_at}
 use lib.Dec.{ltb}
 use borrow.Author.Tests.{lt-ltb, le-ltb, le-leb, lt-leb, ltb-true, ltb-false}
+use Rattle.std.specs.declared.result.Result.TheVariants.{Err, Ok}
 use Rattle.paper.specs.declared.Constraint.{Constraint}
 use Rattle.paper.specs.declared.Refusal.{Refusal}
 use Rattle.paper.specs.declared.Refusal.TheVariants.{Unknown, TooManySites, TooManyFields}
@@ -18,7 +19,6 @@ use Rattle.paper.specs.Numbers.{max_sites, max_fields, done, refused}
 use Rattle.paper.specs.Sites.{Site, Sites, child_count, child, children, number_of, child_number, add_all}
 use Rattle.rule_children.specs.Tail.{children_as}
 use Rattle.rule_children.specs.declared.Children.{Children}
-use Rattle.rule_children.specs.declared.Given.TheVariants as goal
 use Rattle.sites.specs.Slots.{length_below}
 use Rattle.rule_children.specs.Tail.{word_of, table, grown, after_grown, refused_as, holds, Sees, news, Ready, Placed}
 use Rattle.rule_children.proofs.ScanLaws.{table_length}
@@ -56,8 +56,8 @@ zeros : below {A = ℕ} max_fields (λ i. 0) ≡ replicate 8 0
 unfolding below
 zeros = refl
 
-pub refuse_is : (r : Refusal) → record { outcome = goal.Refused r; numbers = replicate 8 0 } ≡ refused_as r
-refuse_is r = ap (λ l. record { outcome = goal.Refused r; numbers = l }) (sym zeros)
+pub refuse_is : (r : Refusal) → record { outcome = Err r; numbers = replicate 8 0 } ≡ refused_as r
+refuse_is r = ap (λ l. record { outcome = Err r; numbers = l }) (sym zeros)
 
 module _ (m : List ℕ) (n : ℕ) (tail : List ℕ) (k at s : ℕ) (c : Constraint) where
   abbrev pub Answer : Children → List ℕ → Type 0
@@ -99,13 +99,13 @@ module _ (m : List ℕ) (n : ℕ) (tail : List ℕ) (k at s : ℕ) (c : Constrai
         dropped : (u : List Site) → drop (n + k) (t ++ u) ≡ u
         dropped u = drop_at t u (n + k) size
 
-        pub answer_none : (a : ℕ) → a ≡ n + k → child_count c ≡ 0 → Answer (record { outcome = goal.To a; numbers = replicate 8 0 }) tail
+        pub answer_none : (a : ℕ) → a ≡ n + k → child_count c ≡ 0 → Answer (record { outcome = Ok a; numbers = replicate 8 0 }) tail
         answer_none a q e =
             let g : grown m n tail k at s c ≡ done t = grown_adds ∙ all_none t s c at e in
             let z : a ≡ length t = q ∙ sym size in
             let back : length t - n ≡ k = omega (arith, size) in
             let y : drop (n + k) t ≡ [] = ap (drop (n + k)) (sym (append-nil t)) ∙ dropped [] in
-            ((rw z (ap (λ o. record { outcome = goal.To (length t); numbers = o }) (no_numbers e))) ∙ ap (children_as s c) (sym g), ap (λ r. sets tail k (map word_of r)) (sym y) ∙ ap (after_grown n tail k) (sym g), rw g (rw back))
+            ((rw z (ap (λ o. record { outcome = Ok (length t); numbers = o }) (no_numbers e))) ∙ ap (children_as s c) (sym g), ap (λ r. sets tail k (map word_of r)) (sym y) ∙ ap (after_grown n tail k) (sym g), rw g (rw back))
 
         pub answer_unknown : (x : Children) → x ≡ refused_as (Unknown s) → (child_count c ≡ 0 → ⊥) → n + k ≤ s → Answer x tail
         answer_unknown x e z q = answer_refused x (Unknown s) e (grown_adds ∙ all_unknown t s c at (omega (arith, size)) (positive (child_count c) z))
@@ -126,13 +126,13 @@ module _ (m : List ℕ) (n : ℕ) (tail : List ℕ) (k at s : ℕ) (c : Constrai
           pub answer_ready : S.missing ≤ max_sites - (n + k) → Ready t n k s c S.numbers tail
           answer_ready g = record { few = f; seen = W.numbers; size = size; small = h; room = omega (arith, missing); long = l }
 
-          pub answer_done : (of tail' : List ℕ) (a : ℕ) → Placed t s c (child_count c) of → tail' ≡ sets tail k (map word_of (news t s c (child_count c))) → table m n tail' (k + length (news t s c (child_count c))) ≡ t ++ news t s c (child_count c) → a ≡ n + k + S.missing → S.missing ≤ max_sites - (n + k) → Answer (record { outcome = goal.To a; numbers = of }) tail'
+          pub answer_done : (of tail' : List ℕ) (a : ℕ) → Placed t s c (child_count c) of → tail' ≡ sets tail k (map word_of (news t s c (child_count c))) → table m n tail' (k + length (news t s c (child_count c))) ≡ t ++ news t s c (child_count c) → a ≡ n + k + S.missing → S.missing ≤ max_sites - (n + k) → Answer (record { outcome = Ok a; numbers = of }) tail'
           answer_done of tail' a P e b' q g =
               let w : grown m n tail k at s c ≡ done (t ++ news t s c (child_count c)) = grown_adds ∙ all_fit t s c at (omega (arith, size)) (omega (arith, size, missing)) in
               let z : a ≡ length (t ++ news t s c (child_count c)) = let y = length-append t (news t s c (child_count c)) in omega (arith, size, missing) in
               let back : length (t ++ news t s c (child_count c)) - n ≡ k + length (news t s c (child_count c)) = let y = length-append t (news t s c (child_count c)) in omega (arith, size) in
               let v = placed_numbers t s c of f P in (
-                ap (λ i. record { outcome = goal.To i; numbers = of }) z ∙ ap (λ o. record { outcome = goal.To (length (t ++ news t s c (child_count c))); numbers = o }) v ∙ ap (children_as s c) (sym w),
+                ap (λ i. record { outcome = Ok i; numbers = of }) z ∙ ap (λ o. record { outcome = Ok (length (t ++ news t s c (child_count c))); numbers = o }) v ∙ ap (children_as s c) (sym w),
                 e ∙ ap (λ r. sets tail k (map word_of r)) (sym (dropped (news t s c (child_count c)))) ∙ ap (after_grown n tail k) (sym w),
                 rw w (rw back b'),
               )

@@ -8,6 +8,7 @@ use native.Mathlib.Omega.{arith}
 use lib.ListN.{length, get_or, get_or-eq_default}
 use lib.Dec.{eqb, ltb}
 use borrow.Author.Tests.{lt-ltb, le-ltb, ne_eqb, eqb-true, eqb-false, ltb-true, ltb-false}
+use Rattle.std.specs.declared.option.Option.TheVariants as option
 use Rattle.paper.specs.declared.Constraint.{Constraint}
 use Rattle.paper.specs.declared.Constraint.TheVariants.{Variant, Struct, ConstBool, ConstInt, ConstPrim, Some}
 use Rattle.paper.specs.Words.{or_else, below, any}
@@ -16,6 +17,7 @@ use Rattle.paper.proofs.Laws.{same_site_refl}
 use Rattle.sites.specs.Slots.{site_of, slot_body, site_in}
 use Rattle.site_body.specs.Body.{link_of}
 use Rattle.sites.proofs.Places.{same_site_false}
+use Rattle.paper.specs.Answered.{Maybe}
 use Rattle.site_body.specs.declared.Link.{Link}
 use Rattle.site_body.specs.declared.Link.TheVariants as link
 use Rattle.rule_children.specs.Tail.{word_of, site_of_word, Spelt, site_there, Field}
@@ -66,11 +68,11 @@ pub spelt_as : (x y : Site) (w : ℕ) → x ≡ y → Spelt x w → Spelt y w
 spelt_as x y w e h = rw (← e) h
 
 -- what a site is, by its link
-abbrev pub Told : Site → Link → Type 0
-Told x (link.Variant s v f) = match_variant s v f ≡ x
-Told x (link.Struct s f) = extract_struct s f ≡ x
-Told x (link.Some s) = match_some s ≡ x
-Told x link.Nothing = word_of x ≡ 0
+abbrev pub Told : Site → Maybe Link → Type 0
+Told x (option.Some (link.Variant s v f)) = match_variant s v f ≡ x
+Told x (option.Some (link.Struct s f)) = extract_struct s f ≡ x
+Told x (option.Some (link.Some s)) = match_some s ≡ x
+Told x option.None = word_of x ≡ 0
 
 told : (x : Site) → Told x (link_of x)
 unfolding link_of word_of
@@ -89,10 +91,10 @@ told (make_some s) = refl
 told (match_some s) = refl
 told (match_tuple s f) = refl
 
-pub told_as : (x : Site) (l : Link) → l ≡ link_of x → Told x l
+pub told_as : (x : Site) (l : Maybe Link) → l ≡ link_of x → Told x l
 told_as x l e = rw e (told x)
 
-pub told_in : (m : List ℕ) (i : ℕ) (b : List ℕ) (l r : Link) → l ≡ r → l ≡ link_of (site_of b) → b ≡ slot_body m i → r ≡ link_of (site_in m i)
+pub told_in : (m : List ℕ) (i : ℕ) (b : List ℕ) (l r : Maybe Link) → l ≡ r → l ≡ link_of (site_of b) → b ≡ slot_body m i → r ≡ link_of (site_in m i)
 unfolding site_in
 told_in m i b l r e f g = sym e ∙ f ∙ ap (λ x. link_of (site_of x)) g
 

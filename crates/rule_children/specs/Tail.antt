@@ -1,4 +1,5 @@
 -- A set's table on its way through one rule: the sites in lent memory, then the children that the rule adds, each as one word of a tail.
+use Rattle.std.specs.declared.result.Result.TheVariants.{Err, Ok}
 use Rattle.std.specs.Prelude.{◌≡◌, List, [], ◌∷◌, ◌++◌, map, ℕ, zero, suc, ◌+◌, ◌-◌, ◌*◌, ◌/◌, ◌%◌, ◌<◌, ◌≤◌, min, length, get_or, drop, set, eqb, ltb, leb}
 use Rattle.std.proofs.Math.Option.{none, some}
 use Rattle.std.proofs.lemmas.List.Edits.{sets}
@@ -12,7 +13,6 @@ use Rattle.paper.specs.Sites.{Site, const_bool, const_int, const_prim, argument,
 use Rattle.site_slots.specs.Seeking.{four_at}
 use Rattle.sites.specs.Slots.{slot, site_in, sites_in, no_site}
 use Rattle.rule_children.specs.declared.Children.{Children}
-use Rattle.rule_children.specs.declared.Given.TheVariants as given
 use Rattle.rule_children.specs.declared.Seen.{Seen}
 use Rattle.rule_children.specs.declared.Wanted.{Wanted}
 
@@ -75,14 +75,14 @@ holds m n tail (refused r) = Unit {0}
 -- the answer: the count of sites afterwards, and the children's numbers by field
 abbrev pub children_as : ℕ → Constraint → Outcome Sites → Children
 children_as s c (done t) = record {
-  outcome = given.To (length t);
+  outcome = Ok (length t);
   numbers = below max_fields (λ i. if ltb i (child_count c) then child_number t s c i else 0);
 }
-children_as s c (refused r) = record { outcome = given.Refused r; numbers = below max_fields (λ i. 0) }
+children_as s c (refused r) = record { outcome = Err r; numbers = below max_fields (λ i. 0) }
 
 -- a refusal as the answer
 abbrev pub refused_as : Refusal → Children
-refused_as r = record { outcome = given.Refused r; numbers = below max_fields (λ i. 0) }
+refused_as r = record { outcome = Err r; numbers = below max_fields (λ i. 0) }
 
 -- ---- the search
 

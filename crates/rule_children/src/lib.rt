@@ -17,17 +17,10 @@ use widths::{size16, word8, word16};
 // No site: a number that no site has.
 const NONE: u16 = 65535;
 
-// The count of sites after the children were added.
-#[derive(Clone, Copy)]
-pub enum Given {
-    To(u16),
-    Refused(Refusal),
-}
-
 // And the children's numbers by field, 0 past them.
 #[derive(Clone, Copy)]
 pub struct Children {
-    pub outcome: Given,
+    pub outcome: Result<u16, Refusal>,
     pub numbers: [u16; FIELDS],
 }
 
@@ -120,14 +113,14 @@ pub fn word_in(m: &[u8], i: u16) -> u64
 {
     let b = sites::body(m, i);
     match site_body::link_of(b) {
-        Link::Variant {
+        Some(Link::Variant {
             source,
             variant,
             field,
-        } => variant_word(source, variant, field),
-        Link::Struct { source, field } => struct_word(source, field),
-        Link::Some { source } => some_word(source),
-        Link::Nothing => 0,
+        }) => variant_word(source, variant, field),
+        Some(Link::Struct { source, field }) => struct_word(source, field),
+        Some(Link::Some { source }) => some_word(source),
+        None => 0,
     }
 }
 
@@ -349,7 +342,7 @@ fn refuse(r: Refusal) -> Children
     ensures { result ≡ refused_as r }
 {
     Children {
-        outcome: Given::Refused(r),
+        outcome: Err(r),
         numbers: [0; FIELDS],
     }
 }
@@ -375,7 +368,7 @@ fn grow(m: &[u8], n: u16, tail: &mut [u64], k: u16, at: u32, s: u16, c: Constrai
     let of = seen.numbers;
     let numbers = place(m, n, tail, k, s, c, of);
     Children {
-        outcome: Given::To((total + missing) as u16),
+        outcome: Ok((total + missing) as u16),
         numbers,
     }
 }
@@ -417,7 +410,7 @@ pub fn add_children(
     }
     if count == 0 {
         return Children {
-            outcome: Given::To(total as u16),
+            outcome: Ok(total as u16),
             numbers: [0; FIELDS],
         };
     }

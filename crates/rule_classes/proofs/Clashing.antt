@@ -10,13 +10,13 @@ use native.Mathlib.Nat.{not-suc-le-zero}
 use native.Mathlib.Decide.{ℕ_discrete}
 use lib.Dec.{eqb}
 use borrow.Author.Tests.{eq-eqb, ne_eqb}
+use Rattle.std.specs.declared.option.Option.TheVariants.{Some}
 use Rattle.paper.specs.declared.Refusal.TheVariants.{Unreachable}
 use Rattle.paper.specs.Words.{below, first, least, one}
 use Rattle.paper.specs.Numbers.{max_sites, done, refused}
 use Rattle.paper.proofs.Labels.{Sound}
 use Rattle.paper.specs.Loading.{Holder, Labels, Together, lowest, closure_of, first_holder, differs, conflict, told_4, check_4}
 use Rattle.paper.proofs.Closure.{of_below, closure_of_is, closure_sound}
-use Rattle.rule_classes.specs.declared.Clash.TheVariants.{At}
 use Rattle.rule_rows.specs.Holding.{Held, bare, site_of, row_of, count_of, kid_of, holder_in, holders_to, class_check, Inside}
 use Rattle.rule_classes.specs.Growing.{One}
 use Rattle.rule_classes.specs.Meeting.{FirstOf, Like, Unlike, ClashAt, ClashIs}
@@ -131,6 +131,6 @@ module _ (H : Held) (E : List (ℕ × ℕ)) (q : List ℕ) (m : ℕ) (A : Agree 
   pub no_clash : ((h : ℕ) → h < m → Like (bare H.sites H.rows H.words) q h) → check_4 k hs (conflict k hs) ≡ done tt
   no_clash L = ap (check_4 k hs) (none_found L)
 
-  pub answer_clash : (s b : ℕ) → ClashIs (bare H.sites H.rows H.words) q m (At s b) → class_check E hs ≡ refused (Unreachable s b)
+  pub answer_clash : (s b : ℕ) → ClashIs (bare H.sites H.rows H.words) q m (Some (s, b)) → class_check E hs ≡ refused (Unreachable s b)
   unfolding class_check labels ClashIs
   answer_clash s b C = rw (clash s b C)

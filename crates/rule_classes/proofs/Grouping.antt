@@ -7,9 +7,10 @@ use mathlib.Core.Option.{none}
 use Prim.Native.Nat.{ℕ, ◌/◌, ◌≤◌, ◌<◌, min}
 use native.Mathlib.Omega.{arith}
 use lib.ListN.{length}
+use Rattle.std.specs.declared.result.Result.TheVariants.{Err, Ok}
+use Rattle.std.specs.declared.option.Option.TheVariants.{Some}
 use Rattle.paper.specs.declared.Refusal.TheVariants.{Unknown, Unreachable}
-use Rattle.paper.specs.declared.Verdict.{Verdict}
-use Rattle.paper.specs.declared.Verdict.TheVariants.{Fine, Refused}
+use Rattle.paper.specs.Answered.{Verdict}
 use Rattle.paper.specs.Words.{or_else, below, pairs}
 use Rattle.paper.specs.Numbers.{max_sites, refused}
 use Rattle.paper.specs.Classes.{Classes, classes, no_classes}
@@ -17,8 +18,7 @@ use Rattle.paper.specs.Loading.{Holder, Labels, Together, lowest, join_all, pass
 use Rattle.paper.proofs.Closure.{closure_of_is}
 use Rattle.classes.specs.Well.{Well}
 use Rattle.classes.proofs.Uniting.{rep_rep, rep_inside}
-use Rattle.rule_classes.specs.declared.Clash.{Clash}
-use Rattle.rule_classes.specs.declared.Clash.TheVariants.{At, Nothing}
+use Rattle.paper.specs.Answered.{Maybe}
 use Rattle.rule_rows.specs.Holding.{Held, held, bare, how_many, holders_to, holders_in, eqs_in, Inside, class_check, stray, checked, merge_each}
 use Rattle.rule_classes.specs.Growing.{One, Closed}
 use Rattle.rule_classes.specs.Meeting.{Reps, ClashIs, Seated, Classed, JoinedIs, Grouped}
@@ -81,9 +81,9 @@ module _ (H : Held) (eqs p r : List ℕ) (n : ℕ) (I : Inside eqs × (Inside H.
   exact : (u v : ℕ) → One q u v ↔ Together (eqs_in eqs) (holders_in H) u v
   exact = exactly H eqs (classes p r n) q s k (how_many H) (starts_as eqs (holders_in H) (classes p r n) I.0 e) C'
 
-  pub join_clash : (x : Clash) (a b : ℕ) → x ≡ At a b → ClashIs (bare H.sites H.rows H.words) q m x → class_check (eqs_in eqs) (holders_in H) ≡ refused (Unreachable a b)
+  pub join_clash : (x : Maybe (ℕ × ℕ)) (a b : ℕ) → x ≡ Some (a, b) → ClashIs (bare H.sites H.rows H.words) q m x → class_check (eqs_in eqs) (holders_in H) ≡ refused (Unreachable a b)
   join_clash x a b ex K =
-      let K' : ClashIs (bare H.sites H.rows H.words) q (how_many H) (At a b) = rw (ex, em) at K in
+      let K' : ClashIs (bare H.sites H.rows H.words) q (how_many H) (Some (a, b)) = rw (ex, em) at K in
       answer_clash H (eqs_in eqs) q (how_many H) (agree H (eqs_in eqs) q (how_many H) exact I.1.1) a b K'
 
   pub join_fine : (boss : List ℕ) → Seated (bare H.sites H.rows H.words) q boss m → Classed eqs H q boss
@@ -115,5 +115,5 @@ module _ (eqs : List ℕ) (H : Held) (a : ℕ) (ea : a ≡ or_else (stray eqs) 0
 
         pub grouped : (p boss : List ℕ) (v : Verdict) → JoinedIs eqs H p boss v → Grouped eqs H p boss v
         unfolding checked
-        grouped p boss Fine C = (clean, C)
-        grouped p boss (Refused e) q = rw clean q
+        grouped p boss (Ok _) C = (clean, C)
+        grouped p boss (Err e) q = rw clean q

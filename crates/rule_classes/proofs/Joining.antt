@@ -11,6 +11,7 @@ use lib.ListN.{length, replicate, get_or-replicate}
 use lib.Dec.{eqb}
 use borrow.Author.Tests.{lt-ltb, eqb-true, eqb-false, not-true, not-false}
 use borrow.Author.Count.{below_more}
+use Rattle.std.specs.declared.result.Result.TheVariants.{Err, Ok}
 use Rattle.paper.specs.declared.Refusal.{Refusal}
 use Rattle.paper.specs.declared.Refusal.TheVariants.{Itself}
 use Rattle.paper.specs.Words.{below}
@@ -19,8 +20,7 @@ use Rattle.paper.specs.Classes.{Classes, classes, no_classes, enter, unite, merg
 use Rattle.paper.specs.Loading.{Holder, Together, written_so, itself, back, through}
 use Rattle.paper.proofs.Closure.{in_below}
 use Rattle.paper.proofs.Lists.{no_way}
-use Rattle.classes.specs.declared.Joined.{Joined}
-use Rattle.classes.specs.declared.Joined.TheVariants as J
+use Rattle.paper.specs.Answered.{Answer}
 use Rattle.classes.specs.Answers.{rep, joined, joined_by, two_classes}
 use Rattle.classes.specs.Well.{Well, WellMade}
 use Rattle.classes.specs.Equal.{class_count, Only, before, forth, Unites}
@@ -49,9 +49,9 @@ self_equates c x y W e = record {
 }
 
 -- what a join answers, and what it leaves
-data Answer (c : Classes) (x y : ℕ) : Classes × Joined → Type 0 where
-  was_one : (e : Refusal) → Equates c.parents c.parents c.ranks c.count x y false → Answer c x y (c, J.Refused e)
-  now_one : (d : Classes) (k : Bool) → Equates c.parents d.parents d.ranks d.count x y k → Answer c x y (d, J.Done k)
+data Answer (c : Classes) (x y : ℕ) : Classes × Answer Bool → Type 0 where
+  was_one : (e : Refusal) → Equates c.parents c.parents c.ranks c.count x y false → Answer c x y (c, Err e)
+  now_one : (d : Classes) (k : Bool) → Equates c.parents d.parents d.ranks d.count x y k → Answer c x y (d, Ok k)
 
 answer : (c : Classes) (x y : ℕ) → WellMade c → x < max_sites → y < max_sites → Answer c x y (joined c x y)
 unfolding unite
@@ -67,27 +67,27 @@ answer c x y W hx hy = go (ℕ_discrete x y)
         (now_one (unite c x y) k (unites_equates c (unite c x y) x y k
         (unites c W x y hx hy k (λ e. eqb-true _ _ (not-false _ e)) (λ e. eqb-false _ _ (not-true _ e)))))
 
-pub equate_done : (p r : List ℕ) (n x y : ℕ) → Well p r n → x < max_sites → y < max_sites → (q s : List ℕ) (m : ℕ) (j : Joined) (k : Bool)
-    → ◌≡◌ {A = Classes × Joined} (classes q s m, j) (joined (classes p r n) x y) → j ≡ J.Done k → Equates p q s m x y k
+pub equate_done : (p r : List ℕ) (n x y : ℕ) → Well p r n → x < max_sites → y < max_sites → (q s : List ℕ) (m : ℕ) (j : Answer Bool) (k : Bool)
+    → ◌≡◌ {A = Classes × Answer Bool} (classes q s m, j) (joined (classes p r n) x y) → j ≡ Ok k → Equates p q s m x y k
 equate_done p r n x y W hx hy q s m j k e o = go (answer (classes p r n) x y W hx hy) e
   where
-    go : {w : Classes × Joined} → Answer (classes p r n) x y w → ◌≡◌ {A = Classes × Joined} (classes q s m, j) w → Equates p q s m x y k
-    go (was_one f E) w = let j' : J.Refused f ≡ J.Done k = sym (ap (λ (u : Classes × Joined). u.1) w) ∙ o in let z : ◌≡◌ {A = ℕ} 0 1 = cc in absurd (omega arith)
+    go : {w : Classes × Answer Bool} → Answer (classes p r n) x y w → ◌≡◌ {A = Classes × Answer Bool} (classes q s m, j) w → Equates p q s m x y k
+    go (was_one f E) w = let j' : Err f ≡ Ok k = sym (ap (λ (u : Classes × Answer Bool). u.1) w) ∙ o in let z : ◌≡◌ {A = ℕ} 0 1 = cc in absurd (omega arith)
     go (now_one d h E) w =
-        let ed : classes q s m ≡ d = ap (λ (u : Classes × Joined). u.0) w in
-        let j' : J.Done h ≡ J.Done k = sym (ap (λ (u : Classes × Joined). u.1) w) ∙ o in
+        let ed : classes q s m ≡ d = ap (λ (u : Classes × Answer Bool). u.0) w in
+        let j' : Ok h ≡ Ok k = sym (ap (λ (u : Classes × Answer Bool). u.1) w) ∙ o in
         let eh : h ≡ k = cc in
         rw (← eh) (subst⁻¹ (λ (u : Classes). Equates p u.parents u.ranks u.count x y h) ed E)
 
-pub equate_not : (p r : List ℕ) (n x y : ℕ) → Well p r n → x < max_sites → y < max_sites → (q s : List ℕ) (m : ℕ) (j : Joined) (f : Refusal)
-    → ◌≡◌ {A = Classes × Joined} (classes q s m, j) (joined (classes p r n) x y) → j ≡ J.Refused f → Equates p q s m x y false
+pub equate_not : (p r : List ℕ) (n x y : ℕ) → Well p r n → x < max_sites → y < max_sites → (q s : List ℕ) (m : ℕ) (j : Answer Bool) (f : Refusal)
+    → ◌≡◌ {A = Classes × Answer Bool} (classes q s m, j) (joined (classes p r n) x y) → j ≡ Err f → Equates p q s m x y false
 equate_not p r n x y W hx hy q s m j f e o = go (answer (classes p r n) x y W hx hy) e
   where
-    go : {w : Classes × Joined} → Answer (classes p r n) x y w → ◌≡◌ {A = Classes × Joined} (classes q s m, j) w → Equates p q s m x y false
+    go : {w : Classes × Answer Bool} → Answer (classes p r n) x y w → ◌≡◌ {A = Classes × Answer Bool} (classes q s m, j) w → Equates p q s m x y false
     go (was_one g E) w =
-        let ed : classes q s m ≡ classes p r n = ap (λ (u : Classes × Joined). u.0) w in
+        let ed : classes q s m ≡ classes p r n = ap (λ (u : Classes × Answer Bool). u.0) w in
         subst⁻¹ (λ (u : Classes). Equates p u.parents u.ranks u.count x y false) ed E
-    go (now_one d h E) w = let j' : J.Done h ≡ J.Refused f = sym (ap (λ (u : Classes × Joined). u.1) w) ∙ o in let z : ◌≡◌ {A = ℕ} 0 1 = cc in absurd (omega arith)
+    go (now_one d h E) w = let j' : Ok h ≡ Err f = sym (ap (λ (u : Classes × Answer Bool). u.1) w) ∙ o in let z : ◌≡◌ {A = ℕ} 0 1 = cc in absurd (omega arith)
 
 -- ---- growths
 
@@ -159,11 +159,11 @@ kept_joined : (c : Classes) (b : Bool) (o : Outcome Classes) → (joined_by c b 
 kept_joined c b (done d) = refl
 kept_joined c b (refused e) = refl
 
-pub all_step : (c : Classes) (eqs : List ℕ) (k : ℕ) (d e : Classes) (j : Joined) → d ≡ merge_each c (below k (eq_at eqs))
-    → ◌≡◌ {A = Classes × Joined} (e, j) (joined d (eq_at eqs k).0 (eq_at eqs k).1) → e ≡ merge_each c (below (k + 1) (eq_at eqs))
+pub all_step : (c : Classes) (eqs : List ℕ) (k : ℕ) (d e : Classes) (j : Answer Bool) → d ≡ merge_each c (below k (eq_at eqs))
+    → ◌≡◌ {A = Classes × Answer Bool} (e, j) (joined d (eq_at eqs k).0 (eq_at eqs k).1) → e ≡ merge_each c (below (k + 1) (eq_at eqs))
 unfolding merged
 all_step c eqs k d e j h q =
-    ap (λ (u : Classes × Joined). u.0) q
+    ap (λ (u : Classes × Answer Bool). u.0) q
     ∙ (kept_joined d (two_classes d (eq_at eqs k).0 (eq_at eqs k).1) (merge d (eq_at eqs k).0 (eq_at eqs k).1)
     ∙ (ap (λ (u : Classes). merged u (eq_at eqs k)) h ∙ (sym (all_more c (eq_at eqs) k) ∙ rw add-one refl)))
 
@@ -220,7 +220,7 @@ module _ (eqs : List ℕ) (hs : List Holder) (I : Inside eqs) where
       c : Classes
       c = merge_each no_classes (below k (eq_at eqs))
 
-      made : Starts eqs hs c k → {w : Classes × Joined} → Answer c (eq_at eqs k).0 (eq_at eqs k).1 w → Starts eqs hs w.0 (suc k)
+      made : Starts eqs hs c k → {w : Classes × Answer Bool} → Answer c (eq_at eqs k).0 (eq_at eqs k).1 w → Starts eqs hs w.0 (suc k)
       made S (was_one f E) = starts_more c c k false (omega arith) S E
       made S (now_one d h E) = starts_more c d k h (omega arith) S E
 

@@ -8,12 +8,12 @@ use native.Mathlib.Decide.{ℕ_discrete}
 use lib.ListN.{get_or, set, length-set, replicate, length-replicate, get_or-replicate}
 use lib.Seq.{get_or-set_same, get_or-set_other}
 use borrow.Author.Count.{below_more}
+use Rattle.std.specs.declared.option.Option.TheVariants.{None, Some}
 use Rattle.paper.specs.Numbers.{max_sites}
 use Rattle.paper.specs.Sites.{same_constraint}
 use Rattle.rule_words.proofs.PackLaws.{same_refl}
 use Rattle.classes.specs.Answers.{rep}
-use Rattle.rule_classes.specs.declared.Clash.{Clash}
-use Rattle.rule_classes.specs.declared.Clash.TheVariants.{At, Nothing}
+use Rattle.paper.specs.Answered.{Maybe}
 use Rattle.rule_rows.specs.Holding.{Held, site_of, row_of, shape_of, shape_in, Inside}
 use Rattle.rule_classes.specs.Meeting.{Reps, FirstOf, Like, Unlike, ClashIs, Seated}
 
@@ -135,7 +135,7 @@ module _ (H : Held) (p : List ℕ) where
 -- the loop of conflict
 module _ (H : Held) (p : List ℕ) (m : ℕ) where
   pub clash_at : (boss : List ℕ) (h b k v s t : ℕ) → Seated H p boss h → h < m → Unlike H p h b → k ≡ h → s ≡ get_or H.sites k 0 → v ≡ b → t ≡ get_or H.sites v 0
-      → (boss' : List ℕ) → ClashIs H p m (At s t) × (◌≡◌ {A = Clash} (At s t) Nothing → Seated H p boss' m)
+      → (boss' : List ℕ) → ClashIs H p m (Some (s, t)) × (◌≡◌ {A = Maybe (ℕ × ℕ)} (Some (s, t)) None → Seated H p boss' m)
   unfolding ClashIs
   clash_at boss h b k v s t T l U ek es ev et boss' = (
     record {
@@ -150,6 +150,6 @@ module _ (H : Held) (p : List ℕ) (m : ℕ) where
     λ e. let z : ◌≡◌ {A = ℕ} 0 1 = cc in absurd (omega arith),
   )
 
-  pub clash_none : (boss : List ℕ) (h : ℕ) → h ≡ m → Seated H p boss h → ClashIs H p m Nothing × (◌≡◌ {A = Clash} Nothing Nothing → Seated H p boss m)
+  pub clash_none : (boss : List ℕ) (h : ℕ) → h ≡ m → Seated H p boss h → ClashIs H p m None × (◌≡◌ {A = Maybe (ℕ × ℕ)} None None → Seated H p boss m)
   unfolding ClashIs
   clash_none boss h e T = let T' : Seated H p boss m = rw e at T in (T'.likes, λ _. T')

@@ -1,14 +1,14 @@
 -- Check 4 over the classes of parents p: each holder against the first holder of its class. Then what is told of the whole.
+use Rattle.std.specs.declared.result.Result.TheVariants.{Err, Ok}
+use Rattle.std.specs.declared.option.Option.TheVariants.{None, Some}
 use Rattle.std.specs.Prelude.{◌≡◌, Bool, true, false, ◌↔◌, List, ◌++◌, ℕ, ◌≤◌, ◌<◌, get_or, length}
 use Rattle.std.proofs.Math.Option.{none}
-use Rattle.paper.specs.declared.Verdict.{Verdict}
-use Rattle.paper.specs.declared.Verdict.TheVariants.{Fine, Refused}
+use Rattle.paper.specs.Answered.{Verdict}
 use Rattle.paper.specs.Numbers.{max_sites, refused}
 use Rattle.paper.specs.Loading.{Together}
 use Rattle.paper.specs.Sites.{same_constraint}
 use Rattle.classes.specs.Answers.{rep}
-use Rattle.rule_classes.specs.declared.Clash.{Clash}
-use Rattle.rule_classes.specs.declared.Clash.TheVariants.{At, Nothing}
+use Rattle.paper.specs.Answered.{Maybe}
 use Rattle.rule_rows.specs.Holding.{Held, bare, site_of, shape_of, how_many, holders_in, eqs_in, class_check, stray, checked}
 use Rattle.rule_classes.specs.Growing.{One, Rest}
 
@@ -42,9 +42,9 @@ pub record ClashAt (H : Held) (p : List ℕ) (m s b : ℕ) : Type 0 where
   pub unlike : Unlike H p at boss
   pub likes : (f : ℕ) → f < at → Like H p f
 
-unfoldable pub ClashIs : Held → List ℕ → ℕ → Clash → Type 0
-ClashIs H p m (At s b) = ClashAt H p m s b
-ClashIs H p m Nothing = (h : ℕ) → h < m → Like H p h
+unfoldable pub ClashIs : Held → List ℕ → ℕ → Maybe (ℕ × ℕ) → Type 0
+ClashIs H p m (Some (s, b)) = ClashAt H p m s b
+ClashIs H p m None = (h : ℕ) → h < m → Like H p h
 
 -- boss has, by root, the first of m holders of each class, max-sites or more where there is none
 pub record BossTo (H : Held) (p boss : List ℕ) (m : ℕ) : Type 0 where
@@ -71,10 +71,10 @@ pub record Classed (eqs : List ℕ) (H : Held) (p boss : List ℕ) : Type 0 wher
 
 -- where all numbers are sites
 abbrev pub JoinedIs : List ℕ → Held → List ℕ → List ℕ → Verdict → Type 0
-JoinedIs eqs H p boss Fine = Classed eqs H p boss
-JoinedIs eqs H p boss (Refused e) = class_check (eqs_in eqs) (holders_in H) ≡ refused e
+JoinedIs eqs H p boss (Ok _) = Classed eqs H p boss
+JoinedIs eqs H p boss (Err e) = class_check (eqs_in eqs) (holders_in H) ≡ refused e
 
 -- after 2
 abbrev pub Grouped : List ℕ → Held → List ℕ → List ℕ → Verdict → Type 0
-Grouped eqs H p boss Fine = (stray (eqs ++ (H.sites ++ H.kids)) ≡ none) × Classed eqs H p boss
-Grouped eqs H p boss (Refused e) = checked eqs H ≡ refused e
+Grouped eqs H p boss (Ok _) = (stray (eqs ++ (H.sites ++ H.kids)) ≡ none) × Classed eqs H p boss
+Grouped eqs H p boss (Err e) = checked eqs H ≡ refused e

@@ -12,8 +12,7 @@ ghost use Rattle.rule_rows.specs.Holding.{held, bare, shape_in, eqs_in, Inside, 
 ghost use Rattle.rule_classes.specs.Growing.{Equates, JoinsKids, Meets, SweptTo, Closed};
 ghost use Rattle.rule_classes.specs.Meeting.{Reps, Unlike, ClashIs, Seated, JoinedIs, Grouped};
 
-use classes::Joined;
-use paper::{Refusal, SITES, Verdict};
+use paper::{Refusal, SITES};
 use rule_lists::at;
 use rule_rows::{alike, fields, first_stray, kid};
 use widths::size16;
@@ -43,7 +42,7 @@ fn equate(p: &mut [u16; SITES], r: &mut [u8; SITES], n: &mut u16, x: u16, y: u16
     ensures { Equates p.old p.new r.new n.new x y result }
 {
     let j = classes::merge_in(p, r, n, x, y);
-    let Joined::Done(two) = j else {
+    let Ok(two) = j else {
         return false;
     };
     two
@@ -172,13 +171,6 @@ fn close(
 
 // ---- check 4
 
-// A holder's site, and the first holder of its class, from which it differs.
-#[derive(Clone, Copy)]
-enum Clash {
-    At(u16, u16),
-    Nothing,
-}
-
 // Puts holder h to its class: NEVER, or the first holder of the class, if h differs from it.
 fn seat(
     p: &[u16; SITES],
@@ -219,22 +211,22 @@ fn conflict(
     words: &[u64],
     boss: &mut [u16; SITES],
     m: u16,
-) -> Clash
+) -> Option<(u16, u16)>
     requires reps { Reps p.now }
     requires m_le_max_sites { (m ≤ max_sites) × Inside sites.now }
     requires boss_value { boss.old ≡ replicate max_sites max_sites }
     ensures clash_is { ClashIs (bare sites.now rows.now words.now) p.now m result }
-    ensures seated { result ≡ Clash.Nothing → Seated (bare sites.now rows.now words.now) p.now boss.new m }
+    ensures seated { result ≡ None → Seated (bare sites.now rows.now words.now) p.now boss.new m }
 {
     for h in 0..m {
         let b = seat(p, sites, rows, words, boss, h);
         if b < NEVER {
             let s = at(sites, size16(h));
             let t = at(sites, size16(b));
-            return Clash::At(s, t);
+            return Some((s, t));
         }
     }
-    Clash::Nothing
+    None
 }
 
 // ---- the whole
@@ -248,7 +240,7 @@ fn join(
     rows: &[u16],
     words: &[u64],
     kids: &[u16],
-) -> Verdict
+) -> Result<(), Refusal>
     requires { Inside eqs.now × (Inside sites.now × Inside kids.now) }
     ensures { let L = held sites.now rows.now words.now kids.now in
         JoinedIs eqs.now L p.new boss.new result }
@@ -262,8 +254,8 @@ fn join(
     *boss = [NEVER; SITES];
     let c = conflict(p, sites, rows, words, boss, m);
     match c {
-        Clash::At(s, t) => Verdict::Refused(Refusal::Unreachable { site: s, other: t }),
-        Clash::Nothing => Verdict::Fine,
+        Some((s, t)) => Err(Refusal::Unreachable { site: s, other: t }),
+        None => Ok(()),
     }
 }
 
@@ -277,21 +269,21 @@ pub fn group(
     rows: &[u16],
     words: &[u64],
     kids: &[u16],
-) -> Verdict
+) -> Result<(), Refusal>
     ensures { let L = held sites.now rows.now words.now kids.now in
         Grouped eqs.now L p.new boss.new result }
 {
     let a = first_stray(eqs);
     if a != 0 {
-        return Verdict::Refused(Refusal::Unknown { site: a });
+        return Err(Refusal::Unknown { site: a });
     }
     let b = first_stray(sites);
     if b != 0 {
-        return Verdict::Refused(Refusal::Unknown { site: b });
+        return Err(Refusal::Unknown { site: b });
     }
     let d = first_stray(kids);
     if d != 0 {
-        return Verdict::Refused(Refusal::Unknown { site: d });
+        return Err(Refusal::Unknown { site: d });
     }
     join(p, boss, eqs, sites, rows, words, kids)
 }

@@ -8,9 +8,9 @@ use Prim.Native.Nat.{ℕ, ◌+◌, ◌*◌, ◌≤◌, ◌<◌, min}
 use native.Mathlib.Omega.{arith}
 use lib.ListN.{length, get_or, take}
 use lib.Seq.{take_all}
+use Rattle.std.specs.declared.option.Option.TheVariants.{None, Some}
 use Rattle.paper.specs.declared.Constraint.{Constraint}
-use Rattle.paper.specs.declared.Found.{Found}
-use Rattle.paper.specs.declared.Found.TheVariants.{At, Nothing}
+use Rattle.paper.specs.Answered.{Maybe}
 use Rattle.paper.specs.declared.Item.{Item}
 use Rattle.paper.specs.declared.Item.TheVariants.{Is, Equal}
 use Rattle.paper.specs.declared.Constraint.TheVariants.{Variant}
@@ -54,14 +54,14 @@ module _ (m : List ℕ) (n : ℕ) (tail sites rows words : List ℕ) (held : ℕ
     unfolding shown
     hangs_far h = sym (hangs_is none (ap (λ k. look k p) (sym X.constraints_are) ∙ look_none held (λ k. (get_or sites k 0, shape_in words (get_or rows k 0))) p (λ k q e. let z = X.small k q in omega arith)))
 
-    module _ (f : Found) (ef : f ≡ found_as (look (entries sites rows held) p)) where
+    module _ (f : Maybe ℕ) (ef : f ≡ found_as (look (entries sites rows held) p)) where
       looked : look l.constraints p ≡ with (shape_in words) (look (entries sites rows held) p)
       looked = ap (λ k. look k p) (sym X.constraints_are) ∙ look_shown sites rows words held p
 
-      pub hangs_free : f ≡ Nothing → true ≡ hangs l x
+      pub hangs_free : f ≡ None → true ≡ hangs l x
       hangs_free e = sym (hangs_is none (looked ∙ ap (with (shape_in words)) (found_nothing (look (entries sites rows held) p) f ef e)))
 
-      pub hangs_held : (row k a b c : ℕ) (y : Constraint) (q : Bool) → f ≡ At row → k ≡ 3 * row → a ≡ get_or words k 0 → b ≡ get_or words (k + 1) 0 → c ≡ get_or words (k + 2) 0 → y ≡ narrow (unpack a b c) → q ≡ any (same_site (site_of_word w)) (children p y) → not q ≡ hangs l x
+      pub hangs_held : (row k a b c : ℕ) (y : Constraint) (q : Bool) → f ≡ Some row → k ≡ 3 * row → a ≡ get_or words k 0 → b ≡ get_or words (k + 1) 0 → c ≡ get_or words (k + 2) 0 → y ≡ narrow (unpack a b c) → q ≡ any (same_site (site_of_word w)) (children p y) → not q ≡ hangs l x
       unfolding shape_in constraint_at
       hangs_held row k a b c y q e ek ea eb ec ey eq =
           let o = found_there (look (entries sites rows held) p) f row ef e in
@@ -87,50 +87,50 @@ module _ (p : ℕ → Bool) (x : ℕ) (ns : List ℕ) where
   unfolding keep
   kept_off e = rw (e, keep)
 
-  module _ (best : Found) (eb : best ≡ found_as (least (keep p ns))) where
+  module _ (best : Maybe ℕ) (eb : best ≡ found_as (least (keep p ns))) where
     pub lower_off : p x ≡ false → best ≡ found_as (least (keep p (x ∷ ns)))
     lower_off e = eb ∙ ap (λ k. found_as (least k)) (sym (kept_off e))
 
-    pub lower_first : p x ≡ true → best ≡ Nothing → At x ≡ found_as (least (keep p (x ∷ ns)))
+    pub lower_first : p x ≡ true → best ≡ None → Some x ≡ found_as (least (keep p (x ∷ ns)))
     unfolding least
     lower_first e q = let o = found_nothing (least (keep p ns)) best eb q in sym (ap (λ k. found_as (least k)) (kept_on e) ∙ rw (o, least))
 
-    pub lower_low : p x ≡ true → (y : ℕ) → best ≡ At y → x < y → At x ≡ found_as (least (keep p (x ∷ ns)))
+    pub lower_low : p x ≡ true → (y : ℕ) → best ≡ Some y → x < y → Some x ≡ found_as (least (keep p (x ∷ ns)))
     unfolding least
-    lower_low e y q h = let o = found_there (least (keep p ns)) best y eb q in let z : min x y ≡ x = omega arith in sym (ap (λ k. found_as (least k)) (kept_on e) ∙ rw (o, least) (ap At z))
+    lower_low e y q h = let o = found_there (least (keep p ns)) best y eb q in let z : min x y ≡ x = omega arith in sym (ap (λ k. found_as (least k)) (kept_on e) ∙ rw (o, least) (ap Some z))
 
-    pub lower_high : p x ≡ true → (y : ℕ) → best ≡ At y → y ≤ x → At y ≡ found_as (least (keep p (x ∷ ns)))
+    pub lower_high : p x ≡ true → (y : ℕ) → best ≡ Some y → y ≤ x → Some y ≡ found_as (least (keep p (x ∷ ns)))
     unfolding least
-    lower_high e y q h = let o = found_there (least (keep p ns)) best y eb q in let z : min x y ≡ y = omega arith in sym (ap (λ k. found_as (least k)) (kept_on e) ∙ rw (o, least) (ap At z))
+    lower_high e y q h = let o = found_there (least (keep p ns)) best y eb q in let z : min x y ≡ y = omega arith in sym (ap (λ k. found_as (least k)) (kept_on e) ∙ rw (o, least) (ap Some z))
 
 -- ---- an item, and all
 
-abbrev Lowers : Found → ℕ → Bool → Found → Type 0
+abbrev Lowers : Maybe ℕ → ℕ → Bool → Maybe ℕ → Type 0
 Lowers best x says r = (p : ℕ → Bool) (ns : List ℕ) → best ≡ found_as (least (keep p ns)) → says ≡ p x → r ≡ found_as (least (keep p (x ∷ ns)))
 
-module _ (l : Loading) (ns : List ℕ) (it : Item) (best : Found) (K : Known l (names (it ∷ []) ns)) (eb : best ≡ found_as (least (keep (hangs l) ns))) where
-  pub lowest_is : (s : ℕ) (c : Constraint) (says : Bool) (r : Found) → it ≡ Is s c → (s < length l.sites → says ≡ hangs l s) → Lowers best s says r → r ≡ found_as (least (keep (hangs l) (names (it ∷ []) ns)))
+module _ (l : Loading) (ns : List ℕ) (it : Item) (best : Maybe ℕ) (K : Known l (names (it ∷ []) ns)) (eb : best ≡ found_as (least (keep (hangs l) ns))) where
+  pub lowest_is : (s : ℕ) (c : Constraint) (says : Bool) (r : Maybe ℕ) → it ≡ Is s c → (s < length l.sites → says ≡ hangs l s) → Lowers best s says r → r ≡ found_as (least (keep (hangs l) (names (it ∷ []) ns)))
   lowest_is s c says r e h g =
       let n : names (it ∷ []) ns ≡ s ∷ ns = ap (λ x. names (x ∷ []) ns) e in
       let k : s < length l.sites = K s (rw n (Memᴰ.head refl)) in
       rw n (g (hangs l) ns eb (h k))
 
-  pub lowest_equal : (a b : ℕ) (one says : Bool) (q r : Found) → it ≡ Equal a b → (b < length l.sites → one ≡ hangs l b) → Lowers best b one q → (a < length l.sites → says ≡ hangs l a) → Lowers q a says r → r ≡ found_as (least (keep (hangs l) (names (it ∷ []) ns)))
+  pub lowest_equal : (a b : ℕ) (one says : Bool) (q r : Maybe ℕ) → it ≡ Equal a b → (b < length l.sites → one ≡ hangs l b) → Lowers best b one q → (a < length l.sites → says ≡ hangs l a) → Lowers q a says r → r ≡ found_as (least (keep (hangs l) (names (it ∷ []) ns)))
   lowest_equal a b one says q r e h g i j =
       let n : names (it ∷ []) ns ≡ a ∷ b ∷ ns = ap (λ x. names (x ∷ []) ns) e in
       let k : a < length l.sites = K a (rw n (Memᴰ.head refl)) in
       let m : b < length l.sites = K b (rw n (Memᴰ.tail (Memᴰ.head refl))) in
       rw n (j (hangs l) (b ∷ ns) (g (hangs l) ns eb (h m)) (i k))
 
-pub lowest_none : (items : List Item) (l : Loading) → Nothing ≡ found_as (least (keep (hangs l) (names (take 0 items) [])))
+pub lowest_none : (items : List Item) (l : Loading) → None ≡ found_as (least (keep (hangs l) (names (take 0 items) [])))
 unfolding keep least
 lowest_none items l = refl
 
-pub lowest_step : (items : List Item) (i : ℕ) (it : Item) (l : Loading) (best r : Found) → i < length items → get_or items i (Is 0 (Variant 0 0 0)) ≡ it → Known l (names items []) → best ≡ found_as (least (keep (hangs l) (names (take i items) [])))
+pub lowest_step : (items : List Item) (i : ℕ) (it : Item) (l : Loading) (best r : Maybe ℕ) → i < length items → get_or items i (Is 0 (Variant 0 0 0)) ≡ it → Known l (names items []) → best ≡ found_as (least (keep (hangs l) (names (take i items) [])))
     → ((ns : List ℕ) → Known l (names (it ∷ []) ns) → best ≡ found_as (least (keep (hangs l) ns)) → r ≡ found_as (least (keep (hangs l) (names (it ∷ []) ns)))) → r ≡ found_as (least (keep (hangs l) (names (take (i + 1) items) [])))
 lowest_step items i it l best r h e K eb g =
     let n = names_next items i it h e in
     rw n (g (names (take i items) []) (λ x m. K x (names_part items (i + 1) x (rw n m))) eb)
 
-pub lowest_all : (items : List Item) (i : ℕ) (l : Loading) (best : Found) → length items ≤ i → best ≡ found_as (least (keep (hangs l) (names (take i items) []))) → best ≡ found_as (least (keep (hangs l) (names items [])))
+pub lowest_all : (items : List Item) (i : ℕ) (l : Loading) (best : Maybe ℕ) → length items ≤ i → best ≡ found_as (least (keep (hangs l) (names (take i items) []))) → best ≡ found_as (least (keep (hangs l) (names items [])))
 lowest_all items i l best h e = e ∙ ap (λ x. found_as (least (keep (hangs l) (names x [])))) (take_all i items h)

@@ -7,14 +7,14 @@ use native.Mathlib.Omega.{arith}
 use native.Mathlib.Numerals.{add-one}
 use lib.ListN.{length, get_or, take, drop, take-append-drop}
 use lib.Seq.{take-suc}
+use Rattle.std.specs.declared.option.Option.TheVariants.{None, Some}
 use Rattle.paper.specs.declared.Constraint.TheVariants.{Variant}
 use Rattle.paper.specs.declared.Item.{Item}
 use Rattle.paper.specs.declared.Item.TheVariants.{Is, Equal}
 use Rattle.item_words.specs.Items.{item_at, items_in as held_items}
 use Rattle.item_words.proofs.Laws.{items_read}
 use Rattle.rule_hanging.specs.Seen.{names}
-use Rattle.paper.specs.declared.Found.{Found}
-use Rattle.paper.specs.declared.Found.TheVariants.{At, Nothing}
+use Rattle.paper.specs.Answered.{Maybe}
 use Rattle.rule_lists.specs.Entries.{found_as}
 
 -- ---- items
@@ -45,10 +45,10 @@ names_part items i x m =
 
 -- ---- what was looked for
 
-pub found_nothing : (o : Option ℕ) (f : Found) → f ≡ found_as o → f ≡ Nothing → o ≡ none
+pub found_nothing : (o : Option ℕ) (f : Maybe ℕ) → f ≡ found_as o → f ≡ None → o ≡ none
 found_nothing none f p q = refl
 found_nothing (some k) f p q = let z : ◌≡◌ {A = ℕ} 0 1 = cc in absurd (omega arith)
 
-pub found_there : (o : Option ℕ) (f : Found) (row : ℕ) → f ≡ found_as o → f ≡ At row → o ≡ some row
+pub found_there : (o : Option ℕ) (f : Maybe ℕ) (row : ℕ) → f ≡ found_as o → f ≡ Some row → o ≡ some row
 found_there none f row p q = let z : ◌≡◌ {A = ℕ} 0 1 = cc in absurd (omega arith)
 found_there (some k) f row p q = let z : k ≡ row = cc in ap some z

@@ -9,7 +9,7 @@ ghost use Rattle.item_words.specs.Items.{items_in};
 ghost use Rattle.rule_lists.specs.Entries.{found_as};
 ghost use Rattle.rule_hanging.specs.Seen.{names, Sees, Known};
 
-use paper::{Found, Item};
+use paper::Item;
 use rule_children::{source_of, word_of};
 use rule_words::word;
 use widths::size16;
@@ -38,7 +38,7 @@ fn hangs(
     }
     let s = source as u16;
     let there = rule_lists::look(sites, rows, held, s);
-    let Found::At(row) = there else {
+    let Some(row) = there else {
         return true;
     };
     let k = 3 * size16(row);
@@ -47,17 +47,17 @@ fn hangs(
 }
 
 // The lower of what was found and x, if x hangs.
-fn lower(best: Found, x: u16, yes: bool) -> Found
+fn lower(best: Option<u16>, x: u16, yes: bool) -> Option<u16>
     ensures { (p : ℕ → Bool) (ns : List ℕ) → best ≡ found_as (least (keep p ns)) → yes ≡ p x → result ≡ found_as (least (keep p (x ∷ ns))) }
 {
     if !yes {
         return best;
     }
-    let Found::At(y) = best else {
-        return Found::At(x);
+    let Some(y) = best else {
+        return Some(x);
     };
     if x < y {
-        return Found::At(x);
+        return Some(x);
     }
     best
 }
@@ -71,9 +71,9 @@ fn lower_item(
     rows: &[u16],
     held: usize,
     words: &[u64],
-    best: Found,
+    best: Option<u16>,
     it: Item,
-) -> Found
+) -> Option<u16>
     ensures { (l : Loading) → Sees m.now n tail.now sites.now rows.now words.now held l → (ns : List ℕ) →
         Known l (names (it ∷ []) ns) → best ≡ found_as (least (keep (hangs l) ns)) → result ≡ found_as (least (keep (hangs l) (names (it ∷ []) ns))) }
 {
@@ -112,11 +112,11 @@ pub fn hanging(
     words: &[u64],
     items: &[u64],
     count: u8,
-) -> Found
+) -> Option<u16>
     ensures { (l : Loading) → Sees m.now n tail.now sites.now rows.now words.now held l →
         Known l (names (items_in items.now count) []) → result ≡ found_as (least (keep (hangs l) (names (items_in items.now count) []))) }
 {
-    let mut best = Found::Nothing;
+    let mut best = None;
     let mut i: u8 = 0;
     while i < count {
         let it = item_words::item_at(items, i);

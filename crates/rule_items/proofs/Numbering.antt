@@ -5,6 +5,7 @@ use mathlib.Core.List.{List, [], ◌∷◌}
 use Prim.Native.Nat.{ℕ, ◌+◌, ◌≤◌, ◌<◌}
 use native.Mathlib.Omega.{arith}
 use lib.ListN.{length, length-append}
+use Rattle.std.specs.declared.result.Result.TheVariants.{Err, Ok}
 use Rattle.paper.specs.declared.Constraint.{Constraint}
 use Rattle.paper.specs.declared.Refusal.{Refusal}
 use Rattle.paper.specs.Words.{or_else}
@@ -15,7 +16,6 @@ use Rattle.paper.proofs.Laws.{number_front}
 use Rattle.paper.proofs.Adding.{Has, Numbered, nowhere, numbered, Placed, present, next, add_done, add_all_has}
 use Rattle.paper.proofs.Closure.{in_below}
 use Rattle.rule_children.specs.Tail.{children_as}
-use Rattle.rule_children.specs.declared.Given.TheVariants as goal
 
 number_add : (t : Sites) (at : ℕ) (s : Site) (a : Added) → add t at s ≡ done a → (x : Site) (n : ℕ) → number_of t x ≡ some n → number_of a.sites x ≡ some n
 number_add t at s a e x n q = go (add_done t at s a e).how
@@ -58,10 +58,10 @@ unfolding children child_number
 number_child t at s c u e f h = number_has u (child s c f) (add_all_has t at (children s c) u e (child s c f) (in_below (child_count c) (child s c) f h))
 
 -- what an answer of adding says of the table
-pub children_refused : (s : ℕ) (c : Constraint) (o : Outcome Sites) (why : Refusal) → (children_as s c o).outcome ≡ goal.Refused why → o ≡ refused why
+pub children_refused : (s : ℕ) (c : Constraint) (o : Outcome Sites) (why : Refusal) → (children_as s c o).outcome ≡ Err why → o ≡ refused why
 children_refused s c (done u) why e = let z : ◌≡◌ {A = ℕ} 0 1 = cc in absurd (omega arith)
 children_refused s c (refused r) why e = let z : r ≡ why = cc in ap refused z
 
-pub children_to : (s : ℕ) (c : Constraint) (o : Outcome Sites) (total : ℕ) → (children_as s c o).outcome ≡ goal.To total → (u : Sites) × (o ≡ done u) × (total ≡ length u)
+pub children_to : (s : ℕ) (c : Constraint) (o : Outcome Sites) (total : ℕ) → (children_as s c o).outcome ≡ Ok total → (u : Sites) × (o ≡ done u) × (total ≡ length u)
 children_to s c (done u) total e = (u, refl, cc)
 children_to s c (refused r) total e = let z : ◌≡◌ {A = ℕ} 0 1 = cc in absurd (omega arith)

@@ -9,10 +9,11 @@ use native.Mathlib.Decide.{ℕ_discrete}
 use lib.ListN.{length, get_or, take, set, length-set, length-append}
 use lib.Seq.{length-take-le, get_or-take, get_or-set_same, get_or-set_other}
 use borrow.Author.Tests.{lt-ltb, le-ltb, le-leb, lt-leb}
+use Rattle.std.specs.declared.result.Result.TheVariants.{Err, Ok}
+use Rattle.std.specs.declared.option.Option.TheVariants as option
 use Rattle.paper.specs.declared.Constraint.{Constraint}
 use Rattle.paper.specs.declared.Constraint.TheVariants.{Variant, Struct, ConstBool, ConstInt, ConstPrim, Some}
-use Rattle.paper.specs.declared.Found.{Found}
-use Rattle.paper.specs.declared.Found.TheVariants.{At, Nothing}
+use Rattle.paper.specs.Answered.{Maybe}
 use Rattle.paper.specs.declared.Item.{Item}
 use Rattle.paper.specs.declared.Item.TheVariants.{Is, Equal}
 use Rattle.paper.specs.declared.Refusal.TheVariants.{Unknown, Unreachable, TooManyFields}
@@ -22,7 +23,6 @@ use Rattle.paper.specs.Sites.{fields, same_constraint, child_count, known}
 use Rattle.paper.specs.Loading.{Loading, constrain, load_item}
 use Rattle.rule_rows.specs.Holding.{shape_in, eqs_in, eq_at}
 use Rattle.rule_lists.specs.Entries.{entries, found_as}
-use Rattle.paper.specs.declared.Verdict.TheVariants as verdict
 use Rattle.rule_lists.proofs.Placing.{below_alike}
 use Rattle.rule_hanging.proofs.Showing.{look_shown, with}
 use Rattle.rule_items.specs.Way.{Way, Space, Turn}
@@ -45,12 +45,12 @@ module _ (m : List ℕ) (n : ℕ) (tail : List ℕ) (t : ℕ) (sites rows words 
   -- ---- a constraint
 
   module _ (s : ℕ) (c : Constraint) (r : Progress) where
-    pub is_unknown : n + t ≤ s → r.answer ≡ verdict.Refused (Unknown s) → (tail' sites' rows' words' kids' : List ℕ) → Turn m n tail' sites' rows' words' kids' eqs r i (load_item l i (Is s c))
+    pub is_unknown : n + t ≤ s → r.answer ≡ Err (Unknown s) → (tail' sites' rows' words' kids' : List ℕ) → Turn m n tail' sites' rows' words' kids' eqs r i (load_item l i (Is s c))
     unfolding load_item known
     is_unknown h e tail' sites' rows' words' kids' = let z = size in rw (le-ltb s (length l.sites) (omega arith)) e
 
     module _ (h : s < n + t) where
-      pub is_wide : (q : ℕ) → q ≡ fields c → max_fields < q → r.answer ≡ verdict.Refused (TooManyFields q i) → (tail' sites' rows' words' kids' : List ℕ) → Turn m n tail' sites' rows' words' kids' eqs r i (load_item l i (Is s c))
+      pub is_wide : (q : ℕ) → q ≡ fields c → max_fields < q → r.answer ≡ Err (TooManyFields q i) → (tail' sites' rows' words' kids' : List ℕ) → Turn m n tail' sites' rows' words' kids' eqs r i (load_item l i (Is s c))
       unfolding load_item known
       is_wide q f g e tail' sites' rows' words' kids' = let z = size in rw (lt-ltb s (length l.sites) (omega arith), ← f, lt-leb q max_fields g) e
 
@@ -62,32 +62,32 @@ module _ (m : List ℕ) (n : ℕ) (tail : List ℕ) (t : ℕ) (sites rows words 
         looked : look l.constraints s ≡ with (shape_in words) (look (entries sites rows held) s)
         looked = ap (λ x. look x s) (sym W.shown.constraints_are) ∙ look_shown sites rows words held s
 
-        pub is_new : (f : Found) → f ≡ found_as (look (entries sites rows held) s) → f ≡ Nothing → (tail' sites' rows' words' kids' : List ℕ) → Turn m n tail' sites' rows' words' kids' eqs r i (constrain l i s c none) → Turn m n tail' sites' rows' words' kids' eqs r i (load_item l i (Is s c))
+        pub is_new : (f : Maybe ℕ) → f ≡ found_as (look (entries sites rows held) s) → f ≡ option.None → (tail' sites' rows' words' kids' : List ℕ) → Turn m n tail' sites' rows' words' kids' eqs r i (constrain l i s c none) → Turn m n tail' sites' rows' words' kids' eqs r i (load_item l i (Is s c))
         is_new f p q tail' sites' rows' words' kids' T =
             let e : load_item l i (Is s c) ≡ constrain l i s c none = load_is ∙ ap (constrain l i s c) (looked ∙ ap (with (shape_in words)) (found_nothing (look (entries sites rows held) s) f p q)) in
             rw e T
 
-        there : (f : Found) (row : ℕ) → f ≡ found_as (look (entries sites rows held) s) → f ≡ At row → load_item l i (Is s c) ≡ constrain l i s c (some (shape_in words row))
+        there : (f : Maybe ℕ) (row : ℕ) → f ≡ found_as (look (entries sites rows held) s) → f ≡ option.Some row → load_item l i (Is s c) ≡ constrain l i s c (some (shape_in words row))
         there f row p q = load_is ∙ ap (constrain l i s c) (looked ∙ ap (with (shape_in words)) (found_there (look (entries sites rows held) s) f row p q))
 
-        pub is_same : (f : Found) (row : ℕ) (b : Bool) → f ≡ found_as (look (entries sites rows held) s) → f ≡ At row → b ≡ same_constraint c (shape_in words row) → b ≡ true → i < max_items → r.answer ≡ verdict.Fine → r.tail ≡ t → r.held ≡ held → r.equal ≡ equal → Turn m n tail sites rows words kids eqs r i (load_item l i (Is s c))
+        pub is_same : (f : Maybe ℕ) (row : ℕ) (b : Bool) → f ≡ found_as (look (entries sites rows held) s) → f ≡ option.Some row → b ≡ same_constraint c (shape_in words row) → b ≡ true → i < max_items → r.answer ≡ Ok tt → r.tail ≡ t → r.held ≡ held → r.equal ≡ equal → Turn m n tail sites rows words kids eqs r i (load_item l i (Is s c))
         is_same f row b p q x y k e1 e2 e3 e4 =
             let z = size in
             let u : same_constraint c (shape_in words row) ≡ true = sym x ∙ y in
             rw (there f row p q, u) (e1, rw (e2, e3, e4) (way_again m n tail t sites rows words kids held eqs equal i l W k s (omega arith)))
 
-        pub is_other : (f : Found) (row : ℕ) (b : Bool) → f ≡ found_as (look (entries sites rows held) s) → f ≡ At row → b ≡ same_constraint c (shape_in words row) → b ≡ false → r.answer ≡ verdict.Refused (Unreachable s s) → Turn m n tail sites rows words kids eqs r i (load_item l i (Is s c))
+        pub is_other : (f : Maybe ℕ) (row : ℕ) (b : Bool) → f ≡ found_as (look (entries sites rows held) s) → f ≡ option.Some row → b ≡ same_constraint c (shape_in words row) → b ≡ false → r.answer ≡ Err (Unreachable s s) → Turn m n tail sites rows words kids eqs r i (load_item l i (Is s c))
         is_other f row b p q x y e = let u : same_constraint c (shape_in words row) ≡ false = sym x ∙ y in rw (there f row p q, u) e
 
   -- ---- an equality
 
   module _ (a b : ℕ) (r : Progress) where
-    pub equal_first : n + t ≤ a → r.answer ≡ verdict.Refused (Unknown a) → (eqs' : List ℕ) → Turn m n tail sites rows words kids eqs' r i (load_item l i (Equal a b))
+    pub equal_first : n + t ≤ a → r.answer ≡ Err (Unknown a) → (eqs' : List ℕ) → Turn m n tail sites rows words kids eqs' r i (load_item l i (Equal a b))
     unfolding load_item known
     equal_first h e eqs' = let z = size in rw (le-ltb a (length l.sites) (omega arith)) e
 
     module _ (ha : a < n + t) where
-      pub equal_second : n + t ≤ b → r.answer ≡ verdict.Refused (Unknown b) → (eqs' : List ℕ) → Turn m n tail sites rows words kids eqs' r i (load_item l i (Equal a b))
+      pub equal_second : n + t ≤ b → r.answer ≡ Err (Unknown b) → (eqs' : List ℕ) → Turn m n tail sites rows words kids eqs' r i (load_item l i (Equal a b))
       unfolding load_item known
       equal_second h e eqs' = let z = size in rw (lt-ltb a (length l.sites) (omega arith), le-ltb b (length l.sites) (omega arith)) e
 
@@ -148,7 +148,7 @@ module _ (m : List ℕ) (n : ℕ) (tail : List ℕ) (t : ℕ) (sites rows words 
             go (no d) (yes e) = let x = ap (λ q. get_or eqs2 q 0) e ∙ b_at in let z = size in omega arith
             go (no d) (no e) = let x = old_at k (omega arith) in let y = W.shown.equal_known k (omega arith) in omega arith
 
-        pub equal_both : r.answer ≡ verdict.Fine → r.tail ≡ t → r.held ≡ held → r.equal ≡ equal + 2 → Turn m n tail sites rows words kids eqs2 r i (load_item l i (Equal a b))
+        pub equal_both : r.answer ≡ Ok tt → r.tail ≡ t → r.held ≡ held → r.equal ≡ equal + 2 → Turn m n tail sites rows words kids eqs2 r i (load_item l i (Equal a b))
         unfolding load_item known
         equal_both e1 e2 e3 e4 =
             let z = size in

@@ -9,6 +9,7 @@ use native.Mathlib.Omega.{arith}
 use lib.ListN.{length, get_or, take, get_or-eq_default}
 use lib.Dec.{ltb}
 use borrow.Author.Tests.{lt-ltb, ltb-true, ltb-false}
+use Rattle.std.specs.declared.result.Result.TheVariants.{Err, Ok}
 use Rattle.paper.specs.declared.Constraint.{Constraint}
 use Rattle.paper.specs.declared.Refusal.{Refusal}
 use Rattle.std.specs.Prelude.{if◌then◌else◌}
@@ -19,7 +20,6 @@ use Rattle.paper.specs.Loading.{Loading, constrain}
 use Rattle.rule_words.specs.Packing.{InRange, head, second, third}
 use Rattle.rule_children.specs.Tail.{children_as}
 use Rattle.rule_children.specs.declared.Children.{Children}
-use Rattle.rule_children.specs.declared.Given.TheVariants as goal
 use Rattle.rule_children.specs.Tail.{table, grown, holds}
 use Rattle.rule_children.proofs.ScanLaws.{table_length, number_inside}
 use Rattle.sites.specs.Slots.{length_below}
@@ -28,7 +28,6 @@ use Rattle.rule_children.proofs.GrowLaws.{all_length}
 use Rattle.rule_rows.specs.Holding.{shape_in, kid_in, eqs_in, Inside}
 use Rattle.rule_rows.proofs.Agreeing.{get_or_below}
 use Rattle.rule_lists.specs.Entries.{Puts}
-use Rattle.paper.specs.declared.Verdict.TheVariants as verdict
 use Rattle.rule_lists.proofs.Placing.{below_alike}
 use Rattle.rule_hanging.specs.Seen.{shown}
 use Rattle.rule_items.specs.Shown.{Row}
@@ -113,14 +112,14 @@ module _ (m : List ℕ) (n : ℕ) (tail : List ℕ) (t : ℕ) (sites rows : List
   adds = let a = R.fits in let b = R.short in let d = R.item in let e = R.tail_long in grown_adds m n tail t i s c (omega arith) (omega arith) few
 
   -- refused: a table that can't grow
-  pub constrain_refused : (g : Children) (why : Refusal) (r : Progress) → g ≡ children_as s c (grown m n tail t i s c) → g.outcome ≡ goal.Refused why → r.answer ≡ verdict.Refused why
+  pub constrain_refused : (g : Children) (why : Refusal) (r : Progress) → g ≡ children_as s c (grown m n tail t i s c) → g.outcome ≡ Err why → r.answer ≡ Err why
       → (eqs : List ℕ) (l : Loading) → Way m n tail t sites rows words kids held eqs equal i l → (tail' sites' rows' words' kids' : List ℕ) → Turn m n tail' sites' rows' words' kids' eqs r i (constrain l i s c none)
   constrain_refused g why r eg eo ea eqs l W tail' sites' rows' words' kids' =
       let x : grown m n tail t i s c ≡ refused why = children_refused s c (grown m n tail t i s c) why (ap (λ y. y.outcome) (sym eg) ∙ eo) in
       let y : add_all l.sites i (children s c) ≡ refused why = ap (λ z. add_all z i (children s c)) (sym W.shown.sites_are) ∙ sym adds ∙ x in
       rw y ea
 
-  module _ (g : Children) (total : ℕ) (eg : g ≡ children_as s c (grown m n tail t i s c)) (eo : g.outcome ≡ goal.To total) where
+  module _ (g : Children) (total : ℕ) (eg : g ≡ children_as s c (grown m n tail t i s c)) (eo : g.outcome ≡ Ok total) where
     grew : (u : Sites) × (grown m n tail t i s c ≡ done u) × (total ≡ length u)
     grew = children_to s c (grown m n tail t i s c) total (ap (λ y. y.outcome) (sym eg) ∙ eo)
 
@@ -205,7 +204,7 @@ module _ (m : List ℕ) (n : ℕ) (tail : List ℕ) (t : ℕ) (sites rows : List
       unfolding shown
       old_shown eqs l W = below_alike held (λ k. (get_or sites k 0, shape_in words' (get_or rows k 0))) (λ k. (get_or sites k 0, shape_in words (get_or rows k 0))) (λ k h. rw (worded_older words i a b d words' X (get_or rows k 0) (W.older k h)))
 
-      pub constrain_done : (sites' rows' : List ℕ) (more : ℕ) → Puts sites rows held s i sites' rows' more → (tail' : List ℕ) → holds m n tail' (grown m n tail t i s c) → (r : Progress) → r.answer ≡ verdict.Fine → r.tail ≡ total - n → r.held ≡ more → r.equal ≡ equal
+      pub constrain_done : (sites' rows' : List ℕ) (more : ℕ) → Puts sites rows held s i sites' rows' more → (tail' : List ℕ) → holds m n tail' (grown m n tail t i s c) → (r : Progress) → r.answer ≡ Ok tt → r.tail ≡ total - n → r.held ≡ more → r.equal ≡ equal
           → (eqs : List ℕ) (l : Loading) → Way m n tail t sites rows words kids held eqs equal i l → Turn m n tail' sites' rows' words' kids' eqs r i (constrain l i s c none)
       constrain_done sites' rows' more P tail' H r q1 q2 q3 q4 eqs l W =
           let S = W.shown in

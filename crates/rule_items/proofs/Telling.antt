@@ -7,8 +7,9 @@ use native.Mathlib.Omega.{arith}
 use lib.ListN.{length, get_or}
 use lib.Dec.{leb}
 use borrow.Author.Tests.{le-leb, lt-leb}
-use Rattle.paper.specs.declared.Found.{Found}
-use Rattle.paper.specs.declared.Found.TheVariants.{At, Nothing}
+use Rattle.std.specs.declared.result.Result.TheVariants.{Err, Ok}
+use Rattle.std.specs.declared.option.Option.TheVariants.{None, Some}
+use Rattle.paper.specs.Answered.{Maybe}
 use Rattle.paper.specs.declared.Refusal.{Refusal}
 use Rattle.paper.specs.declared.Refusal.TheVariants.{TooManySites, TooManyItems, Hanging}
 use Rattle.paper.specs.declared.Item.{Item}
@@ -17,7 +18,6 @@ use Rattle.paper.specs.Numbers.{max_sites, max_items, Outcome, done, refused, �
 use Rattle.paper.specs.Loading.{Loading, load_items, hangs, hanging, no_hanging, no_items}
 use Rattle.sites.specs.Slots.{sites_in}
 use Rattle.rule_lists.specs.Entries.{found_as}
-use Rattle.paper.specs.declared.Verdict.TheVariants as verdict
 use Rattle.rule_items.specs.Shown.{Told, Rowed, roomy, items_in}
 use Rattle.rule_hanging.specs.Seen.{names, Sees, Known}
 use Rattle.rule_items.specs.Way.{Way, Walk}
@@ -43,7 +43,7 @@ sees_of m n tail t sites rows words kids held eqs equal i l W =
     }
 
 -- the answer of check 5 over `count` items, where there are at most max-items
-pub few_items : (m : List ℕ) (n : ℕ) (tail sites rows words : List ℕ) (held : ℕ) (ws : List ℕ) (count : ℕ) (f : Found) → count ≤ max_items
+pub few_items : (m : List ℕ) (n : ℕ) (tail sites rows words : List ℕ) (held : ℕ) (ws : List ℕ) (count : ℕ) (f : Maybe ℕ) → count ≤ max_items
     → ((l : Loading) → Sees m n tail sites rows words held l → Known l (names (held_items ws count) []) → f ≡ found_as (least (keep (hangs l) (names (held_items ws count) []))))
     → (l : Loading) → Sees m n tail sites rows words held l → Known l (names (held_items ws (min count max_items)) []) → f ≡ found_as (least (keep (hangs l) (names (held_items ws (min count max_items)) [])))
 few_items m n tail sites rows words held ws count f h g l X =
@@ -83,7 +83,7 @@ module _ (tail sites rows words kids eqs : List ℕ) where
 
 -- ---- the rows
 
-pub rowed_refused : (rows : List ℕ) (count : ℕ) (r : Progress) (why : Refusal) → r.answer ≡ verdict.Refused why → Rowed rows count r
+pub rowed_refused : (rows : List ℕ) (count : ℕ) (r : Progress) (why : Refusal) → r.answer ≡ Err why → Rowed rows count r
 rowed_refused rows count r why e = record { low = λ f. let z : ◌≡◌ {A = ℕ} 0 1 = cc in absurd (omega arith) }
 
 pub rowed_walk : (m : List ℕ) (n : ℕ) (items : List Item) (tail sites rows words kids eqs : List ℕ) (r : Progress) (count : ℕ) → Walk m n tail sites rows words kids eqs r count items (load_items (no_items (sites_in m n)) 0 items) → Rowed rows count r
@@ -99,17 +99,17 @@ module _ (room : Bool) (m : List ℕ) (n count : ℕ) (items : List Item) (tail 
   abbrev Tells : Type 0
   Tells = Told m n tail sites rows words kids eqs r (items_in room m n count items)
 
-  pub told_sites : max_sites < n → r.answer ≡ verdict.Refused (TooManySites n count) → Tells
+  pub told_sites : max_sites < n → r.answer ≡ Err (TooManySites n count) → Tells
   unfolding items_in
   told_sites h e = rw (lt-leb n max_sites h) e
 
   module _ (hn : n ≤ max_sites) where
-    pub told_short : room ≡ false → r.answer ≡ verdict.Refused (TooManyItems count) → Tells
+    pub told_short : room ≡ false → r.answer ≡ Err (TooManyItems count) → Tells
     unfolding items_in
     told_short q e = rw (le-leb n max_sites hn, q) e
 
     module _ (hr : room ≡ true) where
-      pub told_many : max_items < count → r.answer ≡ verdict.Refused (TooManyItems count) → Tells
+      pub told_many : max_items < count → r.answer ≡ Err (TooManyItems count) → Tells
       unfolding items_in
       told_many h e = rw (le-leb n max_sites hn, hr, lt-leb count max_items h) e
 
@@ -121,27 +121,27 @@ module _ (room : Bool) (m : List ℕ) (n count : ℕ) (items : List Item) (tail 
         unfolding items_in
         in_order = rw (le-leb n max_sites hn, hr, le-leb count max_items hc)
 
-        pub told_stop : (why : Refusal) → r.answer ≡ verdict.Refused why → Walk m n tail sites rows words kids eqs r count items (load_items (no_items (sites_in m n)) 0 items) → Tells
+        pub told_stop : (why : Refusal) → r.answer ≡ Err why → Walk m n tail sites rows words kids eqs r count items (load_items (no_items (sites_in m n)) 0 items) → Tells
         told_stop why e w = rw in_order (go (load_items (no_items (sites_in m n)) 0 items) w)
           where
             go : (o : Outcome Loading) → Walk m n tail sites rows words kids eqs r count items o → Told m n tail sites rows words kids eqs r (Rest o)
             go (done l) q = let a = q.0 in let z : ◌≡◌ {A = ℕ} 0 1 = cc in absurd (omega arith)
             go (refused x) q = q
 
-        module _ (p : Progress) (w : Walk m n tail sites rows words kids eqs p count items (load_items (no_items (sites_in m n)) 0 items)) (fine : p.answer ≡ verdict.Fine) (f : Found)
+        module _ (p : Progress) (w : Walk m n tail sites rows words kids eqs p count items (load_items (no_items (sites_in m n)) 0 items)) (fine : p.answer ≡ Ok tt) (f : Maybe ℕ)
             (g : (l : Loading) → Sees m n tail sites rows words p.held l → Known l (names items []) → f ≡ found_as (least (keep (hangs l) (names items [])))) where
           hanging_is : (l : Loading) → Way m n tail p.tail sites rows words kids p.held eqs p.equal count l → l.named ≡ names items [] → f ≡ found_as (hanging l)
           unfolding hanging
           hanging_is l W e = g l (sees_of m n tail p.tail sites rows words kids p.held eqs p.equal count l W) (λ x q. W.named x (rw e q)) ∙ ap (λ k. found_as (least (keep (hangs l) k))) (sym e)
 
-          pub told_hanging : (s : ℕ) → f ≡ At s → r.answer ≡ verdict.Refused (Hanging s) → Tells
+          pub told_hanging : (s : ℕ) → f ≡ Some s → r.answer ≡ Err (Hanging s) → Tells
           told_hanging s q e = rw in_order (go (load_items (no_items (sites_in m n)) 0 items) w)
             where
               go : (o : Outcome Loading) → Walk m n tail sites rows words kids eqs p count items o → Told m n tail sites rows words kids eqs r (Rest o)
               go (done l) x = let h = found_there (hanging l) f s (hanging_is l x.1.0 x.1.1) q in rw h e
               go (refused y) x = let z : ◌≡◌ {A = ℕ} 0 1 = cc in absurd (omega arith)
 
-          pub told_fine : f ≡ Nothing → r ≡ p → Tells
+          pub told_fine : f ≡ None → r ≡ p → Tells
           told_fine q e = rw (in_order, e) (go (load_items (no_items (sites_in m n)) 0 items) w)
             where
               go : (o : Outcome Loading) → Walk m n tail sites rows words kids eqs p count items o → Told m n tail sites rows words kids eqs p (Rest o)

@@ -10,6 +10,7 @@ use lib.ListN.{length, get_or, take, drop, drop_of_length-le}
 use lib.Seq.{drop-cons, take_all}
 use lib.Dec.{leb}
 use borrow.Author.Tests.{leb-true}
+use Rattle.std.specs.declared.result.Result.TheVariants.{Err, Ok}
 use Rattle.paper.specs.declared.Constraint.{Constraint}
 use Rattle.paper.specs.declared.Constraint.TheVariants.{Variant}
 use Rattle.paper.specs.declared.Item.{Item}
@@ -26,7 +27,6 @@ use Rattle.rule_children.specs.Tail.{table}
 use Rattle.rule_rows.specs.Holding.{eqs_in, Inside}
 use Rattle.item_words.specs.Items.{item_at, items_in as held_items}
 use Rattle.item_words.proofs.Laws.{items_length, items_read}
-use Rattle.paper.specs.declared.Verdict.TheVariants as verdict
 use Rattle.paper.proofs.Lists.{and_both}
 use Rattle.rule_hanging.specs.Seen.{shown, names}
 use Rattle.rule_items.specs.Shown.{roomy, AsLong}
@@ -120,7 +120,7 @@ module _ (m : List ℕ) (n : ℕ) (items : List Item) (tail : List ℕ) (t : ℕ
   )
 
   -- all items are taken
-  pub walking_done : (r : Progress) (count : ℕ) → length items ≤ i → i ≤ count → r.answer ≡ verdict.Fine → r.tail ≡ t → r.held ≡ held → r.equal ≡ equal
+  pub walking_done : (r : Progress) (count : ℕ) → length items ≤ i → i ≤ count → r.answer ≡ Ok tt → r.tail ≡ t → r.held ≡ held → r.equal ≡ equal
       → Walk m n tail sites rows words kids eqs r count items (load_items (no_items (sites_in m n)) 0 items)
   unfolding load_items
   walking_done r count h k e1 e2 e3 e4 =
@@ -138,14 +138,14 @@ module _ (m : List ℕ) (n : ℕ) (items : List Item) (tail : List ℕ) (t : ℕ
     next = sym X.left ∙ ap (load_items X.l i) (drop-cons items i (Is 0 (Variant 0 0 0)) h) ∙ ap (λ x. load_item X.l i x >>= λ l'. load_items l' (suc i) (drop (suc i) items)) ei
 
     -- one is refused
-    pub walking_stop : (why : Refusal) (count : ℕ) → r.answer ≡ verdict.Refused why → Walk m n tail' sites' rows' words' kids' eqs' r count items (load_items (no_items (sites_in m n)) 0 items)
+    pub walking_stop : (why : Refusal) (count : ℕ) → r.answer ≡ Err why → Walk m n tail' sites' rows' words' kids' eqs' r count items (load_items (no_items (sites_in m n)) 0 items)
     walking_stop why count e = rw next (go (load_item X.l i it) (T X.l X.way))
       where
         go : (o : Outcome Loading) → Turn m n tail' sites' rows' words' kids' eqs' r i o → Walk m n tail' sites' rows' words' kids' eqs' r count items (o >>= λ l'. load_items l' (suc i) (drop (suc i) items))
         go (done l') q = let a = q.0 in let z : ◌≡◌ {A = ℕ} 0 1 = cc in absurd (omega arith)
         go (refused w) q = q
 
-    pub walking_step : r.answer ≡ verdict.Fine → Walking m n items tail' r.tail sites' rows' words' kids' r.held eqs' r.equal (i + 1)
+    pub walking_step : r.answer ≡ Ok tt → Walking m n items tail' r.tail sites' rows' words' kids' r.held eqs' r.equal (i + 1)
     walking_step e = go (load_item X.l i it) refl (T X.l X.way)
       where
         go : (o : Outcome Loading) → load_item X.l i it ≡ o → Turn m n tail' sites' rows' words' kids' eqs' r i o → Walking m n items tail' r.tail sites' rows' words' kids' r.held eqs' r.equal (i + 1)

@@ -1,4 +1,5 @@
 -- What the lent lists show of a rule on its way. Row i belongs to item i: its constraint in three words from 3 * i, its children from 8 * i.
+use Rattle.std.specs.declared.result.Result.TheVariants.{Err, Ok}
 use Rattle.std.specs.Prelude.{◌≡◌, Bool, ◌&&◌, List, ℕ, ◌+◌, ◌*◌, ◌<◌, ◌≤◌, length, get_or, take, leb}
 use Rattle.paper.specs.declared.Item.{Item}
 use Rattle.paper.specs.declared.Refusal.TheVariants.{TooManySites, TooManyItems}
@@ -9,7 +10,6 @@ use Rattle.rule_words.specs.Packing.{InRange}
 use Rattle.sites.specs.Slots.{sites_in}
 use Rattle.rule_children.specs.Tail.{table}
 use Rattle.rule_rows.specs.Holding.{shape_in, kid_in, eqs_in}
-use Rattle.paper.specs.declared.Verdict.TheVariants as verdict
 use Rattle.rule_hanging.specs.Seen.{shown}
 use Rattle.rule_items.specs.declared.Progress.{Progress}
 
@@ -52,12 +52,12 @@ items_in room m n count items = do
 
 -- What load_items answers, and what it leaves in the lists; of a refused rule they say nothing.
 abbrev pub Told : List ℕ → ℕ → List ℕ → List ℕ → List ℕ → List ℕ → List ℕ → List ℕ → Progress → Outcome Loading → Type 0
-Told m n tail sites rows words kids eqs r (done l) = (r.answer ≡ verdict.Fine) × Shown m n tail r.tail sites rows words kids r.held eqs r.equal l
-Told m n tail sites rows words kids eqs r (refused e) = r.answer ≡ verdict.Refused e
+Told m n tail sites rows words kids eqs r (done l) = (r.answer ≡ Ok tt) × Shown m n tail r.tail sites rows words kids r.held eqs r.equal l
+Told m n tail sites rows words kids eqs r (refused e) = r.answer ≡ Err e
 
 -- where the answer is fine, the row of each constrained site is that of one of `count` items
 pub record Rowed (rows : List ℕ) (count : ℕ) (r : Progress) : Type 0 where
-  pub low : r.answer ≡ verdict.Fine → (i : ℕ) → i < r.held → get_or rows i 0 < count
+  pub low : r.answer ≡ Ok tt → (i : ℕ) → i < r.held → get_or rows i 0 < count
 
 -- the lent lists are as long as before
 pub record AsLong (tail sites rows words kids eqs tail' sites' rows' words' kids' eqs' : List ℕ) : Type 0 where

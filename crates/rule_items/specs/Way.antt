@@ -1,4 +1,5 @@
 -- A rule on its way through its items: what holds after each, and of each step.
+use Rattle.std.specs.declared.result.Result.TheVariants.{Err, Ok}
 use Rattle.std.specs.Prelude.{◌≡◌, ◌⊎◌, ℕ, ◌+◌, ◌*◌, ◌<◌, ◌≤◌, length, get_or}
 use Rattle.std.proofs.Math.Option.{some}
 use mathlib.Core.List.{List, [], Memᴰ}
@@ -7,7 +8,6 @@ use Rattle.paper.specs.Numbers.{max_sites, max_fields, max_items, Outcome, done,
 use Rattle.paper.specs.Sites.{child_count, child, number_of}
 use Rattle.paper.specs.Loading.{Loading}
 use Rattle.rule_rows.specs.Holding.{shape_in, kid_in}
-use Rattle.paper.specs.declared.Verdict.TheVariants as verdict
 use Rattle.rule_items.specs.Shown.{Shown}
 use Rattle.rule_hanging.specs.Seen.{names}
 use Rattle.rule_items.specs.declared.Progress.{Progress}
@@ -45,14 +45,14 @@ pub record Space (equal i : ℕ) (eqs : List ℕ) : Type 0 where
 -- item i was taken, or refused
 abbrev pub Turn : List ℕ → ℕ → List ℕ → List ℕ → List ℕ → List ℕ → List ℕ → List ℕ → Progress → ℕ → Outcome Loading → Type 0
 Turn m n tail sites rows words kids eqs r i (done l) =
-    (r.answer ≡ verdict.Fine) × Way m n tail r.tail sites rows words kids r.held eqs r.equal (i + 1) l
-Turn m n tail sites rows words kids eqs r i (refused e) = r.answer ≡ verdict.Refused e
+    (r.answer ≡ Ok tt) × Way m n tail r.tail sites rows words kids r.held eqs r.equal (i + 1) l
+Turn m n tail sites rows words kids eqs r i (refused e) = r.answer ≡ Err e
 
 -- all `count` items were taken, and l names what they name; or one was refused
 abbrev pub Walk : List ℕ → ℕ → List ℕ → List ℕ → List ℕ → List ℕ → List ℕ → List ℕ → Progress → ℕ → List Item → Outcome Loading → Type 0
 Walk m n tail sites rows words kids eqs r count items (done l) =
-    (r.answer ≡ verdict.Fine) × (Way m n tail r.tail sites rows words kids r.held eqs r.equal count l × (l.named ≡ names items []))
-Walk m n tail sites rows words kids eqs r count items (refused e) = r.answer ≡ verdict.Refused e
+    (r.answer ≡ Ok tt) × (Way m n tail r.tail sites rows words kids r.held eqs r.equal count l × (l.named ≡ names items []))
+Walk m n tail sites rows words kids eqs r count items (refused e) = r.answer ≡ Err e
 
 -- ---- a row
 

@@ -15,8 +15,7 @@ ghost use Rattle.item_words.specs.Items.{items_in as held_items};
 ghost use Rattle.rule_items.specs.Shown.{Told, AsLong, Rowed, roomy, items_in};
 ghost use Rattle.rule_items.specs.Way.{Way, Room, Space, Turn, Walk, Worded, Filled};
 
-use paper::{Constraint, FIELDS, Found, ITEMS, Item, Refusal, SITES, Verdict};
-use rule_children::Given;
+use paper::{Constraint, FIELDS, ITEMS, Item, Refusal, SITES};
 use rule_words::{Packed, word};
 use widths::size16;
 
@@ -26,17 +25,17 @@ pub struct Progress {
     pub tail: u16,
     pub held: usize,
     pub equal: usize,
-    pub answer: Verdict,
+    pub answer: Result<(), Refusal>,
 }
 
 fn refuse(why: Refusal) -> Progress
-    ensures { result.answer ≡ Verdict.Refused why }
+    ensures { result.answer ≡ Err why }
 {
     Progress {
         tail: 0,
         held: 0,
         equal: 0,
-        answer: Verdict::Refused(why),
+        answer: Err(why),
     }
 }
 
@@ -132,8 +131,8 @@ fn constrain(
     let answer = g.outcome;
     let of = g.numbers;
     match answer {
-        Given::Refused(why) => refuse(why),
-        Given::To(total) => {
+        Err(why) => refuse(why),
+        Ok(total) => {
             let more = rule_lists::put(sites, rows, held, s, i as u16);
             let p = rule_words::pack(c);
             set_words(words, i, p);
@@ -142,7 +141,7 @@ fn constrain(
                 tail: total - n,
                 held: more,
                 equal,
-                answer: Verdict::Fine,
+                answer: Ok(()),
             }
         }
     }
@@ -183,16 +182,16 @@ fn is_item(
     }
     let there = rule_lists::look(sites, rows, held, s);
     match there {
-        Found::Nothing => constrain(
+        None => constrain(
             m, n, tail, t, sites, rows, held, words, kids, equal, i, s, c,
         ),
-        Found::At(row) => {
+        Some(row) => {
             if same_row(words, row, c) {
                 return Progress {
                     tail: t,
                     held,
                     equal,
-                    answer: Verdict::Fine,
+                    answer: Ok(()),
                 };
             }
             refuse(Refusal::Unreachable { site: s, other: s })
@@ -228,7 +227,7 @@ fn equal_item(
         tail: t,
         held,
         equal: equal + 2,
-        answer: Verdict::Fine,
+        answer: Ok(()),
     }
 }
 
@@ -294,7 +293,7 @@ fn walk(
             m, n, tail, t, sites, rows, held, words, kids, eqs, equal, i as usize, it,
         );
         let a = p.answer;
-        let Verdict::Fine = a else {
+        let Ok(()) = a else {
             return p;
         };
         t = p.tail;
@@ -306,7 +305,7 @@ fn walk(
         tail: t,
         held,
         equal,
-        answer: Verdict::Fine,
+        answer: Ok(()),
     }
 }
 
@@ -380,12 +379,12 @@ pub fn load_items(
     }
     let p = walk(m, n, tail, sites, rows, words, kids, eqs, items, count);
     let a = p.answer;
-    let Verdict::Fine = a else {
+    let Ok(()) = a else {
         return p;
     };
     let held = p.held;
     let found = rule_hanging::hanging(m, n, tail, sites, rows, held, words, items, count);
-    let Found::At(s) = found else {
+    let Some(s) = found else {
         return p;
     };
     refuse(Refusal::Hanging { site: s })

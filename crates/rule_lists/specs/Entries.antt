@@ -1,8 +1,8 @@
 -- The constrained sites of a rule on its way, ascending, each with the row that has its constraint: two lent lists, of which the first `held` count.
+use Rattle.std.specs.declared.option.Option.TheVariants.{None, Some}
 use Rattle.std.specs.Prelude.{◌≡◌, Bool, true, false, List, ℕ, ◌+◌, ◌<◌, ◌≤◌, length, get_or}
 use Rattle.std.proofs.Math.Option.{Option, none, some}
-use Rattle.paper.specs.declared.Found.{Found}
-use Rattle.paper.specs.declared.Found.TheVariants.{At, Nothing}
+use Rattle.paper.specs.Answered.{Maybe}
 use Rattle.paper.specs.Words.{Table, below, put}
 
 unfoldable pub entries : List ℕ → List ℕ → ℕ → Table ℕ
@@ -17,9 +17,9 @@ pub record Puts (sites rows : List ℕ) (held s row : ℕ) (sites' rows' : List 
   pub past_sites : (i : ℕ) → r ≤ i → get_or sites' i 0 ≡ get_or sites i 0
   pub past_rows : (i : ℕ) → r ≤ i → get_or rows' i 0 ≡ get_or rows i 0
 
-abbrev pub found_as : Option ℕ → Found
-found_as none = Nothing
-found_as (some row) = At row
+abbrev pub found_as : Option ℕ → Maybe ℕ
+found_as none = None
+found_as (some row) = Some row
 
 -- ---- on the way to that
 

@@ -10,6 +10,7 @@ use lib.ListN.{length, get_or, take, replicate, length-take, get_or-eq_default}
 use lib.Seq.{length-take-le, get_or-take}
 use lib.Dec.{leb}
 use borrow.Author.Tests.{lt-leb, le-leb}
+use Rattle.std.specs.declared.result.Result.TheVariants.{Err, Ok}
 use Rattle.paper.specs.declared.Constraint.{Constraint}
 use Rattle.paper.specs.declared.Refusal.{Refusal}
 use Rattle.paper.specs.declared.Item.{Item}
@@ -21,8 +22,7 @@ use Rattle.paper.proofs.Closure.{of_below}
 use Rattle.paper.proofs.Tables.{Rising}
 use Rattle.sites.specs.Slots.{sites_in}
 use Rattle.sites.proofs.Places.{sites_length}
-use Rattle.paper.specs.declared.Verdict.{Verdict}
-use Rattle.paper.specs.declared.Verdict.TheVariants as verdict
+use Rattle.paper.specs.Answered.{Verdict}
 use Rattle.rule_rows.specs.Holding.{Held, held, shape_in, kid_count, kid_in, holder_in, holders_to, holders_in, stray, checked, verdict_of, Inside}
 use Rattle.rule_rows.proofs.Agreeing.{class_lines}
 use Rattle.item_words.specs.Items.{items_in as held_items}
@@ -144,7 +144,7 @@ module _ (m : List ℕ) (n : ℕ) (tail : List ℕ) (t : ℕ) (sites rows words 
   solved_is at = rw (S.sites_are, S.constraints_are, S.equalities_are)
 
 -- ---- the answers
-never_both : (a : Verdict) (e : Refusal) → a ≡ verdict.Fine → a ≡ verdict.Refused e → ⊥
+never_both : (a : Verdict) (e : Refusal) → a ≡ Ok tt → a ≡ Err e → ⊥
 never_both a e p q = let z : ◌≡◌ {A = ℕ} 0 1 = cc in omega arith
 
 -- the equal sites in lists that begin alike
@@ -162,16 +162,16 @@ pub rounds_by : (m : List ℕ) (n : ℕ) (tail sites rows words equal low : List
 rounds_by m n tail sites rows words equal low x o p e h = rw e h
 
 module _ (m : List ℕ) (n : ℕ) (tail sites rows words kids eqs : List ℕ) (x : Progress) where
-  told_done : (o : Outcome Loading) → Told m n tail sites rows words kids eqs x o → x.answer ≡ verdict.Fine → (l : Loading) × (o ≡ done l) × Shown m n tail x.tail sites rows words kids x.held eqs x.equal l
+  told_done : (o : Outcome Loading) → Told m n tail sites rows words kids eqs x o → x.answer ≡ Ok tt → (l : Loading) × (o ≡ done l) × Shown m n tail x.tail sites rows words kids x.held eqs x.equal l
   told_done (done l) T f = (l, refl, T.1)
   told_done (refused e) T f = absurd (never_both x.answer e f T)
 
-  told_refused : (o : Outcome Loading) (e : Refusal) → Told m n tail sites rows words kids eqs x o → x.answer ≡ verdict.Refused e → o ≡ refused e
+  told_refused : (o : Outcome Loading) (e : Refusal) → Told m n tail sites rows words kids eqs x o → x.answer ≡ Err e → o ≡ refused e
   told_refused (done l) e T f = absurd (never_both x.answer e T.0 f)
   told_refused (refused d) e T f = let z : d ≡ e = cc in ap refused z
 
   -- the items refuse the rule
-  pub items_refuse : (count : ℕ) (is : List Item) (room : Bool) (e : Refusal) (a : Verdict) → room ≡ true → Told m n tail sites rows words kids eqs x (items_in room m n count is) → x.answer ≡ a → a ≡ verdict.Refused e → worked m n count is ≡ refused e
+  pub items_refuse : (count : ℕ) (is : List Item) (room : Bool) (e : Refusal) (a : Verdict) → room ≡ true → Told m n tail sites rows words kids eqs x (items_in room m n count is) → x.answer ≡ a → a ≡ Err e → worked m n count is ≡ refused e
   unfolding worked
   items_refuse count is room e a q T f g =
       let t : items_in true m n count is ≡ refused e = ap (λ b. items_in b m n count is) (sym q) ∙ told_refused (items_in room m n count is) e T (f ∙ g) in
@@ -215,7 +215,7 @@ module _ (m : List ℕ) (n : ℕ) (tail sites rows words kids eqs : List ℕ) (x
         check_is m n tail x.tail sites rows words kids x.held eqs x.equal found.0 found.2 (omega arith) (omega arith) L.inside
 
     -- the class check refuses it
-    pub left_refuse : (v : Verdict) (e : Refusal) → verdict_of v ≡ checked (take x.equal eqs) (held (take x.held sites) (take x.held rows) words kids) → v ≡ verdict.Refused e → worked m n count is ≡ refused e
+    pub left_refuse : (v : Verdict) (e : Refusal) → verdict_of v ≡ checked (take x.equal eqs) (held (take x.held sites) (take x.held rows) words kids) → v ≡ Err e → worked m n count is ≡ refused e
     unfolding worked
     left_refuse v e p q =
         rw found.1 (go (check_4 (closure found.0) (holders found.0) (conflict (closure found.0) (holders found.0))) (no_endless (endless (steps (closure found.0) (holders found.0)))) (sym checked_so ∙ sym p ∙ ap verdict_of q))
@@ -226,7 +226,7 @@ module _ (m : List ℕ) (n : ℕ) (tail sites rows words kids eqs : List ℕ) (x
         go (done u) (done w) h = let z : ◌≡◌ {A = ℕ} 0 1 = cc in absurd (omega arith)
 
     -- or passes it on to the rounds
-    pub left_solved : (v : Verdict) → verdict_of v ≡ checked (take x.equal eqs) (held (take x.held sites) (take x.held rows) words kids) → v ≡ verdict.Fine → worked m n count is ≡ solved m n tail x.tail count sites rows words x.held (take x.equal eqs)
+    pub left_solved : (v : Verdict) → verdict_of v ≡ checked (take x.equal eqs) (held (take x.held sites) (take x.held rows) words kids) → v ≡ Ok tt → worked m n count is ≡ solved m n tail x.tail count sites rows words x.held (take x.equal eqs)
     unfolding worked
     left_solved v p q =
         rw found.1 (go (check_4 (closure found.0) (holders found.0) (conflict (closure found.0) (holders found.0))) (no_endless (endless (steps (closure found.0) (holders found.0)))) (sym checked_so ∙ sym p ∙ ap verdict_of q))
@@ -251,7 +251,7 @@ zeros_inside zero k = omega arith
 zeros_inside (suc n) zero = omega arith
 zeros_inside (suc n) (suc k) = zeros_inside n k
 
-pub left_so : (m : List ℕ) (n : ℕ) (tail sites rows words kids eqs equal low : List ℕ) (x : Progress) (count : ℕ) (ws : List ℕ) (room : Bool) → room ≡ true → Told m n tail sites rows words kids eqs x (items_in room m n count (held_items ws (min count max_items))) → x.answer ≡ verdict.Fine → Inside kids
+pub left_so : (m : List ℕ) (n : ℕ) (tail sites rows words kids eqs equal low : List ℕ) (x : Progress) (count : ℕ) (ws : List ℕ) (room : Bool) → room ≡ true → Told m n tail sites rows words kids eqs x (items_in room m n count (held_items ws (min count max_items))) → x.answer ≡ Ok tt → Inside kids
     → (tail₀ sites₀ rows₀ : List ℕ) → Lent tail₀ sites₀ rows₀ → length tail ≡ length tail₀ → length sites ≡ length sites₀ → length rows ≡ length rows₀
     → max_equal ≤ length equal → max_equal ≤ length low → Left m n tail sites rows words kids eqs equal low x count (held_items ws (min count max_items))
 left_so m n tail sites rows words kids eqs equal low x count ws room q T f k tail₀ sites₀ rows₀ L et es er d e =

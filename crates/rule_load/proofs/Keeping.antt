@@ -8,6 +8,8 @@ use lib.ListN.{length, get_or, take, drop, replicate, length-replicate}
 use lib.Seq.{drop_at, get_or_at}
 use lib.Dec.{leb}
 use borrow.Author.Tests.{leb-true}
+use Rattle.std.specs.declared.result.Result.TheVariants.{Err, Ok}
+use Rattle.std.specs.declared.option.Option.TheVariants.{None, Some}
 use Rattle.paper.specs.declared.Rule.{Rule}
 use Rattle.paper.specs.declared.Refusal.{Refusal}
 use Rattle.paper.specs.declared.Refusal.TheVariants.{TooManySites, TooManyConstrained, TooManyEqual}
@@ -23,16 +25,13 @@ use Rattle.rule_words.specs.Stored as stored
 use Rattle.sites.specs.Slots.{slot, sites_in, store}
 use Rattle.sites.proofs.Places.{sites_length}
 use Rattle.rule_children.specs.Tail.{site_of_word, table}
-use Rattle.paper.specs.declared.Verdict.{Verdict}
-use Rattle.paper.specs.declared.Verdict.TheVariants as verdict
+use Rattle.paper.specs.Answered.{Verdict}
 use Rattle.rule_hanging.specs.Seen.{shown}
 use Rattle.rule_rounds.specs.declared.Solved.{Solved}
-use Rattle.rule_rounds.specs.declared.Halt.{Halt}
+use Rattle.rule_rounds.specs.Halted.{Halted}
 use Rattle.rule_rounds.specs.declared.Halt.TheVariants as halt
-use Rattle.rule_load.specs.declared.Tried.{Tried}
-use Rattle.rule_load.specs.declared.Tried.TheVariants as tried
-use Rattle.rule_load.specs.declared.Loaded.{Loaded}
-use Rattle.rule_load.specs.declared.Loaded.TheVariants as loaded
+use Rattle.paper.specs.Answered.{Maybe}
+use Rattle.paper.specs.Answered.{Answer}
 use Rattle.rule_rounds.specs.Rounding.{Solves, Rounds, Scant, Unless}
 use Rattle.rule_load.specs.Parts.{answer_as, admitted, worked, settled, Lent, ChildWord, new_sites, gathered, Keepable, Finishable, Finishes, Answers, Tries}
 use Rattle.rule_load.specs.Whole.{set_in, load_in, three, put_kept}
@@ -40,11 +39,11 @@ use Rattle.rule_load.proofs.Widening.{NewSite, Widens, Turned, classes_few}
 use Rattle.rule_load.proofs.Parting.{first_length, ended, by_parts, parts, after_rounds}
 use Rattle.rule_load.proofs.Laying.{table_long, table_new, shown_long, laid_sites, laid_words, laid_equal, laid_low}
 
-fine_done : {A : Type 0} (o : Outcome A) → answer_as o ≡ verdict.Fine → (a : A) × (o ≡ done a)
+fine_done : {A : Type 0} (o : Outcome A) → answer_as o ≡ Ok tt → (a : A) × (o ≡ done a)
 fine_done (done a) e = (a, refl)
 fine_done (refused r) e = let z : ◌≡◌ {A = ℕ} 0 1 = cc in absurd (omega arith)
 
-refused_so : {A : Type 0} (o : Outcome A) (r : Refusal) → answer_as o ≡ verdict.Refused r → o ≡ refused r
+refused_so : {A : Type 0} (o : Outcome A) (r : Refusal) → answer_as o ≡ Err r → o ≡ refused r
 refused_so (done a) r e = let z : ◌≡◌ {A = ℕ} 0 1 = cc in absurd (omega arith)
 refused_so (refused d) r e = let z : d ≡ r = cc in ap refused z
 
@@ -80,15 +79,15 @@ new_words m n tail t u e W i l =
 
 module _ (m : List ℕ) (n : ℕ) (ws : List ℕ) (k place priority count : ℕ) (tail sites rows words equal low : List ℕ) (x : Solved) (F : Finishable n tail sites rows words equal low x) (total : ℕ) (e : total ≡ n + x.tail)
     (b : Verdict) (g : b ≡ answer_as (settled total x.held x.equal (length m) count)) where
-  abbrev EndsAs : Loaded → List ℕ → List ℕ → Type 0
+  abbrev EndsAs : Answer ℕ → List ℕ → List ℕ → Type 0
   EndsAs out m' ws' = Finishes m n ws k place priority tail sites rows words equal low x out m' ws' (settled (n + x.tail) x.held x.equal (length m) count)
 
-  pub finish_refuses : (d : Refusal) → b ≡ verdict.Refused d → EndsAs (loaded.Refused d) m ws
+  pub finish_refuses : (d : Refusal) → b ≡ Err d → EndsAs (Err d) m ws
   finish_refuses d h =
       let z : settled (n + x.tail) x.held x.equal (length m) count ≡ refused d = ap (λ i. settled i x.held x.equal (length m) count) (sym e) ∙ refused_so (settled total x.held x.equal (length m) count) d (sym g ∙ h) in
       rw z (refl, (refl, refl))
 
-  module _ (h : b ≡ verdict.Fine) where
+  module _ (h : b ≡ Ok tt) where
     settles : settled total x.held x.equal (length m) count ≡ done tt
     settles = (fine_done (settled total x.held x.equal (length m) count) (sym g ∙ h)).1
 
@@ -128,10 +127,10 @@ module _ (m : List ℕ) (n : ℕ) (ws : List ℕ) (k place priority count : ℕ)
 
     pub finish_keeps : (m' ws' : List ℕ) → m' ≡ store m n (new_sites tail x.tail)
         → ws' ≡ stored.written ws k place priority (take x.held sites) (gathered rows words (3 * x.held)) (take x.equal equal) (take x.equal low)
-        → EndsAs (loaded.Kept total) m' ws'
+        → EndsAs (Ok total) m' ws'
     finish_keeps m' ws' p q =
         let z : settled (n + x.tail) x.held x.equal (length m) count ≡ done tt = ap (λ i. settled i x.held x.equal (length m) count) (sym e) ∙ settles in
-        rw z (ap loaded.Kept e, (p, q))
+        rw z (ap Ok e, (p, q))
 
 -- ---- a rule, by what is written of it
 
@@ -139,11 +138,11 @@ module _ (m : List ℕ) (n : ℕ) (ws : List ℕ) (k : ℕ) (r : Rule) (w : Writ
   goes : load_in m n ws k r ≡ by_parts m n ws k w
   goes = parts m n ws k r ∙ ap (by_parts m n ws k) ew
 
-  refuses : (e : Refusal) → load_in m n ws k r ≡ refused e → Answers m n ws k r (loaded.Refused e) m ws
+  refuses : (e : Refusal) → load_in m n ws k r ≡ refused e → Answers m n ws k r (Err e) m ws
   refuses e q = rw q (refl, (refl, refl))
 
   -- ---- before the items
-  pub first_refuses : (a : Verdict) (e : Refusal) → a ≡ answer_as (admitted n ws k w.place w.count) → a ≡ verdict.Refused e → Answers m n ws k r (loaded.Refused e) m ws
+  pub first_refuses : (a : Verdict) (e : Refusal) → a ≡ answer_as (admitted n ws k w.place w.count) → a ≡ Err e → Answers m n ws k r (Err e) m ws
   first_refuses a e p q =
       let z = refused_so (admitted n ws k w.place w.count) e (sym p ∙ q) in
       refuses e (goes ∙ ap (λ o. o >>= λ _. (worked m n w.count w.items >>= ended m n ws k w)) z)
@@ -154,18 +153,18 @@ module _ (m : List ℕ) (n : ℕ) (ws : List ℕ) (k : ℕ) (r : Rule) (w : Writ
 
     -- ---- the rounds
     module _ (tail sites rows words equal low : List ℕ) (x : Solved) (R : Rounds m n tail sites rows words equal low x (worked m n w.count w.items)) where
-      rounds_refused : (o : Outcome Solving) (e : Refusal) → Rounds m n tail sites rows words equal low x o → x.answer ≡ halt.Refused e → o ≡ refused e
+      rounds_refused : (o : Outcome Solving) (e : Refusal) → Rounds m n tail sites rows words equal low x o → x.answer ≡ Err (halt.Refused e) → o ≡ refused e
       rounds_refused (done s) e Q f = let g = Q.0 in let z : ◌≡◌ {A = ℕ} 0 1 = cc in absurd (omega arith)
       rounds_refused (refused d) e Q f = let z : d ≡ e = cc in ap refused z
 
-      rounds_done : (o : Outcome Solving) → Rounds m n tail sites rows words equal low x o → x.answer ≡ halt.Fine → (s : Solving) × (o ≡ done s) × Solves m n tail sites rows words equal low x s
+      rounds_done : (o : Outcome Solving) → Rounds m n tail sites rows words equal low x o → x.answer ≡ Ok tt → (s : Solving) × (o ≡ done s) × Solves m n tail sites rows words equal low x s
       rounds_done (done s) Q f = (s, refl, Q.1)
       rounds_done (refused e) Q f = let z : ◌≡◌ {A = ℕ} 0 1 = cc in absurd (omega arith)
 
-      pub rounds_refuse : (e : Refusal) → x.answer ≡ halt.Refused e → Answers m n ws k r (loaded.Refused e) m ws
+      pub rounds_refuse : (e : Refusal) → x.answer ≡ Err (halt.Refused e) → Answers m n ws k r (Err e) m ws
       rounds_refuse e f = let z = rounds_refused (worked m n w.count w.items) e R f in refuses e (goes_on ∙ ap (λ o. o >>= ended m n ws k w) z)
 
-      module _ (f : x.answer ≡ halt.Fine) where
+      module _ (f : x.answer ≡ Ok tt) where
         found : (s : Solving) × (worked m n w.count w.items ≡ done s) × Solves m n tail sites rows words equal low x s
         found = rounds_done (worked m n w.count w.items) R f
 
@@ -213,7 +212,7 @@ module _ (m : List ℕ) (n : ℕ) (ws : List ℕ) (k : ℕ) (r : Rule) (w : Writ
             let v = demand_done (leb x.equal max_equal) (TooManyEqual x.equal) _ tt u.1 in
             leb-true _ _ v.0
 
-        pub finished : max_equal ≤ length equal → max_equal ≤ length low → (out : Loaded) (m' ws' : List ℕ)
+        pub finished : max_equal ≤ length equal → max_equal ≤ length low → (out : Answer ℕ) (m' ws' : List ℕ)
             → Finishes m n ws k w.place w.priority tail sites rows words equal low x out m' ws' (settled (n + x.tail) x.held x.equal (length m) w.count) → Answers m n ws k r out m' ws'
         unfolding with_rule put_kept
         finished le ll out m' ws' E = go (settled (n + x.tail) x.held x.equal (length m) w.count) refl E
@@ -233,27 +232,27 @@ module _ (m : List ℕ) (n : ℕ) (ws : List ℕ) (k : ℕ) (r : Rule) (w : Writ
                 let d : take x.equal low ≡ map (λ p. p.1) found.0.classes = laid_low equal low found.0.classes found.2.classes_are (omega arith) x.equal y (omega arith) in
                 let s : drop n found.0.sites ≡ new_sites tail x.tail = ap (drop n) (sym found.2.sites_are) ∙ table_new m n tail x.tail in
                 let q : ws' ≡ stored.written ws k w.place w.priority (map (λ p. p.0) found.0.constraints) (joined (map three found.0.constraints)) (map (λ p. p.0) found.0.classes) (map (λ p. p.1) found.0.classes) = rw (← a, ← b, ← c, ← d) Q.1.1 in
-                rw z (Q.0 ∙ ap loaded.Kept (sym sites_many), (Q.1.0 ∙ ap (store m n) (sym s), q ∙ ap (put_kept ws k) (sym last_rule)))
+                rw z (Q.0 ∙ ap Ok (sym sites_many), (Q.1.0 ∙ ap (store m n) (sym s), q ∙ ap (put_kept ws k) (sym last_rule)))
 
 -- ---- with lent lists
 
 -- what was tried with lists that were too short left all as it was
-module _ (m : List ℕ) (n : ℕ) (ws : List ℕ) (k : ℕ) (r : Rule) (tail sites m' ws' : List ℕ) (a : Tried) (T : Tries m n ws k r tail sites m' ws' a) where
-  pub tried_done : (out : Loaded) → a ≡ tried.Done out → Answers m n ws k r out m' ws'
+module _ (m : List ℕ) (n : ℕ) (ws : List ℕ) (k : ℕ) (r : Rule) (tail sites m' ws' : List ℕ) (a : Maybe (Answer ℕ)) (T : Tries m n ws k r tail sites m' ws' a) where
+  pub tried_done : (out : Answer ℕ) → a ≡ Some out → Answers m n ws k r out m' ws'
   unfolding Tries
-  tried_done out e = subst (λ (x : Tried). Tries m n ws k r tail sites m' ws' x) e T
+  tried_done out e = subst (λ (x : Maybe (Answer ℕ)). Tries m n ws k r tail sites m' ws' x) e T
 
-  pub tried_short : a ≡ tried.Short → Scant tail sites × ((m' ≡ m) × (ws' ≡ ws))
+  pub tried_short : a ≡ None → Scant tail sites × ((m' ≡ m) × (ws' ≡ ws))
   unfolding Tries
-  tried_short e = subst (λ (x : Tried). Tries m n ws k r tail sites m' ws' x) e T
+  tried_short e = subst (λ (x : Maybe (Answer ℕ)). Tries m n ws k r tail sites m' ws' x) e T
 
-  pub still_admitted : (place count : ℕ) → a ≡ tried.Short → admitted n ws k place count ≡ done tt → admitted n ws' k place count ≡ done tt
+  pub still_admitted : (place count : ℕ) → a ≡ None → admitted n ws k place count ≡ done tt → admitted n ws' k place count ≡ done tt
   still_admitted place count e h = rw (tried_short e).1.1 h
 
-  pub then_large : a ≡ tried.Short → (out : Loaded) (m'' ws'' : List ℕ) → Answers m' n ws' k r out m'' ws'' → Answers m n ws k r out m'' ws''
+  pub then_large : a ≡ None → (out : Answer ℕ) (m'' ws'' : List ℕ) → Answers m' n ws' k r out m'' ws'' → Answers m n ws k r out m'' ws''
   then_large e out m'' ws'' h = let s = (tried_short e).1 in rw (s.0, s.1) at h
 
-pub answers_same : (m : List ℕ) (n : ℕ) (ws : List ℕ) (k : ℕ) (r q : Rule) (out : Loaded) (m' ws' : List ℕ) → load_in m n ws k r ≡ load_in m n ws k q → Answers m n ws k q out m' ws' → Answers m n ws k r out m' ws'
+pub answers_same : (m : List ℕ) (n : ℕ) (ws : List ℕ) (k : ℕ) (r q : Rule) (out : Answer ℕ) (m' ws' : List ℕ) → load_in m n ws k r ≡ load_in m n ws k q → Answers m n ws k q out m' ws' → Answers m n ws k r out m' ws'
 answers_same m n ws k r q out m' ws' e h = rw e h
 
 pub lent_few : Lent (replicate (max_fields * max_items) 0) (replicate (2 * max_constrained) 0) (replicate (2 * max_constrained) 0)
@@ -265,14 +264,14 @@ lent_all = let a = length-replicate {A = ℕ} max_sites 0 in record { long_tail 
 pub never_scant : Scant (replicate max_sites 0) (replicate max_sites 0) → ⊥
 never_scant s = let a = length-replicate {A = ℕ} max_sites 0 in ⊎_elim (λ (h : length {A = ℕ} (replicate max_sites 0) < max_sites). omega arith) (λ (h : length {A = ℕ} (replicate max_sites 0) < max_sites). omega arith) s
 
-pub admits_so : (n : ℕ) (ws : List ℕ) (k place count : ℕ) (a : Verdict) → a ≡ answer_as (admitted n ws k place count) → a ≡ verdict.Fine → admitted n ws k place count ≡ done tt
+pub admits_so : (n : ℕ) (ws : List ℕ) (k place count : ℕ) (a : Verdict) → a ≡ answer_as (admitted n ws k place count) → a ≡ Ok tt → admitted n ws k place count ≡ done tt
 admits_so n ws k place count a p q = (fine_done (admitted n ws k place count) (sym p ∙ q)).1
 
 -- ---- for the proofs of the code
 pub wrote_as : (ws : List ℕ) (k p q : ℕ) (ss sh sh' es lo w : List ℕ) → w ≡ stored.written ws k p q ss sh es lo → sh ≡ sh' → w ≡ stored.written ws k p q ss sh' es lo
 wrote_as ws k p q ss sh sh' es lo w e f = e ∙ ap (λ x. stored.written ws k p q ss x es lo) f
 
-pub refused_told : {a : Halt} {e : Refusal} {tail sites : List ℕ} {P : Type 0} → a ≡ halt.Refused e → Unless a tail sites P → P
+pub refused_told : {a : Halted} {e : Refusal} {tail sites : List ℕ} {P : Type 0} → a ≡ Err (halt.Refused e) → Unless a tail sites P → P
 refused_told f u = u.told (λ e. let z : ◌≡◌ {A = ℕ} 0 1 = cc in omega arith)
 
 pub array_long : (xs : List ℕ) (n : ℕ) → length xs ≡ length {A = ℕ} (replicate n 0) → length xs ≡ n

@@ -1,4 +1,6 @@
 -- The parts of loading, as the code goes through them.
+use Rattle.std.specs.declared.result.Result.TheVariants.{Err, Ok}
+use Rattle.std.specs.declared.option.Option.TheVariants.{None, Some}
 use Rattle.std.specs.Prelude.{◌≡◌, Bool, ◌&&◌, not, List, ℕ, suc, ◌+◌, ◌*◌, ◌/◌, ◌%◌, ◌<◌, ◌≤◌, min, length, get_or, take, eqb, ltb, leb}
 use Rattle.paper.specs.declared.Item.{Item}
 use Rattle.paper.specs.declared.Rule.{Rule}
@@ -11,21 +13,18 @@ use Rattle.rule_words.specs.Stored.{base, stride, kept_first, written}
 use Rattle.sites.specs.Slots.{slot, no_site, store}
 use Rattle.rule_children.specs.Tail.{site_of_word}
 use Rattle.rule_rows.specs.Holding.{Inside}
-use Rattle.paper.specs.declared.Verdict.{Verdict}
-use Rattle.paper.specs.declared.Verdict.TheVariants as verdict
+use Rattle.paper.specs.Answered.{Verdict}
 use Rattle.rule_items.specs.declared.Progress.{Progress}
 use Rattle.rule_items.specs.Shown.{items_in, Told}
 use Rattle.rule_rounds.specs.declared.Solved.{Solved}
-use Rattle.rule_load.specs.declared.Loaded.{Loaded}
-use Rattle.rule_load.specs.declared.Loaded.TheVariants as loaded
-use Rattle.rule_load.specs.declared.Tried.{Tried}
-use Rattle.rule_load.specs.declared.Tried.TheVariants as tried
+use Rattle.paper.specs.Answered.{Answer}
+use Rattle.paper.specs.Answered.{Maybe}
 use Rattle.rule_rounds.specs.Rounding.{Scant}
 use Rattle.rule_load.specs.Whole.{load_in, loaded_as, sites_after, words_after}
 
 abbrev pub answer_as : {A : Type 0} → Outcome A → Verdict
-answer_as (done a) = verdict.Fine
-answer_as (refused e) = verdict.Refused e
+answer_as (done a) = Ok tt
+answer_as (refused e) = Err e
 
 -- a kept rule has the place
 unfoldable pub has_place : List ℕ → ℕ → ℕ → Bool
@@ -79,7 +78,7 @@ gathered rows shapes k = below k (λ i. get_or shapes (3 * get_or rows (i / 3) 0
 pub record Left (m : List ℕ) (n : ℕ) (tail sites rows words kids eqs equal low : List ℕ) (x : Progress) (count : ℕ) (items : List Item) : Type 0 where
   pub told : Told m n tail sites rows words kids eqs x (items_in Bool.true m n count items)
   pub few : length items ≤ count
-  pub fine : x.answer ≡ verdict.Fine
+  pub fine : x.answer ≡ Ok tt
   pub inside : Inside kids
   pub long_tail : max_fields * max_items ≤ length tail
   pub long_sites : max_items ≤ length sites
@@ -121,20 +120,20 @@ pub record Finishable (n : ℕ) (tail sites rows shapes equal low : List ℕ) (x
   pub long_low : max_equal ≤ length low
 
 -- a result that passes is written, one that does not changes nothing
-abbrev pub Finishes : List ℕ → ℕ → List ℕ → ℕ → ℕ → ℕ → List ℕ → List ℕ → List ℕ → List ℕ → List ℕ → List ℕ → Solved → Loaded → List ℕ → List ℕ
+abbrev pub Finishes : List ℕ → ℕ → List ℕ → ℕ → ℕ → ℕ → List ℕ → List ℕ → List ℕ → List ℕ → List ℕ → List ℕ → Solved → Answer ℕ → List ℕ → List ℕ
     → Outcome (Unit {0}) → Type 0
 Finishes m n ws k place priority tail sites rows shapes equal low x out m' ws' (done _) =
-    (out ≡ loaded.Kept (n + x.tail)) × ((m' ≡ store m n (new_sites tail x.tail))
+    (out ≡ Ok (n + x.tail)) × ((m' ≡ store m n (new_sites tail x.tail))
     × (ws' ≡ written ws k place priority (take x.held sites) (gathered rows shapes (3 * x.held)) (take x.equal equal)
     (take x.equal low)))
-Finishes m n ws k place priority tail sites rows shapes equal low x out m' ws' (refused e) = (out ≡ loaded.Refused e) × ((m' ≡ m) × (ws' ≡ ws))
+Finishes m n ws k place priority tail sites rows shapes equal low x out m' ws' (refused e) = (out ≡ Err e) × ((m' ≡ m) × (ws' ≡ ws))
 
 -- what `load` ensures
-abbrev pub Answers : List ℕ → ℕ → List ℕ → ℕ → Rule → Loaded → List ℕ → List ℕ → Type 0
+abbrev pub Answers : List ℕ → ℕ → List ℕ → ℕ → Rule → Answer ℕ → List ℕ → List ℕ → Type 0
 Answers m n ws k r out m' ws' = (out ≡ loaded_as (load_in m n ws k r))
     × ((m' ≡ sites_after m n (load_in m n ws k r)) × (ws' ≡ words_after ws k (load_in m n ws k r)))
 
 -- the rule is loaded; or nothing is written, and a lent list was too short
-unfoldable pub Tries : List ℕ → ℕ → List ℕ → ℕ → Rule → List ℕ → List ℕ → List ℕ → List ℕ → Tried → Type 0
-Tries m n ws k r tail sites m' ws' (tried.Done out) = Answers m n ws k r out m' ws'
-Tries m n ws k r tail sites m' ws' tried.Short = Scant tail sites × ((m' ≡ m) × (ws' ≡ ws))
+unfoldable pub Tries : List ℕ → ℕ → List ℕ → ℕ → Rule → List ℕ → List ℕ → List ℕ → List ℕ → Maybe (Answer ℕ) → Type 0
+Tries m n ws k r tail sites m' ws' (Some out) = Answers m n ws k r out m' ws'
+Tries m n ws k r tail sites m' ws' None = Scant tail sites × ((m' ≡ m) × (ws' ≡ ws))

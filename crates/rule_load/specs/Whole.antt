@@ -1,4 +1,5 @@
 -- Loading a rule into a set in lent memory: what is answered, and what the memory is afterwards.
+use Rattle.std.specs.declared.result.Result.TheVariants.{Err, Ok}
 use Rattle.std.specs.Prelude.{◌&&◌, List, [], ◌∷◌, map, ℕ, suc, ◌+◌, ◌*◌, ◌/◌, min, length, get_or, drop, ltb, leb}
 use Rattle.paper.specs.declared.Constraint.{Constraint}
 use Rattle.paper.specs.declared.Rule.{Rule}
@@ -11,8 +12,7 @@ use Rattle.rule_words.specs.Packing.{head, second, third}
 use Rattle.rule_words.specs.Stored.{base, stride, kept_first}
 use Rattle.rule_words.specs.Stored as stored
 use Rattle.sites.specs.Slots.{slot, sites_in, store}
-use Rattle.rule_load.specs.declared.Loaded.{Loaded}
-use Rattle.rule_load.specs.declared.Loaded.TheVariants as loaded
+use Rattle.paper.specs.Answered.{Answer}
 
 -- n sites of the memory m, and the first k rules of the words ws (loading looks at neither the term nor the flags)
 unfoldable pub set_in : List ℕ → ℕ → List ℕ → ℕ → Set
@@ -28,9 +28,9 @@ load_in m n ws k r = do
   _ ← demand (leb (length g.sites * slot) (length m)) (TooManySites (length m / slot + 1) r.count)
   done g
 
-abbrev pub loaded_as : Outcome Set → Loaded
-loaded_as (done g) = loaded.Kept (length g.sites)
-loaded_as (refused e) = loaded.Refused e
+abbrev pub loaded_as : Outcome Set → Answer ℕ
+loaded_as (done g) = Ok (length g.sites)
+loaded_as (refused e) = Err e
 
 -- A refused rule changes nothing. Of a kept one the new sites go into their slots,
 abbrev pub sites_after : List ℕ → ℕ → Outcome Set → List ℕ

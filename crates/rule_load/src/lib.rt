@@ -16,9 +16,9 @@ ghost use Rattle.rule_load.specs.Whole.{load_in, loaded_as, sites_after, words_a
 ghost use Rattle.rule_load.specs.Parts.{has_place, admitted, answer_as, worked, settled, ChildWord, Lent, Left, SameTo, Keepable, Finishable, Finishes, Answers, Tries, gathered, new_sites};
 
 use item_words::ITEMS_ROOM;
-use paper::{CONSTRAINED, EQUALS, FIELDS, ITEMS, RULES, Refusal, Rule, SITES, Verdict};
+use paper::{CONSTRAINED, EQUALS, FIELDS, ITEMS, RULES, Refusal, Rule, SITES};
 use rule_items::Progress;
-use rule_rounds::{Halt, Rounded, Solved, Start};
+use rule_rounds::{Halt, Solved, Start};
 use widths::size16;
 
 const SLOT: usize = 32;
@@ -40,20 +40,6 @@ const FEW_SITES: usize = 2 * CONSTRAINED;
 
 const FEW_JOINED: usize = FEW_SITES + 2 * FIELDS;
 
-// How many sites there are then, or why the rule is refused.
-#[derive(Clone, Copy)]
-pub enum Loaded {
-    Kept(u16),
-    Refused(Refusal),
-}
-
-// What came of a rule with lent lists.
-#[derive(Clone, Copy)]
-pub enum Tried {
-    Done(Loaded),
-    Short,
-}
-
 // Does a kept rule have the place?
 fn used(words: &[u64], kept: u32, place: u32) -> bool
     ensures { result ≡ has_place words.now kept place }
@@ -70,42 +56,42 @@ fn used(words: &[u64], kept: u32, place: u32) -> bool
 }
 
 // The checks before the items: 23 for the rule count, then 24 for the item count; 8.
-fn admit(n: u16, words: &[u64], kept: u32, place: u32, count: u8) -> Verdict
+fn admit(n: u16, words: &[u64], kept: u32, place: u32, count: u8) -> Result<(), Refusal>
     ensures { result ≡ answer_as (admitted n words.now kept place count) }
 {
     if RULES <= kept as usize {
-        return Verdict::Refused(Refusal::TooManyRules {
+        return Err(Refusal::TooManyRules {
             asked: RULES as u32 + 1,
         });
     }
     if words.len() < rule_words::start(kept) + rule_words::STRIDE {
-        return Verdict::Refused(Refusal::TooManyRules { asked: kept + 1 });
+        return Err(Refusal::TooManyRules { asked: kept + 1 });
     }
     if SITES < size16(n) {
-        return Verdict::Refused(Refusal::TooManySites {
+        return Err(Refusal::TooManySites {
             asked: n as u32,
             at: count as u32,
         });
     }
     if ITEMS < count as usize {
-        return Verdict::Refused(Refusal::TooManyItems {
+        return Err(Refusal::TooManyItems {
             asked: count as u32,
         });
     }
     if used(words, kept, place) {
-        return Verdict::Refused(Refusal::PlaceUsed { place });
+        return Err(Refusal::PlaceUsed { place });
     }
-    Verdict::Fine
+    Ok(())
 }
 
 fn refuse(why: Refusal) -> Solved
-    ensures { result.answer ≡ Halt.Refused why }
+    ensures { result.answer ≡ Err (Halt.Refused why) }
 {
     Solved {
         tail: 0,
         held: 0,
         equal: 0,
-        answer: Halt::Refused(why),
+        answer: Err(Halt::Refused(why)),
     }
 }
 
@@ -144,12 +130,12 @@ fn turn(
     let r = rule_rounds::rounds(
         m, a, tail, sites, rows, shapes, eqs, joined, list, equal, low,
     );
-    let Rounded::Done(s) = r else {
+    let Some(s) = r else {
         return Solved {
             tail: 0,
             held: 0,
             equal: 0,
-            answer: Halt::Short,
+            answer: Err(Halt::Short),
         };
     };
     s
@@ -185,7 +171,7 @@ fn normalise(
     let held = a.held;
     let k = a.equal;
     let v = rule_check::check(&eqs[..k], &sites[..held], &rows[..held], shapes, kids);
-    if let Verdict::Refused(told) = v {
+    if let Err(told) = v {
         return refuse(told);
     }
     let mut found = [0u16; EQUALS];
@@ -243,7 +229,7 @@ fn solve(
         m, n, tail, sites, rows, shapes, &mut kids, &mut eqs, items, count,
     );
     let answer = a.answer;
-    if let Verdict::Refused(why) = answer {
+    if let Err(why) = answer {
         return refuse(why);
     }
     normalise(
@@ -252,25 +238,25 @@ fn solve(
 }
 
 // The checks of the result: 25, then 26. Then 20 if the lent bytes can't hold its table: told are the slots that they are, and one.
-fn settle(total: usize, held: usize, equal: usize, room: usize, count: u8) -> Verdict
+fn settle(total: usize, held: usize, equal: usize, room: usize, count: u8) -> Result<(), Refusal>
     requires { (total ≤ max_sites) × (held < 4294967296) × (equal < 4294967296) }
     ensures { result ≡ answer_as (settled total held equal room count) }
 {
     if CONSTRAINED < held {
-        return Verdict::Refused(Refusal::TooManyConstrained { asked: held as u32 });
+        return Err(Refusal::TooManyConstrained { asked: held as u32 });
     }
     if EQUALS < equal {
-        return Verdict::Refused(Refusal::TooManyEqual {
+        return Err(Refusal::TooManyEqual {
             asked: equal as u32,
         });
     }
     if room < total * SLOT {
-        return Verdict::Refused(Refusal::TooManySites {
+        return Err(Refusal::TooManySites {
             asked: (room / SLOT) as u32 + 1,
             at: count as u32,
         });
     }
-    Verdict::Fine
+    Ok(())
 }
 
 // The words of the constraints, three a site, in the order of the sites.
@@ -394,7 +380,7 @@ fn finish(
     equal: &[u16],
     low: &[u16],
     s: Solved,
-) -> Loaded
+) -> Result<u16, Refusal>
     requires { Finishable n tail.now sites.now rows.now shapes.now equal.now low.now s }
     ensures { Finishes m.old n words.old kept place priority tail.now sites.now rows.now
         shapes.now equal.now low.now s result m.new words.new
@@ -403,14 +389,14 @@ fn finish(
     let total = size16(n) + size16(s.tail);
     let room = m.len();
     let last = settle(total, s.held, s.equal, room, count);
-    if let Verdict::Refused(why) = last {
-        return Loaded::Refused(why);
+    if let Err(why) = last {
+        return Err(why);
     }
     keep(
         m, n, words, kept, place, priority, tail, sites, rows, shapes, equal, low, s,
     );
     let many = total as u16;
-    Loaded::Kept(many)
+    Ok(many)
 }
 
 // Loads an admitted rule with the lent lists. Where they are too short for it nothing is written.
@@ -428,7 +414,7 @@ fn attempt(
     rows: &mut [u16],
     joined: &mut [u16],
     list: &mut [u16],
-) -> Tried
+) -> Option<Result<u16, Refusal>>
     requires lent { Lent tail.old sites.old rows.old × (admitted n words.old kept place count ≡ done tt) }
     requires sites_in_bounds { (length sites.old ≤ length joined.old) × (length joined.old ≤ length list.old) }
     ensures { Tries m.old n words.old kept (rule_in items.now place priority count)
@@ -453,14 +439,14 @@ fn attempt(
     );
     let answer = s.answer;
     match answer {
-        Halt::Short => Tried::Short,
-        Halt::Refused(why) => Tried::Done(Loaded::Refused(why)),
-        Halt::Fine => {
+        Err(Halt::Short) => None,
+        Err(Halt::Refused(why)) => Some(Err(why)),
+        Ok(()) => {
             let out = finish(
                 m, n, words, kept, place, priority, count, tail, sites, rows, &shapes, &equal,
                 &low, s,
             );
-            Tried::Done(out)
+            Some(out)
         }
     }
 }
@@ -475,7 +461,7 @@ fn at_large(
     priority: u64,
     count: u8,
     items: &[u64],
-) -> Loaded
+) -> Result<u16, Refusal>
     requires { admitted n words.old kept place count ≡ done tt }
     ensures { Answers m.old n words.old kept (rule_in items.now place priority count) result
         m.new words.new }
@@ -500,8 +486,8 @@ fn at_large(
         &mut joined,
         &mut list,
     );
-    let Tried::Done(out) = a else {
-        return Loaded::Kept(n);
+    let Some(out) = a else {
+        return Ok(n);
     };
     out
 }
@@ -517,7 +503,7 @@ pub fn load_handed(
     priority: u64,
     count: u8,
     items: &[u64],
-) -> Loaded
+) -> Result<u16, Refusal>
     ensures value { result ≡ loaded_as (load_in m.old n words.old kept (rule_in items.now place priority count)) }
     ensures m_after { m.new ≡ sites_after m.old n
         (load_in m.old n words.old kept (rule_in items.now place priority count)) }
@@ -525,8 +511,8 @@ pub fn load_handed(
         (load_in m.old n words.old kept (rule_in items.now place priority count)) }
 {
     let first = admit(n, words, kept, place, count);
-    if let Verdict::Refused(why) = first {
-        return Loaded::Refused(why);
+    if let Err(why) = first {
+        return Err(why);
     }
     let mut tail = [0u64; FEW_CHILDREN];
     let mut sites = [0u16; FEW_SITES];
@@ -548,7 +534,7 @@ pub fn load_handed(
         &mut joined,
         &mut list,
     );
-    let Tried::Done(out) = a else {
+    let Some(out) = a else {
         return at_large(m, n, words, kept, place, priority, count, items);
     };
     out
@@ -573,7 +559,7 @@ fn hold(rule: Rule, out: &mut [u64])
 }
 
 // Loads a rule over the n sites of m and the `kept` rules of `words`. A refused rule changes nothing.
-pub fn load(m: &mut [u8], n: u16, words: &mut [u64], kept: u32, rule: Rule) -> Loaded
+pub fn load(m: &mut [u8], n: u16, words: &mut [u64], kept: u32, rule: Rule) -> Result<u16, Refusal>
     ensures value { result ≡ loaded_as (load_in m.old n words.old kept rule) }
     ensures m_after { m.new ≡ sites_after m.old n (load_in m.old n words.old kept rule) }
     ensures lent_words { words.new ≡ words_after words.old kept (load_in m.old n words.old kept rule) }

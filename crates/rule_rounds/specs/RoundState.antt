@@ -1,4 +1,5 @@
 -- What stands between two steps of the rounds: the lent lists and the lent classes tell a solving of paper.
+use Rattle.std.specs.declared.result.Result.TheVariants.{Err, Ok}
 use Rattle.std.specs.Prelude.{◌≡◌, List, ℕ, suc, ◌+◌, ◌<◌, ◌≤◌, min, length, get_or, set, replicate, eqb}
 use Rattle.std.proofs.Math.Option.{none, some}
 use Rattle.paper.specs.declared.Constraint.{Constraint}
@@ -23,7 +24,7 @@ use Rattle.class_labels.specs.Taking.{LabelsBelow}
 use Rattle.rule_laid.specs.Laid.{GoodRow}
 use Rattle.rule_rounds.specs.Rounding.{Listed, Scant}
 use Rattle.rule_rounds.specs.declared.Solved.{Solved}
-use Rattle.rule_rounds.specs.declared.Halt.{Halt}
+use Rattle.rule_rounds.specs.Halted.{Halted}
 use Rattle.rule_rounds.specs.declared.Halt.TheVariants as halt
 use Rattle.rule_rounds.specs.declared.Space.{Space}
 use Rattle.rule_rounds.specs.declared.Space.TheVariants as space
@@ -38,10 +39,10 @@ abbrev pub full : ℕ → Refusal
 full at = TooManySites (suc max_sites) at
 
 -- what is told of it
-abbrev pub halt_of : ℕ → Space → Halt
-halt_of at space.Enough = halt.Fine
-halt_of at space.Short = halt.Short
-halt_of at space.Full = halt.Refused (full at)
+abbrev pub halt_of : ℕ → Space → Halted
+halt_of at space.Enough = Ok tt
+halt_of at space.Short = Err halt.Short
+halt_of at space.Full = Err (halt.Refused (full at))
 
 abbrev pub solved_of : ℕ → Stage → Solved
 solved_of at s = record { tail = s.tail; held = s.held; equal = s.equal; answer = halt_of at s.room }

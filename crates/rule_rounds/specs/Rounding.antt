@@ -1,4 +1,6 @@
 -- What the rounds need of the lent lists, and what they leave.
+use Rattle.std.specs.declared.result.Result.TheVariants.{Err, Ok}
+use Rattle.std.specs.declared.option.Option.TheVariants.{None, Some}
 use Rattle.std.specs.Prelude.{◌≡◌, ◌⊎◌, List, [], ℕ, ◌+◌, ◌<◌, ◌≤◌, length, get_or}
 use Rattle.paper.specs.Numbers.{max_sites, max_equal, most_rounds, Outcome, done, refused}
 use Rattle.paper.proofs.Tables.{Rising}
@@ -9,9 +11,8 @@ use Rattle.rule_laid.specs.Laid.{GoodRow}
 use Rattle.rule_hanging.specs.Seen.{shown}
 use Rattle.rule_rounds.specs.declared.Solved.{Solved}
 use Rattle.rule_rounds.specs.declared.Start.{Start}
-use Rattle.rule_rounds.specs.declared.Rounded.{Rounded}
-use Rattle.rule_rounds.specs.declared.Rounded.TheVariants as rounded
-use Rattle.rule_rounds.specs.declared.Halt.{Halt}
+use Rattle.paper.specs.Answered.{Maybe}
+use Rattle.rule_rounds.specs.Halted.{Halted}
 use Rattle.rule_rounds.specs.declared.Halt.TheVariants as halt
 
 -- what the rounds start with
@@ -52,17 +53,17 @@ pub record Solves (m : List ℕ) (n : ℕ) (tail sites rows words equal low : Li
   pub long_rows : x.held ≤ length rows
 
 abbrev pub Rounds : List ℕ → ℕ → List ℕ → List ℕ → List ℕ → List ℕ → List ℕ → List ℕ → Solved → Outcome Solving → Type 0
-Rounds m n tail sites rows words equal low x (done s) = (x.answer ≡ halt.Fine) × Solves m n tail sites rows words equal low x s
-Rounds m n tail sites rows words equal low x (refused e) = x.answer ≡ halt.Refused e
+Rounds m n tail sites rows words equal low x (done s) = (x.answer ≡ Ok tt) × Solves m n tail sites rows words equal low x s
+Rounds m n tail sites rows words equal low x (refused e) = x.answer ≡ Err (halt.Refused e)
 
 -- a lent list is shorter than a table may be
 abbrev pub Scant : List ℕ → List ℕ → Type 0
 Scant tail sites = (length tail < max_sites) ⊎ (length sites < max_sites)
 
 -- what is told, unless the lent lists were too short for the rule: then nothing is known of it
-pub record Unless (a : Halt) (tail sites : List ℕ) (P : Type 0) : Type 0 where
-  pub short : a ≡ halt.Short → Scant tail sites
-  pub told : (a ≡ halt.Short → ⊥) → P
+pub record Unless (a : Halted) (tail sites : List ℕ) (P : Type 0) : Type 0 where
+  pub short : a ≡ Err halt.Short → Scant tail sites
+  pub told : (a ≡ Err halt.Short → ⊥) → P
 
 -- ---- the whole
 
@@ -92,7 +93,7 @@ Leaves m a words eqs l l' x =
     (solved m a.known l.tail a.tail a.at l.sites l.rows words a.held eqs))
 
 -- Without equalities there is nothing to do. Lists that are not laid out are told, and left as they are.
-pub record Turned (m : List ℕ) (a : Start) (words eqs : List ℕ) (l l' : Memory) (z : Rounded) : Type 0 where
-  pub laid : LaidOut m a words eqs l → (x : Solved) × (z ≡ rounded.Done x) × Leaves m a words eqs l l' x
-  pub unlaid : (LaidOut m a words eqs l → ⊥) → 0 < length eqs → (z ≡ rounded.Unlaid) × (l' ≡ l)
-  pub none : length eqs ≡ 0 → (z ≡ rounded.Done (record { tail = a.tail; held = a.held; equal = 0; answer = halt.Fine })) × (l' ≡ l)
+pub record Turned (m : List ℕ) (a : Start) (words eqs : List ℕ) (l l' : Memory) (z : Maybe Solved) : Type 0 where
+  pub laid : LaidOut m a words eqs l → (x : Solved) × (z ≡ Some x) × Leaves m a words eqs l l' x
+  pub unlaid : (LaidOut m a words eqs l → ⊥) → 0 < length eqs → (z ≡ None) × (l' ≡ l)
+  pub none : length eqs ≡ 0 → (z ≡ Some (record { tail = a.tail; held = a.held; equal = 0; answer = (Ok tt) })) × (l' ≡ l)

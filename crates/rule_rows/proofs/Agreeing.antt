@@ -8,13 +8,13 @@ use native.Mathlib.Decide.{ℕ_discrete}
 use lib.ListN.{length, get_or, get_or-append}
 use lib.Seq.{get_or_at, ext_get_or}
 use lib.Dec.{leb}
+use Rattle.std.specs.declared.result.Result.TheVariants.{Err, Ok}
 use Rattle.paper.specs.declared.Refusal.TheVariants.{TooManyConstrained, TooManyEqual}
 use Rattle.paper.specs.Words.{below}
 use Rattle.paper.specs.Numbers.{max_sites, max_constrained, max_equal, most_rounds, Outcome, done, refused, ◌>>=◌, demand}
 use Rattle.paper.specs.Loading.{Loading, Holder, holders, closure, closure_of, hanging, no_hanging, conflict, check_4, steps, endless, no_endless, Solving, started, rounds, normalise}
 use Rattle.paper.proofs.Bounds.{closures_agree, lines_agree}
-use Rattle.paper.specs.declared.Verdict.{Verdict}
-use Rattle.paper.specs.declared.Verdict.TheVariants.{Fine, Refused}
+use Rattle.paper.specs.Answered.{Verdict}
 use Rattle.rule_rows.specs.Holding.{class_check, verdict_of}
 use Rattle.rule_rows.proofs.Holders.{length_below}
 
@@ -64,7 +64,7 @@ pub only_verdict : (v w : Verdict) (o : Outcome (Unit {0})) → verdict_of v ≡
 only_verdict v w o p q = go v w (p ∙ sym q)
   where
     go : (v w : Verdict) → verdict_of v ≡ verdict_of w → v ≡ w
-    go Fine Fine e = refl
-    go Fine (Refused b) e = let z : ◌≡◌ {A = ℕ} 0 1 = cc in absurd (omega arith)
-    go (Refused a) Fine e = let z : ◌≡◌ {A = ℕ} 0 1 = cc in absurd (omega arith)
-    go (Refused a) (Refused b) e = let z : a ≡ b = cc in ap Refused z
+    go (Ok _) (Ok _) e = refl
+    go (Ok _) (Err b) e = let z : ◌≡◌ {A = ℕ} 0 1 = cc in absurd (omega arith)
+    go (Err a) (Ok _) e = let z : ◌≡◌ {A = ℕ} 0 1 = cc in absurd (omega arith)
+    go (Err a) (Err b) e = let z : a ≡ b = cc in ap Err z

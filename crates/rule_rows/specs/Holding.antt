@@ -1,4 +1,5 @@
 -- The holders and the equalities that the lent lists tell, and the class check of them.
+use Rattle.std.specs.declared.result.Result.TheVariants.{Err, Ok}
 use Rattle.std.specs.Prelude.{◌≡◌, ℕ, ◌+◌, ◌*◌, ◌/◌, ◌<◌, min, get_or, length, leb}
 use Rattle.std.proofs.Math.Option.{Option, none, some}
 use mathlib.Core.List.{List, [], ◌∷◌, ◌++◌, foldl}
@@ -10,8 +11,7 @@ use Rattle.paper.specs.Sites.{child_count}
 use Rattle.paper.specs.Classes.{Classes, merge}
 use Rattle.paper.specs.Loading.{Labels, Holder, closure_of, conflict, check_4, steps, endless, no_endless}
 use Rattle.rule_words.specs.Stored.{constraint_at}
-use Rattle.paper.specs.declared.Verdict.{Verdict}
-use Rattle.paper.specs.declared.Verdict.TheVariants as A
+use Rattle.paper.specs.Answered.{Verdict}
 
 -- Holder h is the site sites[h] under row rows[h]. Row i has its constraint in the three words from 3 * i, and its children, as many as its
 -- constraint has, from kids[8 * i]. What lies past the end of a list is 0.
@@ -99,8 +99,8 @@ unfoldable pub checked : List ℕ → Held → Outcome (Unit {0})
 checked eqs H = no_stray (stray (eqs ++ (H.sites ++ H.kids))) >>= λ _. class_check (eqs_in eqs) (holders_in H)
 
 abbrev pub verdict_of : Verdict → Outcome (Unit {0})
-verdict_of A.Fine = done tt
-verdict_of (A.Refused e) = refused e
+verdict_of (Ok _) = done tt
+verdict_of (Err e) = refused e
 
 -- Equalities joined in order; one that a join refuses changes nothing.
 abbrev pub kept_by : Classes → Outcome Classes → Classes

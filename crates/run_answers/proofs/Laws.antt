@@ -9,20 +9,18 @@ use lib.ListN.{length, get_or, take, drop, set, replicate, length-append, length
 use lib.Seq.{drop-cons, take_at, take-suc-set}
 use lib.Dec.{eqb, ltb, leb}
 use borrow.Author.Tests.{lt-ltb, le-ltb, eq-eqb, ne_eqb, ltb-true, ltb-false, leb-true, leb-false}
+use Rattle.std.specs.declared.result.Result.TheVariants.{Err, Ok}
+use Rattle.std.specs.declared.option.Option.TheVariants.{None, Some}
 use Rattle.std.specs.Prelude.{if◌then◌else◌}
 use Rattle.paper.specs.Words.{same_list, four}
 use Rattle.paper.specs.Numbers.{number}
-use Rattle.paper.specs.declared.Verdict.{Verdict}
-use Rattle.paper.specs.declared.Verdict.TheVariants as verdict
+use Rattle.paper.specs.Answered.{Verdict}
 use Rattle.paper.specs.declared.Refusal.{Refusal}
 use Rattle.paper.specs.Loading.{Kept}
 use Rattle.paper.specs.Layout.{Lines, nothing, unended, line, lines}
-use Rattle.sheet_lines.specs.declared.Ends.{Ends}
-use Rattle.sheet_lines.specs.declared.Ends.TheVariants.{At, Open}
+use Rattle.paper.specs.Answered.{Maybe}
 use Rattle.sheet_lines.specs.Ends.{line_end}
 use Rattle.sheet_lines.specs.Cut.{part_of, first_there, drop_all, LeftOf, open_left, line_split}
-use Rattle.sheet_findings.specs.declared.Room as F
-use Rattle.sheet_findings.specs.declared.Room.TheVariants.{To, Short}
 use Rattle.sheet_findings.specs.Written.{room_said}
 use Rattle.sheet_ended.specs.Sets.{to_or}
 use Rattle.sites.specs.Slots.{sites_in}
@@ -199,12 +197,12 @@ finding_is : (bytes bytes' l f : List ℕ) (k : ℕ) → length bytes ≡ findin
 unfolding finding_in
 finding_is bytes bytes' l f k n e g = first_is bytes bytes' (bytes_in l) f k n e g
 
-said_in : (m m' s : List ℕ) (at most r : ℕ) (w : F.Room) → most ≡ max at (length m) → w ≡ room_said m at s → m' ≡ (wrote (m, at) s).0 → r ≡ to_or w most → (m', r) ≡ wrote (m, at) s
+said_in : (m m' s : List ℕ) (at most r : ℕ) (w : Maybe ℕ) → most ≡ max at (length m) → w ≡ room_said m at s → m' ≡ (wrote (m, at) s).0 → r ≡ to_or w most → (m', r) ≡ wrote (m, at) s
 unfolding room_said
 said_in m m' s at most r w e f g h = go (leb (at + length s) (length m)) refl
   where
-    to : (t : Bool) → leb (at + length s) (length m) ≡ t → r ≡ to_or (if t then To (at + length s) else Short) most
-    to t q = h ∙ ap (λ (z : F.Room). to_or z most) (f ∙ ap (λ (b : Bool). if b then To (at + length s) else Short) q)
+    to : (t : Bool) → leb (at + length s) (length m) ≡ t → r ≡ to_or (if t then Some (at + length s) else None) most
+    to t q = h ∙ ap (λ (z : Maybe ℕ). to_or z most) (f ∙ ap (λ (b : Bool). if b then Some (at + length s) else None) q)
 
     end : (t : Bool) → leb (at + length s) (length m) ≡ t → r ≡ (wrote (m, at) s).1
     end true q = to true q ∙ sym (ap (λ (p : Room). p.1) (fits s m at (leb-true (at + length s) (length m) q)))
@@ -213,7 +211,7 @@ said_in m m' s at most r w e f g h = go (leb (at + length s) (length m)) refl
     go : (t : Bool) → leb (at + length s) (length m) ≡ t → (m', r) ≡ wrote (m, at) s
     go t q = ap (λ (x : List ℕ). (x, r)) g ∙ ap (λ (x : ℕ). ((wrote (m, at) s).0, x)) (end t q)
 
-pub explained_put : (m m' bytes bytes' l f : List ℕ) (clean : Bool) (at k most r : ℕ) (w : F.Room) → length bytes ≡ finding_room → (bytes', k) ≡ wrote (bytes, 0) (bytes_in l) → f ≡ part_of bytes' 0 k → most ≡ max at (length m) → w ≡ room_said m at (said clean f) → m' ≡ (wrote (m, at) (said clean f)).0 → r ≡ to_or w most → (m', r) ≡ wrote (m, at) (said clean (finding_in l))
+pub explained_put : (m m' bytes bytes' l f : List ℕ) (clean : Bool) (at k most r : ℕ) (w : Maybe ℕ) → length bytes ≡ finding_room → (bytes', k) ≡ wrote (bytes, 0) (bytes_in l) → f ≡ part_of bytes' 0 k → most ≡ max at (length m) → w ≡ room_said m at (said clean f) → m' ≡ (wrote (m, at) (said clean f)).0 → r ≡ to_or w most → (m', r) ≡ wrote (m, at) (said clean (finding_in l))
 explained_put m m' bytes bytes' l f clean at k most r w n e g a b c d =
     said_in m m' (said clean f) at most r w a b c d ∙ ap (λ z. wrote (m, at) (said clean z)) (finding_is bytes bytes' l f k n e g)
 
@@ -228,17 +226,17 @@ both_told p q r x n a b e h f g u v =
     let k : first_limit ≤ number x = omega arith in
     rw (le-ltb (number x) first_limit k) (follows p q r (four (asked_for x)) (four (asker x)) (u ∙ ap (λ z. wrote p (four z)) f) (v ∙ ap (λ z. wrote q (four z)) g))
 
-pub why_put : (m m' bytes bytes' bytes'' l f : List ℕ) (x : Refusal) (at k j most r : ℕ) (w : F.Room) → length bytes ≡ finding_room → (bytes', k) ≡ wrote (bytes, 0) (bytes_in l) → (bytes'', j) ≡ wrote (bytes', k) (told_bytes x) → f ≡ part_of bytes'' 0 j → most ≡ max at (length m) → w ≡ room_said m at (said false f) → m' ≡ (wrote (m, at) (said false f)).0 → r ≡ to_or w most → (m', r) ≡ wrote (m, at) (why_said x l)
+pub why_put : (m m' bytes bytes' bytes'' l f : List ℕ) (x : Refusal) (at k j most r : ℕ) (w : Maybe ℕ) → length bytes ≡ finding_room → (bytes', k) ≡ wrote (bytes, 0) (bytes_in l) → (bytes'', j) ≡ wrote (bytes', k) (told_bytes x) → f ≡ part_of bytes'' 0 j → most ≡ max at (length m) → w ≡ room_said m at (said false f) → m' ≡ (wrote (m, at) (said false f)).0 → r ≡ to_or w most → (m', r) ≡ wrote (m, at) (why_said x l)
 unfolding why_said
 why_put m m' bytes bytes' bytes'' l f x at k j most r w n e h g a b c d =
     said_in m m' (said false f) at most r w a b c d ∙ ap (λ z. wrote (m, at) (said false z))
     (first_is bytes bytes'' (bytes_in l ++ told_bytes x) f j n (follows (bytes, 0) (bytes', k) (bytes'', j) (bytes_in l) (told_bytes x) e h) g)
 
 module _ (p q : Room) (e : Event) (v : Verdict) (f : List ℕ) (g : v ≡ why_of e) where
-  pub why_line : {x : Refusal} → v ≡ verdict.Refused x → q ≡ wrote p (why_said x f) → q ≡ wrote p (said_by (why_of e) f)
+  pub why_line : {x : Refusal} → v ≡ Err x → q ≡ wrote p (why_said x f) → q ≡ wrote p (said_by (why_of e) f)
   why_line h k = k ∙ ap (λ z. wrote p (said_by z f)) (sym h ∙ g)
 
-  pub other_line : v ≡ verdict.Fine → q ≡ wrote p (in_words false f) → q ≡ wrote p (said_by (why_of e) f)
+  pub other_line : v ≡ Ok tt → q ≡ wrote p (in_words false f) → q ≡ wrote p (said_by (why_of e) f)
   other_line h k = k ∙ ap (λ z. wrote p (said_by z f)) (sym h ∙ g)
 
 -- ---- the lines of the findings
@@ -247,14 +245,14 @@ none_said clean nothing l h = refl
 none_said clean (unended k) l h = refl
 none_said clean (line k r) l h = absurd h
 
-pub said_turn : (q r F : Room) (clean : Bool) (s l : List ℕ) (from e : ℕ) (v : Ends) → v ≡ line_end from (drop from s) → v ≡ At e → l ≡ part_of s from e → wrote q (in_words clean (drop from s)) ≡ F → r ≡ wrote q (said clean (finding_in l)) → wrote r (in_words clean (drop (e + 1) s)) ≡ F
+pub said_turn : (q r F : Room) (clean : Bool) (s l : List ℕ) (from e : ℕ) (v : Maybe ℕ) → v ≡ line_end from (drop from s) → v ≡ Some e → l ≡ part_of s from e → wrote q (in_words clean (drop from s)) ≡ F → r ≡ wrote q (said clean (finding_in l)) → wrote r (in_words clean (drop (e + 1) s)) ≡ F
 unfolding in_words
 said_turn q r F clean s l from e v a b p f k =
     let u : lines (drop from s) ≡ line l (lines (drop (e + 1) s)) = line_split s from e (sym a ∙ b) ∙ ap (λ z. line z (lines (drop (e + 1) s))) (sym p) in
     let w : lines_said clean (lines (drop from s)) ≡ said clean (finding_in l) ++ lines_said clean (lines (drop (e + 1) s)) = ap (lines_said clean) u in
     wrote_more q r F (said clean (finding_in l)) (lines_said clean (lines (drop (e + 1) s))) (lines_said clean (lines (drop from s))) w f k
 
-pub said_open : (q F : Room) (clean : Bool) (s : List ℕ) (from : ℕ) (v : Ends) → v ≡ line_end from (drop from s) → v ≡ Open → wrote q (in_words clean (drop from s)) ≡ F → q ≡ F
+pub said_open : (q F : Room) (clean : Bool) (s : List ℕ) (from : ℕ) (v : Maybe ℕ) → v ≡ line_end from (drop from s) → v ≡ None → wrote q (in_words clean (drop from s)) ≡ F → q ≡ F
 unfolding in_words
 said_open q F clean s from v a b f =
     wrote_all q F (lines_said clean (lines (drop from s))) (none_said clean (lines (drop from s)) (drop from s) (open_left s from (sym a ∙ b))) f

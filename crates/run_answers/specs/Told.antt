@@ -1,9 +1,9 @@
 -- What a line of a sheet, and a sheet's end, are answered by `check`, `explain` and `kept`: the bytes.
+use Rattle.std.specs.declared.result.Result.TheVariants.{Err, Ok}
 use Rattle.std.specs.Prelude.{Bool, true, false, List, [], ◌∷◌, ◌++◌, ℕ, ◌+◌, ◌*◌, ◌%◌, length, take, ltb, leb}
 use Rattle.paper.specs.declared.Refusal.{Refusal}
 use Rattle.paper.specs.declared.Refusal.TheVariants.{Layout, Unknown, Itself, Unreachable, Hanging, Endless, TooManySites, TooManySources, TooManyFields, TooManyRules, TooManyItems, TooManyConstrained, TooManyEqual, TooManySets, TermTooHigh, UnfoldingTooLong, PlaceUsed, Repeated}
-use Rattle.paper.specs.declared.Verdict.{Verdict}
-use Rattle.paper.specs.declared.Verdict.TheVariants.{Fine, Refused}
+use Rattle.paper.specs.Answered.{Verdict}
 use Rattle.paper.specs.Numbers.{number}
 use Rattle.std.specs.Prelude.{if◌then◌else◌}
 use Rattle.paper.specs.Words.{same_list, four}
@@ -93,14 +93,14 @@ in_words clean found = lines_said clean (lines found)
 -- A rule that is refused, or a line that stops the sheet: the one finding, and where a limit is passed the number that was asked for and who asked
 -- behind it, four bytes each.
 abbrev pub why_of : Event → Verdict
-why_of event.Begun = Fine
-why_of event.Site = Fine
-why_of event.Item = Fine
-why_of (event.Kept p q) = Fine
-why_of (event.Refused p q x) = Refused x
-why_of event.Ended = Fine
-why_of (event.Stopped x) = Refused x
-why_of event.NoRoom = Fine
+why_of event.Begun = Ok tt
+why_of event.Site = Ok tt
+why_of event.Item = Ok tt
+why_of (event.Kept p q) = Ok tt
+why_of (event.Refused p q x) = Err x
+why_of event.Ended = Ok tt
+why_of (event.Stopped x) = Err x
+why_of event.NoRoom = Ok tt
 
 -- the numbers of the limits are the highest
 abbrev pub first_limit : ℕ
@@ -113,8 +113,8 @@ unfoldable pub why_said : Refusal → List ℕ → List ℕ
 why_said x found = said false (take finding_room (bytes_in found ++ told_bytes x))
 
 abbrev pub said_by : Verdict → List ℕ → List ℕ
-said_by Fine found = in_words false found
-said_by (Refused x) found = why_said x found
+said_by (Ok _) found = in_words false found
+said_by (Err x) found = why_said x found
 
 -- ---- `kept`: what the line was
 -- "each pair of kept rules of the set, in rule order, the earlier first"

@@ -10,11 +10,11 @@ ghost use Rattle.rule_words.specs.Stored.{kept_in, kept_first, run};
 ghost use Rattle.sheet_lines.specs.Cut.{part_of};
 ghost use Rattle.run_answers.specs.Told.{asked_for, asker, byte_of, bytes_in, finding_in, in_words, why_of, told_bytes, why_said, said_by, pairs_with, pair_lines, set_of, event_text, answer, is_clean, is_stop, last_text, last_answer};
 
-use paper::{Refusal, TERMS, Verdict};
+use paper::{Refusal, TERMS};
 use sheet_ended::to_or;
 use sheet_findings::number_of;
 use sheet_frames::digits::value_of;
-use sheet_lines::{Ends, line_end, part};
+use sheet_lines::{line_end, part};
 use sheet_reader::{Event, OpenSet, Stands};
 use tell_text::{put, put_text};
 use term_table::WORDS;
@@ -79,7 +79,7 @@ fn put_all_explained(room: &[u8], clean: bool, out: &mut [u8], at: usize) -> usi
     let mut n = at;
     let mut from: usize = 0;
     while from < room.len() {
-        let Ends::At(e) = line_end(room, from) else {
+        let Some(e) = line_end(room, from) else {
             return n;
         };
         let next = put_explained(part(room, from, e), clean, out, n);
@@ -183,25 +183,25 @@ fn put_why(found: &[u8], why: Refusal, out: &mut [u8], at: usize) -> usize
 }
 
 // Why a rule was refused, or the sheet stopped.
-fn why_of(e: Event) -> Verdict
+fn why_of(e: Event) -> Result<(), Refusal>
     ensures { result ≡ why_of e }
 {
     match e {
-        Event::Begun => Verdict::Fine,
-        Event::Site => Verdict::Fine,
-        Event::Item => Verdict::Fine,
+        Event::Begun => Ok(()),
+        Event::Site => Ok(()),
+        Event::Item => Ok(()),
         Event::Kept {
             place: _,
             priority: _,
-        } => Verdict::Fine,
+        } => Ok(()),
         Event::Refused {
             place: _,
             priority: _,
             why,
-        } => Verdict::Refused(why),
-        Event::Ended => Verdict::Fine,
-        Event::Stopped(why) => Verdict::Refused(why),
-        Event::NoRoom => Verdict::Fine,
+        } => Err(why),
+        Event::Ended => Ok(()),
+        Event::Stopped(why) => Err(why),
+        Event::NoRoom => Ok(()),
     }
 }
 
@@ -210,7 +210,7 @@ fn put_line_explained(e: Event, found: &[u8], out: &mut [u8], at: usize) -> usiz
     ensures { (out.new, result) ≡ wrote (out.old, at) (said_by (why_of e) found.now) }
 {
     let v = why_of(e);
-    if let Verdict::Refused(why) = v {
+    if let Err(why) = v {
         return put_why(found, why, out, at);
     }
     put_all_explained(found, false, out, at)

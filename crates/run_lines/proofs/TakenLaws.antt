@@ -9,7 +9,7 @@ use lib.ListN.{length, get_or}
 use lib.Dec.{eqb, ltb}
 use borrow.Author.Tests.{lt-ltb, le-ltb, ltb-true, ltb-false}
 use Rattle.paper.specs.Text.{text}
-use Rattle.sheet_findings.specs.declared.Room as F
+use Rattle.paper.specs.Answered.{Maybe}
 use Rattle.sheet_ended.specs.Sets.{to_or}
 use Rattle.sheet_lines.specs.declared.Held.{Held}
 use Rattle.sheet_lines.specs.Held.{no_line}
@@ -105,7 +105,7 @@ module _ (how : How) (r : Reader) (k : Marks) (h : Held) (t : Square) (room out 
   pub stopped_here : (n : ℕ) → k.goes ≡ false → n ≡ spared (length out) k.filled → Closed how r k h t room room out out n
   stopped_here n e f = record { last = λ g. no_way g e; stopped = λ g. (ap (λ (z : ℕ). (out, z)) f, refl) }
 
-  pub last_here : (room' out' f : List ℕ) (at to n : ℕ) (w : F.Room) → k.goes ≡ true → at ≡ spared (length out) k.filled → ((m ws i : List ℕ) → Ends (state_of r h) (lent m ws i t) room room' 0 w) → to ≡ to_or w 0 → f ≡ part_of room' 0 to → (out', n) ≡ wrote (out, at) (last_answer how k.found t f) → length room' ≡ length room → Closed how r k h t room room' out out' n
+  pub last_here : (room' out' f : List ℕ) (at to n : ℕ) (w : Maybe ℕ) → k.goes ≡ true → at ≡ spared (length out) k.filled → ((m ws i : List ℕ) → Ends (state_of r h) (lent m ws i t) room room' 0 w) → to ≡ to_or w 0 → f ≡ part_of room' 0 to → (out', n) ≡ wrote (out, at) (last_answer how k.found t f) → length room' ≡ length room → Closed how r k h t room room' out out' n
   last_here room' out' f at to n w e a b c d g j =
       let x : f ≡ part_of room' 0 (to_or w 0) = d ∙ ap (part_of room' 0) c in
       record {

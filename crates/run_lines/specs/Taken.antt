@@ -3,7 +3,7 @@ use Rattle.std.specs.Prelude.{◌≡◌, Bool, true, false, ◌&&◌, ◌||◌, 
 use Rattle.std.specs.Prelude.{if◌then◌else◌}
 use Rattle.paper.specs.Words.{same_list}
 use Rattle.paper.specs.Text.{text, unended}
-use Rattle.sheet_findings.specs.declared.Room as F
+use Rattle.paper.specs.Answered.{Maybe}
 use Rattle.sheet_ended.specs.Sets.{to_or}
 use Rattle.sheet_lines.specs.declared.Held.{Held}
 use Rattle.sheet_lines.specs.Held.{no_line}
@@ -79,7 +79,7 @@ abbrev pub state_of : Reader → Held → State
 state_of r h = record { reader = r; held = h; stopped = false }
 
 pub record ToldLast (how : How) (r : Reader) (k : Marks) (h : Held) (t : Square) (room room' out out' : List ℕ) (n : ℕ) : Type 0 where
-  pub said : F.Room
+  pub said : Maybe ℕ
   pub ends : (m ws i : List ℕ) → Ends (state_of r h) (lent m ws i t) room room' 0 said
   pub same : length room' ≡ length room
   pub answers : (out', n) ≡ wrote (free_in out k) (last_answer how k.found t (part_of room' 0 (to_or said 0)))

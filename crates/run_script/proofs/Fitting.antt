@@ -1,24 +1,19 @@
 -- One answer takes at most `most` bytes, so that half the buffer is always enough for it, and nothing is cut.
+use Rattle.std.specs.declared.result.Result.TheVariants.{Err, Ok}
+use Rattle.std.specs.declared.option.Option.TheVariants.{None, Some}
 use Rattle.std.proofs.Common.{◌≡◌, ℕ, zero, suc, ◌+◌, ◌*◌, ◌/◌, ◌<◌, ◌≤◌, min, Bool, true, false, eqb, ltb, leb, List, [], ◌∷◌, ◌++◌, length, get_or, take, drop, refl, ap, ◌∙◌, subst, arith, length-append, ltb-false, ltb-true, eqb-true}
 use mathlib.Core.Path.{subst⁻¹}
 use lib.Seq.{sets, length-sets}
 use borrow.Author.Tests.{eqb-false}
-use Rattle.paper.specs.declared.Found.{Found}
-use Rattle.paper.specs.declared.Found.TheVariants as found
+use Rattle.paper.specs.Answered.{Maybe}
 use Rattle.paper.specs.declared.Refusal.{Refusal}
 use Rattle.paper.specs.declared.Refusal.TheVariants.{Layout, Unknown, Itself, Unreachable, Hanging, Endless, TooManySites, TooManySources, TooManyFields, TooManyRules, TooManyItems, TooManyConstrained, TooManyEqual, TooManySets, TermTooHigh, UnfoldingTooLong, PlaceUsed, Repeated}
 use Rattle.std.specs.Prelude.{if◌then◌else◌}
 use Rattle.paper.specs.Numbers.{max_sites, done, ◌>>=◌, demand}
 use Rattle.paper.specs.Classes.{Classes, no_classes, is_at, flatten_in, flattened, find, in_same_set, sweep, remove_at, remove_set_of, len, is_empty}
 use Rattle.classes.specs.Answers.{over, looked, sought, joined, same, taken_by, taken_if, taken}
-use Rattle.classes.specs.declared.Looked.{Looked}
-use Rattle.classes.specs.declared.Looked.TheVariants as L
-use Rattle.classes.specs.declared.Sought.{Sought}
-use Rattle.classes.specs.declared.Sought.TheVariants as S
-use Rattle.classes.specs.declared.Joined.{Joined}
-use Rattle.classes.specs.declared.Joined.TheVariants as J
-use Rattle.classes.specs.declared.Same.{Same}
-use Rattle.classes.specs.declared.Same.TheVariants as E
+use Rattle.classes.specs.Called.{Looked}
+use Rattle.paper.specs.Answered.{Answer}
 use Rattle.class_script.specs.declared.Call.{Call}
 use Rattle.class_script.specs.declared.Call.TheVariants as K
 use Rattle.class_script.specs.declared.Reply.{Reply}
@@ -77,7 +72,7 @@ module _ (p : List ℕ) (r : ℕ) where
   swept_length : (k : ℕ) → length (sweep k p r).members ≤ k
   unfolding sweep
   swept_length zero = omega arith
-  swept_length (suc y) = go (is_at (flatten_in (sweep y p r).parents y).1 (found.At r)) (swept_length y)
+  swept_length (suc y) = go (is_at (flatten_in (sweep y p r).parents y).1 (Some r)) (swept_length y)
     where
       go : (t : Bool) → length (sweep y p r).members ≤ y → length (if t then (sweep y p r).members ++ (y ∷ []) else (sweep y p r).members) ≤ suc y
       go true h = rw length-append (omega arith)
@@ -86,7 +81,7 @@ module _ (p : List ℕ) (r : ℕ) where
   swept_low : (k i : ℕ) → get_or (sweep k p r).members i 0 ≤ k
   unfolding sweep
   swept_low zero i = omega arith
-  swept_low (suc y) i = go (is_at (flatten_in (sweep y p r).parents y).1 (found.At r)) (swept_low y i)
+  swept_low (suc y) i = go (is_at (flatten_in (sweep y p r).parents y).1 (Some r)) (swept_low y i)
     where
       go : (t : Bool) → get_or (sweep y p r).members i 0 ≤ y → get_or (if t then (sweep y p r).members ++ (y ∷ []) else (sweep y p r).members) i 0 ≤ suc y
       go true h = last_low (sweep y p r).members y i h
@@ -134,22 +129,22 @@ refusal_most (UnfoldingTooLong a) h = omega arith
 refusal_most (PlaceUsed a) h = omega arith
 refusal_most (Repeated a) h = omega arith
 
-found_most : (f : Found) → InFound f → length (found_text f) ≤ 5
-found_most (found.At s) h = five_digits s h
-found_most found.Nothing h = omega arith
+found_most : (f : Maybe ℕ) → InFound f → length (found_text f) ≤ 5
+found_most (Some s) h = five_digits s h
+found_most None h = omega arith
 
-linked_most : (f : Found) (n : ℕ) → InFound f → n < 65536 → length (linked f n) ≤ 11
-linked_most (found.At s) n h l = let a = five_digits s h in let b = five_digits n l in rw (length-append, length-append) (omega arith)
-linked_most found.Nothing n h l = omega arith
+linked_most : (f : Maybe ℕ) (n : ℕ) → InFound f → n < 65536 → length (linked f n) ≤ 11
+linked_most (Some s) n h l = let a = five_digits s h in let b = five_digits n l in rw (length-append, length-append) (omega arith)
+linked_most None n h l = omega arith
 
 bool_most : (b : Bool) → length (bool_text b) ≤ 5
 bool_most true = omega arith
 bool_most false = omega arith
 
-removed_most : (c : Classes) (f : Found) (m : List ℕ) → let q = remove_at c f in length (listed_text (over m q.members) (length q.members)) ≤ 5 * max_sites
-removed_most c (found.At r) m =
+removed_most : (c : Classes) (f : Maybe ℕ) (m : List ℕ) → let q = remove_at c f in length (listed_text (over m q.members) (length q.members)) ≤ 5 * max_sites
+removed_most c (Some r) m =
     listed_most (sweep max_sites c.parents r).members m (swept_length c.parents r max_sites) (λ i. swept_low c.parents r max_sites i)
-removed_most c found.Nothing m = omega arith
+removed_most c None m = omega arith
 
 taken_most : (c : Classes) (m : List ℕ) (x : ℕ) (number : ℕ) → InRange (reply.Removed (taken c m x).2) → length (reply_text (taken c m x).1 number (reply.Removed (taken c m x).2)) ≤ 5 * max_sites
 unfolding remove_set_of
@@ -169,21 +164,21 @@ module _ (c : Classes) (ms : List ℕ) (number : ℕ) (n : number < 184467440737
   abbrev Short : Classes × List ℕ × Reply → Type 0
   Short x = InRange x.2 → length (reply_text x.1 number x.2) < most
 
-  short_joined : (j : Joined) → InRange (reply.Merged j) → length (joined_text j) < most
-  short_joined (J.Done b) r = omega arith
-  short_joined (J.Refused e) r = let z = refusal_most e r in omega arith
+  short_joined : (j : Answer Bool) → InRange (reply.Merged j) → length (joined_text j) < most
+  short_joined (Ok b) r = omega arith
+  short_joined (Err e) r = let z = refusal_most e r in omega arith
 
   short_looked : (l : Looked) → InRange (reply.Found l) → length (looked_text l) < most
-  short_looked (L.Got t) r = let z = linked_most t.found t.links r.0 r.1 in omega arith
-  short_looked (L.Refused e) r = let z = refusal_most e r in omega arith
+  short_looked (Ok t) r = let z = linked_most t.found t.links r.0 r.1 in omega arith
+  short_looked (Err e) r = let z = refusal_most e r in omega arith
 
-  short_sought : (s : Sought) → InRange (reply.FoundMut s) → length (sought_text s) < most
-  short_sought (S.Got f) r = let z = found_most f r in omega arith
-  short_sought (S.Refused e) r = let z = refusal_most e r in omega arith
+  short_sought : (s : Answer (Maybe ℕ)) → InRange (reply.FoundMut s) → length (sought_text s) < most
+  short_sought (Ok f) r = let z = found_most f r in omega arith
+  short_sought (Err e) r = let z = refusal_most e r in omega arith
 
-  short_same : (s : Same) → InRange (reply.Compared s) → length (same_text s) < most
-  short_same (E.Is b) r = let z = bool_most b in omega arith
-  short_same (E.Refused e) r = let z = refusal_most e r in omega arith
+  short_same : (s : Answer Bool) → InRange (reply.Compared s) → length (same_text s) < most
+  short_same (Ok b) r = let z = bool_most b in omega arith
+  short_same (Err e) r = let z = refusal_most e r in omega arith
 
   short_step : (k : Call) → Short (stepped c ms k)
   short_step (K.Merge x y) r = short_joined (joined c x y).1 r

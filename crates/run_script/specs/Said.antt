@@ -1,17 +1,14 @@
 -- How a script is read and answered: lines, bytes, chunks. (What a line is answered: tell_reply's Replies.)
+use Rattle.std.specs.declared.result.Result.TheVariants.{Err, Ok}
+use Rattle.std.specs.declared.option.Option.TheVariants.{None, Some}
 use Rattle.std.specs.Prelude.{◌≡◌, ℕ, zero, suc, ◌+◌, ◌%◌, ◌<◌, ◌≤◌, Bool, true, false, not, List, [], ◌∷◌, ◌++◌, length, take, ◌≢◌, nat_lt, slice_index, slice_set}
 use Rattle.std.specs.Prelude.{if◌then◌else◌}
 use Rattle.paper.specs.Text.{unended}
-use Rattle.paper.specs.declared.Found.{Found}
-use Rattle.paper.specs.declared.Found.TheVariants as found
+use Rattle.paper.specs.Answered.{Maybe}
 use Rattle.paper.specs.declared.Refusal.{Refusal}
 use Rattle.paper.specs.declared.Refusal.TheVariants.{Layout, Unknown, Itself, Unreachable, Hanging, Endless, TooManySites, TooManySources, TooManyFields, TooManyRules, TooManyItems, TooManyConstrained, TooManyEqual, TooManySets, TermTooHigh, UnfoldingTooLong, PlaceUsed, Repeated}
 use Rattle.paper.specs.Classes.{Classes, no_classes}
-use Rattle.classes.specs.declared.Looked.TheVariants as looked
-use Rattle.classes.specs.declared.Sought.TheVariants as sought
-use Rattle.classes.specs.declared.Joined.TheVariants as joined
-use Rattle.classes.specs.declared.Same.TheVariants as same
-use Rattle.classes.specs.declared.Taken.TheVariants as taken
+use Rattle.classes.specs.declared.Untaken.TheVariants as taken
 use Rattle.class_script.specs.declared.Reply.{Reply}
 use Rattle.class_script.specs.declared.Reply.TheVariants as reply
 use Rattle.class_script.specs.Script.{stepped, call_in}
@@ -76,22 +73,22 @@ InRefusal (UnfoldingTooLong a) = Unit {0}
 InRefusal (PlaceUsed a) = Unit {0}
 InRefusal (Repeated a) = Unit {0}
 
-abbrev pub InFound : Found → Type 0
-InFound (found.At s) = s < 65536
-InFound found.Nothing = Unit {0}
+abbrev pub InFound : Maybe ℕ → Type 0
+InFound (Some s) = s < 65536
+InFound None = Unit {0}
 
 abbrev pub InRange : Reply → Type 0
-InRange (reply.Merged (joined.Done b)) = Unit {0}
-InRange (reply.Merged (joined.Refused e)) = InRefusal e
-InRange (reply.Found (looked.Got t)) = InFound t.found × (t.links < 65536)
-InRange (reply.Found (looked.Refused e)) = InRefusal e
-InRange (reply.FoundMut (sought.Got f)) = InFound f
-InRange (reply.FoundMut (sought.Refused e)) = InRefusal e
-InRange (reply.Compared (same.Is b)) = Unit {0}
-InRange (reply.Compared (same.Refused e)) = InRefusal e
-InRange (reply.Removed (taken.Members k)) = Unit {0}
-InRange (reply.Removed taken.Short) = Unit {0}
-InRange (reply.Removed (taken.Refused e)) = InRefusal e
+InRange (reply.Merged (Ok b)) = Unit {0}
+InRange (reply.Merged (Err e)) = InRefusal e
+InRange (reply.Found (Ok t)) = InFound t.found × (t.links < 65536)
+InRange (reply.Found (Err e)) = InRefusal e
+InRange (reply.FoundMut (Ok f)) = InFound f
+InRange (reply.FoundMut (Err e)) = InRefusal e
+InRange (reply.Compared (Ok b)) = Unit {0}
+InRange (reply.Compared (Err e)) = InRefusal e
+InRange (reply.Removed (Ok k)) = Unit {0}
+InRange (reply.Removed (Err taken.Short)) = Unit {0}
+InRange (reply.Removed (Err (taken.Refused e))) = InRefusal e
 InRange (reply.Length k) = k < 65536
 InRange (reply.Emptiness b) = Unit {0}
 InRange reply.Bad = Unit {0}

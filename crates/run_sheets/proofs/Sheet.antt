@@ -10,6 +10,7 @@ use lib.ListN.{length, take, drop, set, length-append, length-drop, length-take,
 use lib.Seq.{take_all}
 use lib.Dec.{eqb, ltb, leb}
 use borrow.Author.Tests.{not-false, ltb-true, ltb-false, eqb-true}
+use Rattle.std.specs.declared.option.Option.TheVariants.{Some}
 use Rattle.std.specs.Prelude.{if◌then◌else◌}
 use Rattle.paper.specs.Words.{joined}
 use Rattle.paper.specs.declared.Refusal.TheVariants.{Layout}
@@ -36,8 +37,7 @@ use Rattle.sheet_read.specs.declared.State.{State}
 use Rattle.sheet_read.specs.Whole.{first_state, Going, Shows}
 use Rattle.sheet_read.proofs.Feeding.{shows_first}
 use Rattle.term_table.specs.Table.{no_edges}
-use Rattle.sheet_findings.specs.declared.Room as F
-use Rattle.sheet_findings.specs.declared.Room.TheVariants.{To}
+use Rattle.paper.specs.Answered.{Maybe}
 use Rattle.sheet_ended.specs.Sets.{to_or}
 use Rattle.tell_text.specs.Written as texts
 use Rattle.tell_text.specs.Written.{Room, wrote, with_byte, one_fits, one_past, past}
@@ -369,8 +369,8 @@ all_check (p ∷ ps) s u g h M fine on w =
     }
 
 -- ---- the end of the sheet
-part_at_end : (room room' t : List ℕ) (w : F.Room) → room' ≡ written_at room 0 t → w ≡ To (0 + length t) → part_of room' 0 (to_or w 0) ≡ t
-part_at_end room room' t w e f = ap (λ z. part_of z 0 (to_or w 0)) e ∙ (ap (λ (z : F.Room). part_of (written_at room 0 t) 0 (to_or z 0)) f ∙ written_there room t (0 + length t) refl)
+part_at_end : (room room' t : List ℕ) (w : Maybe ℕ) → room' ≡ written_at room 0 t → w ≡ Some (0 + length t) → part_of room' 0 (to_or w 0) ≡ t
+part_at_end room room' t w e f = ap (λ z. part_of z 0 (to_or w 0)) e ∙ (ap (λ (z : Maybe ℕ). part_of (written_at room 0 t) 0 (to_or z 0)) f ∙ written_there room t (0 + length t) refl)
 
 fits_room : (room room' t : List ℕ) → room' ≡ written_at room 0 t → length room' ≡ length room → length t ≤ length room
 unfolding written_at

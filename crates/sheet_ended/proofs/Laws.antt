@@ -8,9 +8,9 @@ use native.Mathlib.Numerals.{add-one}
 use lib.ListN.{length, get_or, take, replicate, length-append}
 use lib.Seq.{take-suc, take_at, length-take-le}
 use borrow.Author.Tests.{lt-ltb, le-ltb, le-leb, lt-leb, eq-eqb, ne_eqb}
-use Rattle.paper.specs.declared.Found.{Found}
-use Rattle.paper.specs.declared.Found.TheVariants as found
-use Rattle.paper.specs.declared.Verdict.TheVariants.{Fine, Refused}
+use Rattle.std.specs.declared.result.Result.TheVariants.{Err, Ok}
+use Rattle.std.specs.declared.option.Option.TheVariants.{None, Some}
+use Rattle.paper.specs.Answered.{Maybe}
 use Rattle.paper.specs.declared.Refusal.TheVariants.{Repeated, TooManySets, TermTooHigh}
 use Rattle.paper.specs.Words.{joined, below, keep, two, returns}
 use Rattle.paper.specs.Numbers.{max_sets, max_rules, max_term}
@@ -22,8 +22,6 @@ use Rattle.term_table.specs.declared.Listed.{Listed}
 use Rattle.term_table.proofs.Adding.{edges_append}
 use Rattle.term_table.proofs.Lists.{keep_in, keep_out, keep_nil}
 use Rattle.sheet_findings.specs.Written.{written_at, room_said, room_after, ended_found}
-use Rattle.sheet_findings.specs.declared.Room.{Room}
-use Rattle.sheet_findings.specs.declared.Room.TheVariants.{To, Short}
 use Rattle.sites.specs.Slots.{put, site_of, slot_body, site_in, sites_in, found_as}
 use Rattle.sites.proofs.Put.{put_put, put_nil, length_put}
 use Rattle.site_body.proofs.Bodies.{found_some, found_none}
@@ -37,20 +35,20 @@ none_ended = refl
 
 -- ---- may a set begin?
 module _ (e : EndedSets) (t at : ℕ) (b : Bool) (q : b ≡ has_term e.used t) where
-  pub begins_used : b ≡ true → Refused (Repeated at) ≡ verdict_as (may_begin e t at)
+  pub begins_used : b ≡ true → Err (Repeated at) ≡ verdict_as (may_begin e t at)
   unfolding may_begin
   begins_used x = rw (← q, x)
 
   module _ (x : b ≡ false) where
-    pub begins_many : (n : ℕ) → n ≡ suc e.sets → max_sets ≤ e.sets → Refused (TooManySets n) ≡ verdict_as (may_begin e t at)
+    pub begins_many : (n : ℕ) → n ≡ suc e.sets → max_sets ≤ e.sets → Err (TooManySets n) ≡ verdict_as (may_begin e t at)
     unfolding may_begin
     begins_many n z l = rw (← q, x, le-ltb e.sets max_sets l, z)
 
-    pub begins_high : e.sets < max_sets → max_term + 1 ≤ t → Refused (TermTooHigh t) ≡ verdict_as (may_begin e t at)
+    pub begins_high : e.sets < max_sets → max_term + 1 ≤ t → Err (TermTooHigh t) ≡ verdict_as (may_begin e t at)
     unfolding may_begin
     begins_high l h = rw (← q, x, lt-ltb e.sets max_sets l, lt-leb t max_term (omega arith))
 
-    pub begins_fine : e.sets < max_sets → t < max_term + 1 → Fine ≡ verdict_as (may_begin e t at)
+    pub begins_fine : e.sets < max_sets → t < max_term + 1 → (Ok tt) ≡ verdict_as (may_begin e t at)
     unfolding may_begin
     begins_fine l h = rw (← q, x, lt-ltb e.sets max_sets l, le-leb t max_term (omega arith))
 
@@ -63,10 +61,10 @@ one_edge : (t : Square) (a b : ℕ) → left t (with_edge t a b) ≡ with_edges 
 unfolding with_edges
 one_edge t a b = refl
 
-pub edge_none : (t : Square) (a : ℕ) (s : Site) (f : Found) → f ≡ found_as (term_of s) → f ≡ found.Nothing → t ≡ with_edges t (edge_from a s)
+pub edge_none : (t : Square) (a : ℕ) (s : Site) (f : Maybe ℕ) → f ≡ found_as (term_of s) → f ≡ None → t ≡ with_edges t (edge_from a s)
 edge_none t a s f e q = let n = found_none (term_of s) (sym e ∙ q) in rw n (no_edge t)
 
-pub edge_some : (t u : Square) (a b : ℕ) (s : Site) (f : Found) → f ≡ found_as (term_of s) → f ≡ found.At b → u ≡ left t (with_edge t a b) → u ≡ with_edges t (edge_from a s)
+pub edge_some : (t u : Square) (a b : ℕ) (s : Site) (f : Maybe ℕ) → f ≡ found_as (term_of s) → f ≡ Some b → u ≡ left t (with_edge t a b) → u ≡ with_edges t (edge_from a s)
 edge_some t u a b s f e q w = let n = found_some (term_of s) b (sym e ∙ q) in rw n (w ∙ one_edge t a b)
 
 edges_snoc : (a : ℕ) (ss : Sites) (s : Site) → edges_from a (ss ++ (s ∷ [])) ≡ edges_from a ss ++ edge_from a s
@@ -136,7 +134,7 @@ pub written_length : (m : List ℕ) (at : ℕ) (s : List ℕ) → at + length s 
 unfolding written_at put
 written_length m at s h = length_put m at s h
 
-pub said_to : (m : List ℕ) (at : ℕ) (s : List ℕ) (w : Room) → w ≡ room_said m at s → at + length s ≤ length m → w ≡ To (at + length s)
+pub said_to : (m : List ℕ) (at : ℕ) (s : List ℕ) (w : Maybe ℕ) → w ≡ room_said m at s → at + length s ≤ length m → w ≡ Some (at + length s)
 unfolding room_said
 said_to m at s w e h = e ∙ rw (le-leb (at + length s) (length m) h)
 
@@ -164,7 +162,7 @@ pub listing_none : (ts m : List ℕ) (at : ℕ) → Listing ts m at 0 at m
 unfolding terms_text joined
 listing_none ts m at = record { ends = omega arith; into = sym (written_none m at); long = refl }
 
-pub listing_turn : (ts m : List ℕ) (at k e : ℕ) (out out' : List ℕ) (w : Room) (e' : ℕ) → Listing ts m at k e out → k < length ts → at + 7 * (k + 1) ≤ length m → w ≡ room_said out e (hex (term_found (get_or ts k 0))) → out' ≡ room_after out e (hex (term_found (get_or ts k 0))) → e' ≡ to_or w e → Listing ts m at (k + 1) e' out'
+pub listing_turn : (ts m : List ℕ) (at k e : ℕ) (out out' : List ℕ) (w : Maybe ℕ) (e' : ℕ) → Listing ts m at k e out → k < length ts → at + 7 * (k + 1) ≤ length m → w ≡ room_said out e (hex (term_found (get_or ts k 0))) → out' ≡ room_after out e (hex (term_found (get_or ts k 0))) → e' ≡ to_or w e → Listing ts m at (k + 1) e' out'
 listing_turn ts m at k e out out' w e' L l h r o t =
     let x = hex (term_found (get_or ts k 0)) in
     let n = length_term (get_or ts k 0) in
@@ -173,7 +171,7 @@ listing_turn ts m at k e out out' w e' L l h r o t =
     let u = terms_text (take k ts) in
     let lt = length-take-le k ts (omega arith) in
     let lu : length u ≡ 7 * k = length_terms (take k ts) ∙ ap (λ i. 7 * i) lt in
-    let s : w ≡ To (e + length x) = said_to out e x w r (omega arith) in
+    let s : w ≡ Some (e + length x) = said_to out e x w r (omega arith) in
     let v : out' ≡ written_at out e x = after_is out out' e x o (omega arith) in
     let z : e' ≡ e + length x = t ∙ ap (λ q. to_or q e) s in
     let y : e ≡ at + length u = omega arith in
@@ -216,11 +214,11 @@ unfolding ended_found two
 end_long sets kept = length_hex _
 
 module _ (t : Square) (e : EndedSets) (room : List ℕ) (at : ℕ) where
-  pub no_room : length room < at + end_room → (Short ≡ said_at room at (found_text t e)) × (room ≡ written_after room at (found_text t e))
+  pub no_room : length room < at + end_room → (None ≡ said_at room at (found_text t e)) × (room ≡ written_after room at (found_text t e))
   unfolding said_at written_after
   no_room h = (rw (lt-leb (at + end_room) (length room) h), rw (lt-leb (at + end_room) (length room) h))
 
-  pub all_found : (l : Listed) (mid out : List ℕ) (end : ℕ) (w : Room) → at + end_room ≤ length room → l ≡ listed (unflagged t e.recs) → end ≡ at + 7 * l.count → mid ≡ written_at room at (terms_text (take l.count l.terms)) → w ≡ room_said mid end (hex (ended_found e.sets e.kept)) → out ≡ room_after mid end (hex (ended_found e.sets e.kept)) → (w ≡ said_at room at (found_text t e)) × (out ≡ written_after room at (found_text t e))
+  pub all_found : (l : Listed) (mid out : List ℕ) (end : ℕ) (w : Maybe ℕ) → at + end_room ≤ length room → l ≡ listed (unflagged t e.recs) → end ≡ at + 7 * l.count → mid ≡ written_at room at (terms_text (take l.count l.terms)) → w ≡ room_said mid end (hex (ended_found e.sets e.kept)) → out ≡ room_after mid end (hex (ended_found e.sets e.kept)) → (w ≡ said_at room at (found_text t e)) × (out ≡ written_after room at (found_text t e))
   unfolding said_at written_after found_text
   all_found l mid out end w h q z i r o =
       let xs = unflagged t e.recs in
@@ -233,10 +231,10 @@ module _ (t : Square) (e : EndedSets) (room : List ℕ) (at : ℕ) where
       let m : mid ≡ written_at room at u = i ∙ ap (λ ts. written_at room at (terms_text ts)) (listed_terms l xs q) in
       let lm : length mid ≡ length room = ap length m ∙ written_length room at u (omega arith) in
       let y : end ≡ at + length u = omega arith in
-      let s : w ≡ To (end + length x) = said_to mid end x w r (omega arith) in
+      let s : w ≡ Some (end + length x) = said_to mid end x w r (omega arith) in
       let v : out ≡ written_at mid end x = after_is mid out end x o (omega arith) in
       let n : end + length x ≡ at + length (u ++ x) = rw (length-append u x) (omega arith) in
-      (rw (le-leb (at + end_room) (length room) h) (s ∙ ap To n), rw (le-leb (at + end_room) (length room) h) (v ∙ (rw (m, y) (written_then room at u x (omega arith)))))
+      (rw (le-leb (at + end_room) (length room) h) (s ∙ ap Some n), rw (le-leb (at + end_room) (length room) h) (v ∙ (rw (m, y) (written_then room at u x (omega arith)))))
 
 pub listing_done : (ts m : List ℕ) (at k n e : ℕ) (out : List ℕ) → k ≤ n → n ≤ k → Listing ts m at k e out → (e ≡ at + 7 * n) × (out ≡ written_at m at (terms_text (take n ts)))
 listing_done ts m at k n e out l h L = let z : k ≡ n = omega arith in let a = L.ends in (omega arith, L.into ∙ rw z)

@@ -1,7 +1,8 @@
 -- The sets that were ended, as the code holds them, and what is asked of them.
+use Rattle.std.specs.declared.result.Result.TheVariants.{Err, Ok}
+use Rattle.std.specs.declared.option.Option.TheVariants.{None, Some}
 use Rattle.std.specs.Prelude.{Bool, ◌&&◌, not, List, ◌++◌, map, ℕ, suc, ◌+◌, ◌*◌, ◌/◌, length, eqb, ltb, leb}
-use Rattle.paper.specs.declared.Verdict.{Verdict}
-use Rattle.paper.specs.declared.Verdict.TheVariants.{Fine, Refused}
+use Rattle.paper.specs.Answered.{Verdict}
 use Rattle.paper.specs.declared.Refusal.TheVariants.{Repeated, TooManySets, TermTooHigh}
 use Rattle.std.specs.Prelude.{if◌then◌else◌}
 use Rattle.paper.specs.Words.{joined, Edges}
@@ -12,16 +13,15 @@ use Rattle.paper.specs.Layout.{hex}
 use Rattle.paper.specs.Sheets.{term_found}
 use Rattle.term_table.specs.Table.{Square, has_term, no_marks, with_term, left, unflagged}
 use Rattle.sheet_findings.specs.Written.{written_at, ended_found}
-use Rattle.sheet_findings.specs.declared.Room.{Room}
-use Rattle.sheet_findings.specs.declared.Room.TheVariants.{To, Short}
+use Rattle.paper.specs.Answered.{Maybe}
 use Rattle.sheet_ended.specs.declared.EndedSets.{EndedSets}
 
 unfoldable pub no_sets : EndedSets
 no_sets = record { sets = 0; kept = 0; used = no_marks; recs = no_marks }
 
 abbrev pub verdict_as : Outcome (Unit {0}) → Verdict
-verdict_as (done a) = Fine
-verdict_as (refused r) = Refused r
+verdict_as (done a) = Ok tt
+verdict_as (refused r) = Err r
 
 -- 9 for a term used before, then 27, 28
 unfoldable pub may_begin : EndedSets → ℕ → ℕ → Outcome (Unit {0})
@@ -57,9 +57,9 @@ with_set e t f rules = if fits_set e rules then one_more e t f rules else e
 unfoldable pub terms_text : List ℕ → List ℕ
 terms_text ts = joined (map (λ t. hex (term_found t)) ts)
 
-abbrev pub to_or : Room → ℕ → ℕ
-to_or (To e) at = e
-to_or Short at = at
+abbrev pub to_or : Maybe ℕ → ℕ → ℕ
+to_or (Some e) at = e
+to_or None at = at
 
 abbrev pub end_room : ℕ
 end_room = 7 * (max_term + 1) + 11
@@ -67,8 +67,8 @@ end_room = 7 * (max_term + 1) + 11
 unfoldable pub found_text : Square → EndedSets → List ℕ
 found_text t e = terms_text (unflagged t e.recs) ++ hex (ended_found e.sets e.kept)
 
-unfoldable pub said_at : List ℕ → ℕ → List ℕ → Room
-said_at room at s = if leb (at + end_room) (length room) then To (at + length s) else Short
+unfoldable pub said_at : List ℕ → ℕ → List ℕ → Maybe ℕ
+said_at room at s = if leb (at + end_room) (length room) then Some (at + length s) else None
 
 unfoldable pub written_after : List ℕ → ℕ → List ℕ → List ℕ
 written_after room at s = if leb (at + end_room) (length room) then written_at room at s else room

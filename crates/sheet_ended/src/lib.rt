@@ -8,8 +8,8 @@ ghost use Rattle.sites.specs.Slots.{site_of, sites_in};
 ghost use Rattle.sheet_findings.specs.Written.{written_at};
 ghost use Rattle.sheet_ended.specs.Sets.{no_sets, verdict_as, may_begin, edge_from, edges_from, recs_with, with_set, to_or, terms_text, end_room, found_text, said_at, written_after};
 
-use paper::{Found, RULES, Refusal, SETS, TERMS, Verdict};
-use sheet_findings::{Room, write_end, write_term};
+use paper::{RULES, Refusal, SETS, TERMS};
+use sheet_findings::{write_end, write_term};
 use term_table::{WORDS, add, flag, has_term};
 
 // The sets that were ended. It is the `Ended` of 01's definitions in few words.
@@ -38,23 +38,23 @@ pub fn no_sets() -> EndedSets
 }
 
 // "01 term, flags": 9 for a term used before, then 27, 28.
-pub fn may_begin(e: EndedSets, term: u16, line: u32) -> Verdict
+pub fn may_begin(e: EndedSets, term: u16, line: u32) -> Result<(), Refusal>
     ensures { result ≡ verdict_as (may_begin e term line) }
 {
     let used = e.used;
     if has_term(&used, term) {
-        return Verdict::Refused(Refusal::Repeated { line: line });
+        return Err(Refusal::Repeated { line: line });
     }
     let sets = e.sets;
     if SETS <= sets as usize {
-        return Verdict::Refused(Refusal::TooManySets {
+        return Err(Refusal::TooManySets {
             asked: sets as u32 + 1,
         });
     }
     if TERMS <= term as usize {
-        return Verdict::Refused(Refusal::TermTooHigh { asked: term as u32 });
+        return Err(Refusal::TermTooHigh { asked: term as u32 });
     }
-    Verdict::Fine
+    Ok(())
 }
 
 // The edge that a site of the term's set gives.
@@ -62,7 +62,7 @@ fn add_edge(t: &mut [[u64; WORDS]; TERMS], term: u16, b: &[u8])
     ensures { t.new ≡ with_edges t.old (edge_from term (site_of b.now)) }
 {
     let named = site_body::term(b);
-    let Found::At(to) = named else {
+    let Some(to) = named else {
         return;
     };
     add(t, term, to);
@@ -118,12 +118,12 @@ pub fn with_set(e: EndedSets, term: u16, flags: u8, rules: u32) -> EndedSets
 }
 
 // The end of what was written; where the room was short, the start.
-pub fn to_or(w: Room, at: usize) -> usize
+pub fn to_or(w: Option<usize>, at: usize) -> usize
     ensures { result ≡ to_or w at }
 {
     match w {
-        Room::To(e) => e,
-        Room::Short => at,
+        Some(e) => e,
+        None => at,
     }
 }
 
@@ -143,15 +143,15 @@ fn write_terms(terms: &[u16], n: usize, room: &mut [u8], at: usize) -> usize
 }
 
 // "at the end the 14s ascending, then 15", from `at` on; less room than END_ROOM is left as it was.
-pub fn write_found(t: &[[u64; WORDS]; TERMS], e: EndedSets, room: &mut [u8], at: usize) -> Room
+pub fn write_found(t: &[[u64; WORDS]; TERMS], e: EndedSets, room: &mut [u8], at: usize) -> Option<usize>
     ensures value { result ≡ said_at room.old at (found_text t.now e) }
     ensures room_after { room.new ≡ written_after room.old at (found_text t.now e) }
 {
     if room.len() < END_ROOM {
-        return Room::Short;
+        return None;
     }
     if room.len() - END_ROOM < at {
-        return Room::Short;
+        return None;
     }
     let recs = e.recs;
     let list = term_table::findings(t, &recs);

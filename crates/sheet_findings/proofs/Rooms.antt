@@ -8,13 +8,13 @@ use lib.ListN.{length, get_or, take, drop, set, length-append}
 use lib.Seq.{sets, paste, paste-zero, paste-suc, take_at, get_or_at}
 use lib.Dec.{leb}
 use borrow.Author.Tests.{le-leb, lt-leb}
+use Rattle.std.specs.declared.option.Option.TheVariants.{None, Some}
 use Rattle.paper.specs.declared.Refusal.{Refusal}
 use Rattle.paper.specs.Numbers.{number}
 use Rattle.paper.specs.Layout.{digit_of, hex}
 use Rattle.paper.specs.Sheets.{refusal_found, stop_found}
 use Rattle.sheet_digits.proofs.DigitLaws.{hex_digits, length_digits}
-use Rattle.sheet_findings.specs.declared.Room.{Room}
-use Rattle.sheet_findings.specs.declared.Room.TheVariants.{To, Short}
+use Rattle.paper.specs.Answered.{Maybe}
 use Rattle.sheet_findings.specs.Written.{written_at, room_said, room_after, digits_of, five_found}
 
 -- ---- digits
@@ -78,14 +78,14 @@ ended m at b h =
     rw (e, w, ← g) (s ∙ pasted m at (hex b) (suc (length d)) (omega arith))
 
 -- ---- what the needs ask
-pub short_room : (m : List ℕ) (at : ℕ) (b : List ℕ) → length m < at + (2 * length b + 1) → (Short ≡ room_said m at (hex b)) × (m ≡ room_after m at (hex b))
+pub short_room : (m : List ℕ) (at : ℕ) (b : List ℕ) → length m < at + (2 * length b + 1) → (None ≡ room_said m at (hex b)) × (m ≡ room_after m at (hex b))
 unfolding room_said room_after
 short_room m at b h =
     let n = length_hex b in
     let f : leb (at + length (hex b)) (length m) ≡ false = lt-leb (at + length (hex b)) (length m) (omega arith) in
     (rw f, rw f)
 
-pub long_room : (m : List ℕ) (at : ℕ) (b out : List ℕ) → at + (2 * length b + 1) ≤ length m → out ≡ written_at m at (digits_of b) → (To (at + 2 * length b + 1) ≡ room_said m at (hex b)) × (set out (at + 2 * length b) 10 ≡ room_after m at (hex b))
+pub long_room : (m : List ℕ) (at : ℕ) (b out : List ℕ) → at + (2 * length b + 1) ≤ length m → out ≡ written_at m at (digits_of b) → (Some (at + 2 * length b + 1) ≡ room_said m at (hex b)) × (set out (at + 2 * length b) 10 ≡ room_after m at (hex b))
 unfolding room_said room_after
 long_room m at b out h e =
     let n = length_hex b in
@@ -94,7 +94,7 @@ long_room m at b out h e =
     (rw (f, i), rw (f, e) (ended m at b h))
 
 -- the same bytes, the same line
-pub same_line : (w : Room) (out m : List ℕ) (at : ℕ) (s t : List ℕ) → s ≡ t → (w ≡ room_said m at (hex s)) × (out ≡ room_after m at (hex s)) → (w ≡ room_said m at (hex t)) × (out ≡ room_after m at (hex t))
+pub same_line : (w : Maybe ℕ) (out m : List ℕ) (at : ℕ) (s t : List ℕ) → s ≡ t → (w ≡ room_said m at (hex s)) × (out ≡ room_after m at (hex s)) → (w ≡ room_said m at (hex t)) × (out ≡ room_after m at (hex t))
 same_line w out m at s t e p = rw e at p
 
 pub refusal_is : (place n : ℕ) (r : Refusal) → n ≡ number r → five_found 17 place n ≡ refusal_found place r

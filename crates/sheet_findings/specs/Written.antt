@@ -1,20 +1,20 @@
 -- Lines in lent memory.
+use Rattle.std.specs.declared.option.Option.TheVariants.{None, Some}
 use Rattle.std.specs.Prelude.{◌≡◌, refl, List, [], ◌∷◌, ◌++◌, ℕ, ◌+◌, length, take, drop, leb}
 use Rattle.std.specs.Prelude.{if◌then◌else◌}
 use Rattle.paper.specs.Words.{two, four}
 use Rattle.paper.specs.Sheets.{Ended, end_found}
 -- a line without its LF
 unfoldable pub use Rattle.sheet_digits.specs.Digits.{digits_of}
-use Rattle.sheet_findings.specs.declared.Room.{Room}
-use Rattle.sheet_findings.specs.declared.Room.TheVariants.{To, Short}
+use Rattle.paper.specs.Answered.{Maybe}
 
 -- memory with s from `at` on
 unfoldable pub written_at : List ℕ → ℕ → List ℕ → List ℕ
 written_at m at s = take at m ++ s ++ drop (at + length s) m
 
 -- the answer, and the memory: a room that is too short is left as it was
-unfoldable pub room_said : List ℕ → ℕ → List ℕ → Room
-room_said m at s = if leb (at + length s) (length m) then To (at + length s) else Short
+unfoldable pub room_said : List ℕ → ℕ → List ℕ → Maybe ℕ
+room_said m at s = if leb (at + length s) (length m) then Some (at + length s) else None
 
 unfoldable pub room_after : List ℕ → ℕ → List ℕ → List ℕ
 room_after m at s = if leb (at + length s) (length m) then written_at m at s else m

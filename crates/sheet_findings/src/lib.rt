@@ -10,13 +10,6 @@ ghost use Rattle.sheet_findings.specs.Written.{written_at, room_said, room_after
 use paper::Refusal;
 use sheet_digits::write_byte;
 
-// Written up to here; or the room was too short, and nothing was written.
-#[derive(Clone, Copy)]
-pub enum Room {
-    To(usize),
-    Short,
-}
-
 // The digits of b into `out` from `at` on.
 fn write_digits(b: &[u8], out: &mut [u8], at: usize)
     requires { at + 2 * length b.now ≤ length out.old }
@@ -30,24 +23,24 @@ fn write_digits(b: &[u8], out: &mut [u8], at: usize)
 }
 
 // The bytes of a finding as a line, from `at` on.
-pub fn write_line(b: &[u8], out: &mut [u8], at: usize) -> Room
+pub fn write_line(b: &[u8], out: &mut [u8], at: usize) -> Option<usize>
     ensures { let line = hex b.now in
         (result ≡ room_said out.old at line) × (out.new ≡ room_after out.old at line) }
 {
     if out.len() < at {
-        return Room::Short;
+        return None;
     }
     let left = out.len() - at;
     if left / 2 < b.len() {
-        return Room::Short;
+        return None;
     }
     if left - 2 * b.len() < 1 {
-        return Room::Short;
+        return None;
     }
     write_digits(b, out, at);
     let e = at + 2 * b.len();
     out[e] = 10;
-    Room::To(e + 1)
+    Some(e + 1)
 }
 
 // The number of a refusal.
@@ -77,7 +70,7 @@ pub fn number_of(r: Refusal) -> u8
 }
 
 // A kind of finding, four bytes and a number.
-fn write_five(kind: u8, n: u32, number: u8, out: &mut [u8], at: usize) -> Room
+fn write_five(kind: u8, n: u32, number: u8, out: &mut [u8], at: usize) -> Option<usize>
     ensures { let line = hex (five_found kind n number) in
         (result ≡ room_said out.old at line) × (out.new ≡ room_after out.old at line) }
 {
@@ -93,7 +86,7 @@ fn write_five(kind: u8, n: u32, number: u8, out: &mut [u8], at: usize) -> Room
 }
 
 // "11 place, number (1)"
-pub fn write_refusal(place: u32, r: Refusal, out: &mut [u8], at: usize) -> Room
+pub fn write_refusal(place: u32, r: Refusal, out: &mut [u8], at: usize) -> Option<usize>
     ensures { let line = hex (refusal_found place r) in
         (result ≡ room_said out.old at line) × (out.new ≡ room_after out.old at line) }
 {
@@ -101,7 +94,7 @@ pub fn write_refusal(place: u32, r: Refusal, out: &mut [u8], at: usize) -> Room
 }
 
 // "14 term"
-pub fn write_term(t: u16, out: &mut [u8], at: usize) -> Room
+pub fn write_term(t: u16, out: &mut [u8], at: usize) -> Option<usize>
     ensures { let line = hex (term_found t) in
         (result ≡ room_said out.old at line) × (out.new ≡ room_after out.old at line) }
 {
@@ -110,7 +103,7 @@ pub fn write_term(t: u16, out: &mut [u8], at: usize) -> Room
 }
 
 // "15 sets (2), kept rules (2)"
-pub fn write_end(sets: u16, kept: u16, out: &mut [u8], at: usize) -> Room
+pub fn write_end(sets: u16, kept: u16, out: &mut [u8], at: usize) -> Option<usize>
     ensures { let line = hex (ended_found sets kept) in
         (result ≡ room_said out.old at line) × (out.new ≡ room_after out.old at line) }
 {
@@ -125,7 +118,7 @@ pub fn write_end(sets: u16, kept: u16, out: &mut [u8], at: usize) -> Room
 }
 
 // "a last frame 1F line (4, from 1), number"
-pub fn write_stop(line: u32, r: Refusal, out: &mut [u8], at: usize) -> Room
+pub fn write_stop(line: u32, r: Refusal, out: &mut [u8], at: usize) -> Option<usize>
     ensures { let line = hex (stop_found line r) in
         (result ≡ room_said out.old at line) × (out.new ≡ room_after out.old at line) }
 {

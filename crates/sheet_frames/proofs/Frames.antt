@@ -8,6 +8,7 @@ use native.Mathlib.Omega.{arith}
 use lib.ListN.{length, get_or, take, drop}
 use lib.Dec.{eqb, ltb}
 use borrow.Author.Tests.{lt-ltb, le-ltb}
+use Rattle.std.specs.declared.option.Option.TheVariants as option
 use Rattle.paper.specs.declared.Constraint.{Constraint}
 use Rattle.paper.specs.declared.Constraint.TheVariants.{Variant, Struct, ConstBool, ConstInt, ConstPrim, Some}
 use Rattle.paper.specs.declared.Item.TheVariants.{Is, Equal}
@@ -17,8 +18,7 @@ use Rattle.paper.specs.Layout.{Reads, then_read, give, ◌&◌, refuse, byte, nu
 use Rattle.paper.proofs.Lists.{rest_of}
 use Rattle.sheet_frames.specs.declared.Frame.{Frame}
 use Rattle.sheet_frames.specs.declared.Frame.TheVariants as said
-use Rattle.sheet_frames.specs.declared.layout.Shape.{Shape}
-use Rattle.sheet_frames.specs.declared.layout.Shape.TheVariants.{Are, NoShape}
+use Rattle.paper.specs.Answered.{Maybe}
 use Rattle.sheet_frames.specs.Said.{code, shape_code, number_at, shape_in, frame_in}
 use Rattle.site_body.specs.Body.{is_there, is_body}
 
@@ -137,7 +137,7 @@ sizes_fit =
     let eight = t_number 8 in
     (t_give Variant ⊕ two ⊕ two ⊕ t_byte, (t_give Struct ⊕ two ⊕ t_byte, (t_give ConstBool ⊕ two ⊕ t_bool, (t_give ConstInt ⊕ two ⊕ eight ⊕ eight, (t_give ConstPrim ⊕ two, (t_give Some, tt))))))
 
-code_wrong : {k : ℕ} {r : Reads Constraint} → Takes k r → (s : List ℕ) → (length s ≡ k → ⊥) → shape_code (whole (r s)) ≡ NoShape
+code_wrong : {k : ℕ} {r : Reads Constraint} → Takes k r → (s : List ℕ) → (length s ≡ k → ⊥) → shape_code (whole (r s)) ≡ option.None
 unfolding shape_code
 code_wrong t s n = rw (wrong t s n)
 
@@ -150,7 +150,7 @@ size_least (suc (suc (suc (suc zero)))) h = omega arith
 size_least (suc (suc (suc (suc (suc zero))))) h = omega arith
 size_least (suc (suc (suc (suc (suc (suc k)))))) h = absurd (omega arith)
 
-pub shape_wrong : (s : List ℕ) → 0 < length s → get_or s 0 0 < 6 → (length s ≡ get_or sizes (get_or s 0 0) 0 → ⊥) → shape_in s ≡ NoShape
+pub shape_wrong : (s : List ℕ) → 0 < length s → get_or s 0 0 < 6 → (length s ≡ get_or sizes (get_or s 0 0) 0 → ⊥) → shape_in s ≡ option.None
 unfolding shape_in constraint_read constraint_readers
 shape_wrong [] h l n = absurd (omega arith)
 shape_wrong (k ∷ s) h l n =
@@ -158,7 +158,7 @@ shape_wrong (k ∷ s) h l n =
     let m : length s ≡ get_or sizes k 0 - 1 → ⊥ = λ e. n (omega arith) in
     code_wrong (sizes_at sizes constraint_readers sizes_fit k l l) s m
 
-pub shape_none : (s : List ℕ) → length s ≡ 0 → shape_in s ≡ NoShape
+pub shape_none : (s : List ℕ) → length s ≡ 0 → shape_in s ≡ option.None
 unfolding shape_in constraint_read shape_code
 shape_none [] l = refl
 shape_none (b ∷ s) l = absurd (omega arith)
@@ -173,37 +173,37 @@ past (suc (suc (suc zero))) h = absurd (omega arith)
 past (suc (suc (suc (suc zero)))) h = absurd (omega arith)
 past (suc (suc (suc (suc (suc zero))))) h = absurd (omega arith)
 
-pub shape_past : (s : List ℕ) → 6 ≤ get_or s 0 0 → shape_in s ≡ NoShape
+pub shape_past : (s : List ℕ) → 6 ≤ get_or s 0 0 → shape_in s ≡ option.None
 unfolding shape_in constraint_read shape_code
 shape_past [] h = refl
 shape_past (k ∷ s) h = rw (past k h)
 
 module _ (s : List ℕ) where
-  pub shape_variant : length s ≡ 6 → get_or s 0 0 ≡ 0 → shape_in s ≡ Are (Variant (number_at s 0 2 1) (number_at s 0 2 3) (get_or s 5 0))
+  pub shape_variant : length s ≡ 6 → get_or s 0 0 ≡ 0 → shape_in s ≡ option.Some (Variant (number_at s 0 2 1) (number_at s 0 2 3) (get_or s 5 0))
   unfolding shape_in constraint_read constraint_readers shape_code number_at number_from
   shape_variant l k = ap shape_in (spell 6 s l) ∙ rw k
 
-  pub shape_struct : length s ≡ 4 → get_or s 0 0 ≡ 1 → shape_in s ≡ Are (Struct (number_at s 0 2 1) (get_or s 3 0))
+  pub shape_struct : length s ≡ 4 → get_or s 0 0 ≡ 1 → shape_in s ≡ option.Some (Struct (number_at s 0 2 1) (get_or s 3 0))
   unfolding shape_in constraint_read constraint_readers shape_code number_at number_from
   shape_struct l k = ap shape_in (spell 4 s l) ∙ rw k
 
-  pub shape_bool : length s ≡ 4 → get_or s 0 0 ≡ 2 → get_or s 3 0 < 2 → shape_in s ≡ Are (ConstBool (number_at s 0 2 1) (eqb (get_or s 3 0) 1))
+  pub shape_bool : length s ≡ 4 → get_or s 0 0 ≡ 2 → get_or s 3 0 < 2 → shape_in s ≡ option.Some (ConstBool (number_at s 0 2 1) (eqb (get_or s 3 0) 1))
   unfolding shape_in constraint_read constraint_readers shape_code number_at number_from bool_byte
   shape_bool l k b = ap shape_in (spell 4 s l) ∙ rw (k, lt-ltb (get_or s 3 0) 2 b)
 
-  pub shape_no_bool : length s ≡ 4 → get_or s 0 0 ≡ 2 → 2 ≤ get_or s 3 0 → shape_in s ≡ NoShape
+  pub shape_no_bool : length s ≡ 4 → get_or s 0 0 ≡ 2 → 2 ≤ get_or s 3 0 → shape_in s ≡ option.None
   unfolding shape_in constraint_read constraint_readers shape_code number_from bool_byte
   shape_no_bool l k b = ap shape_in (spell 4 s l) ∙ rw (k, le-ltb (get_or s 3 0) 2 b)
 
-  pub shape_int : length s ≡ 19 → get_or s 0 0 ≡ 3 → shape_in s ≡ Are (ConstInt (number_at s 0 2 1) (number_at s 0 8 3) (number_at s 0 8 11))
+  pub shape_int : length s ≡ 19 → get_or s 0 0 ≡ 3 → shape_in s ≡ option.Some (ConstInt (number_at s 0 2 1) (number_at s 0 8 3) (number_at s 0 8 11))
   unfolding shape_in constraint_read constraint_readers shape_code number_at number_from
   shape_int l k = ap shape_in (spell 19 s l) ∙ rw k
 
-  pub shape_prim : length s ≡ 3 → get_or s 0 0 ≡ 4 → shape_in s ≡ Are (ConstPrim (number_at s 0 2 1))
+  pub shape_prim : length s ≡ 3 → get_or s 0 0 ≡ 4 → shape_in s ≡ option.Some (ConstPrim (number_at s 0 2 1))
   unfolding shape_in constraint_read constraint_readers shape_code number_at number_from
   shape_prim l k = ap shape_in (spell 3 s l) ∙ rw k
 
-  pub shape_some : length s ≡ 1 → get_or s 0 0 ≡ 5 → shape_in s ≡ Are Some
+  pub shape_some : length s ≡ 1 → get_or s 0 0 ≡ 5 → shape_in s ≡ option.Some Some
   unfolding shape_in constraint_read constraint_readers shape_code
   shape_some l k = ap shape_in (spell 1 s l) ∙ rw k
 
@@ -265,13 +265,13 @@ unfolding frame_in frame_read frame_readers is_body
 frame_site [] t h k e = absurd (omega arith)
 frame_site (b ∷ s) t h k e = rw (k, e) (there_frame (site_read s))
 
-shape_frame : (x : ℕ) (o : Option (Constraint × List ℕ)) → code (whole (then_read (λ a. give (an_item (Is x a))) o)) ≡ elim (shape_code (whole o)) [ Are c ↦ said.Item (Is x c) | NoShape ↦ said.Wrong ]
+shape_frame : (x : ℕ) (o : Option (Constraint × List ℕ)) → code (whole (then_read (λ a. give (an_item (Is x a))) o)) ≡ elim (shape_code (whole o)) [ option.Some c ↦ said.Item (Is x c) | option.None ↦ said.Wrong ]
 unfolding shape_code code
 shape_frame x none = refl
 shape_frame x (some (a, [])) = refl
 shape_frame x (some (a, b ∷ t)) = refl
 
-pub frame_is : (s : List ℕ) (r : Shape) → 3 ≤ length s → get_or s 0 0 ≡ 4 → r ≡ shape_in (drop 3 s) → frame_in s ≡ elim r [ Are c ↦ said.Item (Is (number_at s 0 2 1) c) | NoShape ↦ said.Wrong ]
+pub frame_is : (s : List ℕ) (r : Maybe Constraint) → 3 ≤ length s → get_or s 0 0 ≡ 4 → r ≡ shape_in (drop 3 s) → frame_in s ≡ elim r [ option.Some c ↦ said.Item (Is (number_at s 0 2 1) c) | option.None ↦ said.Wrong ]
 unfolding frame_in frame_read frame_readers shape_in number_at number_from
 frame_is [] r h k e = absurd (omega arith)
 frame_is (a ∷ []) r h k e = absurd (omega arith)
@@ -313,7 +313,7 @@ equal_said s a b l k p q = rw (p, q) (sym (frame_equal s l k))
 pub kind_at : (s : List ℕ) (k z i : ℕ) → k ≡ get_or s 0 0 → z ≡ get_or sizes k 0 → length s ≡ z → k ≡ i → (length s ≡ get_or sizes i 0) × (get_or s 0 0 ≡ i)
 kind_at s k z i p q r e = ((r ∙ q) ∙ ap (λ n. get_or sizes n 0) e, sym p ∙ e)
 
-pub shape_size : (s : List ℕ) (k z : ℕ) → (length s ≡ 0 → ⊥) → k ≡ get_or s 0 0 → k < 6 → z ≡ get_or sizes k 0 → (length s ≡ z → ⊥) → NoShape ≡ shape_in s
+pub shape_size : (s : List ℕ) (k z : ℕ) → (length s ≡ 0 → ⊥) → k ≡ get_or s 0 0 → k < 6 → z ≡ get_or sizes k 0 → (length s ≡ z → ⊥) → option.None ≡ shape_in s
 shape_size s k z h p l q n = sym (shape_wrong s (omega (arith, h)) (omega arith) (λ e. n (e ∙ (ap (λ i. get_or sizes i 0) (sym p) ∙ sym q))))
 
 take_all : (t : List ℕ) (m : ℕ) → length t ≤ m → take m t ≡ t
@@ -327,5 +327,5 @@ take_all (x ∷ t) (suc m) h = ap (λ u. x ∷ u) (take_all t m (omega arith))
 pub site_body_is : (s : List ℕ) (r t : Bool) → 0 < length s → get_or s 0 0 ≡ 2 → r ≡ is_body (take (length s - 1) (drop 1 s)) → r ≡ t → frame_in s ≡ elim t as (λ _. Frame) [ true ↦ said.Site | false ↦ said.Wrong ]
 site_body_is s r t h k f e = frame_site s t h k (sym e ∙ (f ∙ ap is_body (rest_of s 1)))
 
-pub item_is : (s : List ℕ) (r t : Shape) → 3 ≤ length s → get_or s 0 0 ≡ 4 → r ≡ shape_in (take (length s - 3) (drop 3 s)) → r ≡ t → frame_in s ≡ elim t [ Are c ↦ said.Item (Is (number_at s 0 2 1) c) | NoShape ↦ said.Wrong ]
+pub item_is : (s : List ℕ) (r t : Maybe Constraint) → 3 ≤ length s → get_or s 0 0 ≡ 4 → r ≡ shape_in (take (length s - 3) (drop 3 s)) → r ≡ t → frame_in s ≡ elim t [ option.Some c ↦ said.Item (Is (number_at s 0 2 1) c) | option.None ↦ said.Wrong ]
 item_is s r t h k f e = frame_is s t h k (sym e ∙ (f ∙ ap shape_in (rest_of s 3)))

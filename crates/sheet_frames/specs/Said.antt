@@ -1,4 +1,5 @@
 -- What the code says of a line: the paper's bytes and the paper's frame.
+use Rattle.std.specs.declared.option.Option.TheVariants.{None, Some}
 use Rattle.std.specs.Prelude.{◌≡◌, true, false, ◌&&◌, List, [], ◌∷◌, ◌++◌, ℕ, zero, suc, ◌+◌, ◌-◌, ◌*◌, ◌/◌, ◌≤◌, length, get_or, replicate, ltb}
 use Rattle.std.proofs.Math.Option.{Option, none, some}
 use Rattle.paper.specs.declared.Constraint.{Constraint}
@@ -12,8 +13,7 @@ use Rattle.sheet_frames.specs.declared.digits.Taken.{Taken}
 use Rattle.sheet_frames.specs.declared.Read.{Read}
 use Rattle.sheet_frames.specs.declared.Frame.{Frame}
 use Rattle.sheet_frames.specs.declared.Frame.TheVariants as said
-use Rattle.sheet_frames.specs.declared.layout.Shape.{Shape}
-use Rattle.sheet_frames.specs.declared.layout.Shape.TheVariants.{Are, NoShape}
+use Rattle.paper.specs.Answered.{Maybe}
 
 -- the values of the bytes from 48 to 70 as digits
 abbrev pub values_said : List ℕ
@@ -58,11 +58,11 @@ reading_of l =
 
 -- ---- bytes: a constraint, a frame
 
-unfoldable pub shape_code : Option Constraint → Shape
-shape_code none = NoShape
-shape_code (some c) = Are c
+unfoldable pub shape_code : Option Constraint → Maybe Constraint
+shape_code none = None
+shape_code (some c) = Some c
 
-unfoldable pub shape_in : List ℕ → Shape
+unfoldable pub shape_in : List ℕ → Maybe Constraint
 shape_in s = shape_code (whole (constraint_read s))
 
 unfoldable pub frame_in : List ℕ → Frame

@@ -7,13 +7,6 @@ use paper::{Constraint, Item};
 use site_body::{is_body, word_at};
 use widths::size8;
 
-// A constraint that bytes are, or none.
-#[derive(Clone, Copy)]
-pub enum Shape {
-    Are(Constraint),
-    NoShape,
-}
-
 // The size of a constraint by kind.
 const SHAPES: [u8; 6] = [6, 4, 4, 19, 3, 1];
 
@@ -44,26 +37,26 @@ fn eight_at(s: &[u8], at: usize) -> u64
 }
 
 // "Bool one byte 0 or 1"
-fn bool_of(s: &[u8]) -> Shape
+fn bool_of(s: &[u8]) -> Option<Constraint>
     requires { (length s.now ≡ 4) × (get_or s.now 0 0 ≡ 2) }
     ensures { result ≡ shape_in s.now }
 {
     let b = s[3];
     if 2 <= b {
-        return Shape::NoShape;
+        return None;
     }
-    Shape::Are(Constraint::ConstBool {
+    Some(Constraint::ConstBool {
         ty: two_at(s, 1),
         val: b == 1,
     })
 }
 
 // "integer 16 bytes", in two words
-fn int_of(s: &[u8]) -> Shape
+fn int_of(s: &[u8]) -> Option<Constraint>
     requires { (length s.now ≡ 19) × (get_or s.now 0 0 ≡ 3) }
     ensures { result ≡ shape_in s.now }
 {
-    Shape::Are(Constraint::ConstInt {
+    Some(Constraint::ConstInt {
         ty: two_at(s, 1),
         high: eight_at(s, 3),
         low: eight_at(s, 11),
@@ -71,29 +64,29 @@ fn int_of(s: &[u8]) -> Shape
 }
 
 // The constraint that s is, "kind, body".
-pub fn shape_of(s: &[u8]) -> Shape
+pub fn shape_of(s: &[u8]) -> Option<Constraint>
     ensures { result ≡ shape_in s.now }
 {
     if s.len() == 0 {
-        return Shape::NoShape;
+        return None;
     }
     let k = size8(s[0]);
     if 6 <= k {
-        return Shape::NoShape;
+        return None;
     }
     let z = size8(SHAPES[k]);
     if s.len() != z {
-        return Shape::NoShape;
+        return None;
     }
     if k == 0 {
-        return Shape::Are(Constraint::Variant {
+        return Some(Constraint::Variant {
             ty: two_at(s, 1),
             variant: two_at(s, 3),
             fields: s[5],
         });
     }
     if k == 1 {
-        return Shape::Are(Constraint::Struct {
+        return Some(Constraint::Struct {
             ty: two_at(s, 1),
             fields: s[3],
         });
@@ -105,9 +98,9 @@ pub fn shape_of(s: &[u8]) -> Shape
         return int_of(s);
     }
     if k == 4 {
-        return Shape::Are(Constraint::ConstPrim { val: two_at(s, 1) });
+        return Some(Constraint::ConstPrim { val: two_at(s, 1) });
     }
-    Shape::Are(Constraint::Some)
+    Some(Constraint::Some)
 }
 
 // "01 term, flags (1 multi, 2 rec, 3 both)"
@@ -163,7 +156,7 @@ fn is_of(s: &[u8]) -> Frame
         return Frame::Wrong;
     }
     let x = two_at(s, 1);
-    let Shape::Are(c) = shape_of(&s[3..]) else {
+    let Some(c) = shape_of(&s[3..]) else {
         return Frame::Wrong;
     };
     Frame::Item(Item::Is {

@@ -8,23 +8,23 @@ use lib.ListN.{length, get_or, take, drop, set, length-map}
 use lib.Seq.{drop-cons}
 use lib.Dec.{eqb}
 use borrow.Author.Tests.{eq-eqb, ne_eqb, le-leb, lt-leb}
-use Rattle.sheet_lines.specs.declared.Ends.{Ends}
-use Rattle.sheet_lines.specs.declared.Ends.TheVariants.{At, Open}
+use Rattle.std.specs.declared.option.Option.TheVariants.{None, Some}
+use Rattle.paper.specs.Answered.{Maybe}
 use Rattle.sheet_lines.specs.declared.Held.{Held}
 use Rattle.sheet_lines.specs.Fed.{max_held, line_feed}
 use Rattle.sheet_lines.specs.Ends.{line_end}
 use Rattle.sheet_lines.specs.Cut.{drop_all}
 use Rattle.sheet_lines.specs.Held.{Holds, held_in, stored, held_more, more_holds}
 
-pub ends_here : (s : List ℕ) (i : ℕ) (e : Ends) → i < length s → get_or s i 0 ≡ line_feed → line_end i (drop i s) ≡ e → At i ≡ e
+pub ends_here : (s : List ℕ) (i : ℕ) (e : Maybe ℕ) → i < length s → get_or s i 0 ≡ line_feed → line_end i (drop i s) ≡ e → Some i ≡ e
 unfolding line_end
 ends_here s i e h q p = sym (rw (drop-cons s i 0 h) (rw (eq-eqb (get_or s i 0) line_feed q, line_end))) ∙ p
 
-pub goes_on : (s : List ℕ) (i : ℕ) (e : Ends) → i < length s → (get_or s i 0 ≡ line_feed → ⊥) → line_end i (drop i s) ≡ e → line_end (i + 1) (drop (i + 1) s) ≡ e
+pub goes_on : (s : List ℕ) (i : ℕ) (e : Maybe ℕ) → i < length s → (get_or s i 0 ≡ line_feed → ⊥) → line_end i (drop i s) ≡ e → line_end (i + 1) (drop (i + 1) s) ≡ e
 unfolding line_end
 goes_on s i e h q p = sym (rw (drop-cons s i 0 h, add-one i) (rw (ne_eqb (get_or s i 0) line_feed q, line_end))) ∙ p
 
-pub no_end : (s : List ℕ) (i : ℕ) (e : Ends) → length s ≤ i → line_end i (drop i s) ≡ e → Open ≡ e
+pub no_end : (s : List ℕ) (i : ℕ) (e : Maybe ℕ) → length s ≤ i → line_end i (drop i s) ≡ e → None ≡ e
 unfolding line_end
 no_end s i e h p = sym (rw (drop_all s i h)) ∙ p
 

@@ -1,4 +1,5 @@
 -- A line cut out of a piece: with what was held of it, or, where nothing was, as it lies there.
+use Rattle.std.specs.declared.option.Option.TheVariants.{None, Some}
 use Rattle.std.specs.Prelude.{◌≡◌, Bool, true, false, List, [], ◌∷◌, ◌++◌, ℕ, zero, suc, ◌+◌, ◌-◌, ◌≤◌, ◌<◌, length, take, drop, eqb, leb}
 use Rattle.std.proofs.Math.Path.{refl, sym, ap}
 use Rattle.std.proofs.Common.{◌∙◌, arith, length-drop, drop-drop, take_all, le-leb, leb-true, leb-false, eq-eqb, ne_eqb, eqb-true}
@@ -7,8 +8,7 @@ use Rattle.std.specs.Prelude.{if◌then◌else◌}
 use Rattle.paper.specs.Sheets.{Reader, step}
 use Rattle.paper.specs.Layout.{Lines, nothing, unended, line, lines, push}
 use Rattle.paper.proofs.Lists.{no_way}
-use Rattle.sheet_lines.specs.declared.Ends.{Ends}
-use Rattle.sheet_lines.specs.declared.Ends.TheVariants.{At, Open}
+use Rattle.paper.specs.Answered.{Maybe}
 use Rattle.sheet_lines.specs.declared.Held.{Held}
 use Rattle.sheet_lines.specs.declared.Cut.{Cut}
 use Rattle.sheet_lines.specs.Fed.{max_held, line_feed, held_of, step_held}
@@ -37,9 +37,9 @@ abbrev pub line_with : Held → List ℕ → List ℕ
 line_with h l = line_from (held_in (held_rest h l)) l
 
 -- the line that begins at `from`, by where it ends
-abbrev pub cut_by : Held → List ℕ → ℕ → Ends → Cut
-cut_by h s from (At e) = record { unended = false; to = e; held = held_rest h (part_of s from e) }
-cut_by h s from Open = record { unended = true; to = length s; held = held_more h (part_of s from (length s)) }
+abbrev pub cut_by : Held → List ℕ → ℕ → Maybe ℕ → Cut
+cut_by h s from (Some e) = record { unended = false; to = e; held = held_rest h (part_of s from e) }
+cut_by h s from None = record { unended = true; to = length s; held = held_more h (part_of s from (length s)) }
 
 unfoldable pub cut_at : Held → List ℕ → ℕ → Cut
 cut_at h s from = cut_by h s from (line_end from (drop from s))
@@ -116,11 +116,11 @@ no_lines [] f = refl
 no_lines (b ∷ l) f = rw f.0 (pushed b (lines l) l (no_lines l f.1))
 
 -- a line that does not end in s, from `from` on
-pub open_left : (s : List ℕ) (from : ℕ) → line_end from (drop from s) ≡ Open → LeftOf (lines (drop from s)) (drop from s)
+pub open_left : (s : List ℕ) (from : ℕ) → line_end from (drop from s) ≡ None → LeftOf (lines (drop from s)) (drop from s)
 open_left s from e = no_lines (drop from s) (open_free from (drop from s) e)
 
 -- one that ends at e
-module _ (s : List ℕ) (from e : ℕ) (g : line_end from (drop from s) ≡ At e) where
+module _ (s : List ℕ) (from e : ℕ) (g : line_end from (drop from s) ≡ Some e) where
   pub line_inside : (from ≤ e) × (e < length s)
   line_inside =
       let w = ends_at from e (drop from s) g in
@@ -151,19 +151,19 @@ pub rest_some : (h r : Held) (l m : List ℕ) → (h.length ≡ 0 → ⊥) → r
 unfolding held_rest
 rest_some h r l m n e w = let a = w.short in let b = w.whole in (rw (ne_eqb h.length 0 n) e, omega arith)
 
-pub cut_is : (h : Held) (s : List ℕ) (from : ℕ) (w : Ends) (c : Cut) → w ≡ line_end from (drop from s) → c ≡ cut_by h s from w →
+pub cut_is : (h : Held) (s : List ℕ) (from : ℕ) (w : Maybe ℕ) (c : Cut) → w ≡ line_end from (drop from s) → c ≡ cut_by h s from w →
     c ≡ cut_at h s from
 unfolding cut_at
 cut_is h s from w c e f = f ∙ ap (cut_by h s from) e
 
-pub cut_at_end : (h r : Held) (s l : List ℕ) (from e : ℕ) (w : Ends) → w ≡ line_end from (drop from s) → w ≡ At e →
+pub cut_at_end : (h r : Held) (s l : List ℕ) (from e : ℕ) (w : Maybe ℕ) → w ≡ line_end from (drop from s) → w ≡ Some e →
     l ≡ part_of s from e → (r ≡ held_rest h l) × Fits r →
     (record { unended = false; to = e; held = r } ≡ cut_at h s from) × Fits r
 cut_at_end h r s l from e w a b p q =
     let x : r ≡ held_rest h (part_of s from e) = q.0 ∙ ap (held_rest h) p in
-    (cut_is h s from (At e) _ (sym b ∙ a) (ap (λ (z : Held). record { unended = false; to = e; held = z }) x), q.1)
+    (cut_is h s from (Some e) _ (sym b ∙ a) (ap (λ (z : Held). record { unended = false; to = e; held = z }) x), q.1)
 
-pub cut_at_none : (h r : Held) (s l m : List ℕ) (from : ℕ) (w : Ends) → w ≡ line_end from (drop from s) → w ≡ Open →
+pub cut_at_none : (h r : Held) (s l m : List ℕ) (from : ℕ) (w : Maybe ℕ) → w ≡ line_end from (drop from s) → w ≡ None →
     l ≡ part_of s from (length s) → (r ≡ held_more h l) × Holds r m →
     (record { unended = true; to = length s; held = r } ≡ cut_at h s from) × Fits r
 cut_at_none h r s l m from w a b p q =
@@ -171,28 +171,28 @@ cut_at_none h r s l m from w a b p q =
     let i = n.short in
     let j = n.whole in
     let x : r ≡ held_more h (part_of s from (length s)) = q.0 ∙ ap (held_more h) p in
-    (cut_is h s from Open _ (sym b ∙ a) (ap (λ (z : Held). record { unended = true; to = length s; held = z }) x), omega arith)
+    (cut_is h s from None _ (sym b ∙ a) (ap (λ (z : Held). record { unended = true; to = length s; held = z }) x), omega arith)
 
 module _ (h : Held) (s : List ℕ) (from : ℕ) (c : Cut) (is : c ≡ cut_at h s from) where
-  pub cut_open : c.unended ≡ true → (line_end from (drop from s) ≡ Open) × (c.held ≡ held_more h (drop from s))
+  pub cut_open : c.unended ≡ true → (line_end from (drop from s) ≡ None) × (c.held ≡ held_more h (drop from s))
   unfolding cut_at
   cut_open o = go (line_end from (drop from s)) refl is
     where
-      go : (w : Ends) → line_end from (drop from s) ≡ w → c ≡ cut_by h s from w → (line_end from (drop from s) ≡ Open)
+      go : (w : Maybe ℕ) → line_end from (drop from s) ≡ w → c ≡ cut_by h s from w → (line_end from (drop from s) ≡ None)
           × (c.held ≡ held_more h (drop from s))
-      go (At e) q f = no_way (sym o ∙ ap (λ (z : Cut). z.unended) f)
-      go Open q f = (q, ap (λ (z : Cut). z.held) f ∙ ap (held_more h) (part_rest s from))
+      go (Some e) q f = no_way (sym o ∙ ap (λ (z : Cut). z.unended) f)
+      go None q f = (q, ap (λ (z : Cut). z.held) f ∙ ap (held_more h) (part_rest s from))
 
-  pub cut_ended : c.unended ≡ false → (line_end from (drop from s) ≡ At c.to) × (c.held ≡ held_rest h (part_of s from c.to))
+  pub cut_ended : c.unended ≡ false → (line_end from (drop from s) ≡ Some c.to) × (c.held ≡ held_rest h (part_of s from c.to))
   unfolding cut_at
   cut_ended o = go (line_end from (drop from s)) refl is
     where
-      go : (w : Ends) → line_end from (drop from s) ≡ w → c ≡ cut_by h s from w → (line_end from (drop from s) ≡ At c.to)
+      go : (w : Maybe ℕ) → line_end from (drop from s) ≡ w → c ≡ cut_by h s from w → (line_end from (drop from s) ≡ Some c.to)
           × (c.held ≡ held_rest h (part_of s from c.to))
-      go (At e) q f =
+      go (Some e) q f =
           let n : e ≡ c.to = sym (ap (λ (z : Cut). z.to) f) in
-          (q ∙ ap At n, ap (λ (z : Cut). z.held) f ∙ ap (λ k. held_rest h (part_of s from k)) n)
-      go Open q f = no_way (sym (ap (λ (z : Cut). z.unended) f) ∙ o)
+          (q ∙ ap Some n, ap (λ (z : Cut). z.held) f ∙ ap (λ k. held_rest h (part_of s from k)) n)
+      go None q f = no_way (sym (ap (λ (z : Cut). z.unended) f) ∙ o)
 
 -- as code has it: the part that is held, then the part of the piece
 pub line_cut : (h k : Held) (l x y : List ℕ) → k ≡ held_rest h l → Fits k → x ≡ part_of k.bytes 0 k.length → y ≡ line_from x l →

@@ -1,15 +1,15 @@
 -- The lines of a piece: where one ends, and what feeding one does.
+use Rattle.std.specs.declared.option.Option.TheVariants.{None, Some}
 use Rattle.std.specs.Prelude.{◌≡◌, refl, Bool, true, false, List, [], ◌∷◌, ◌++◌, ℕ, zero, suc, ◌+◌, ◌-◌, ◌≤◌, ◌<◌, length, take, drop, eqb}
 use Rattle.std.proofs.Common.{sym, ap, ◌∙◌, append_assoc, append-nil, arith, length-drop, drop-drop, eqb-true}
 use Rattle.paper.specs.Sheets.{Reader, step}
-use Rattle.sheet_lines.specs.declared.Ends.{Ends}
-use Rattle.sheet_lines.specs.declared.Ends.TheVariants.{At, Open}
+use Rattle.paper.specs.Answered.{Maybe}
 use Rattle.sheet_lines.specs.Fed.{Reading, going, Fed, line_feed, held_of, held_on, held_held, step_held, after_line, fed, behind, fed_all}
 
 -- the first LF of s, whose first byte has the number i
-unfoldable pub line_end : ℕ → List ℕ → Ends
-line_end i [] = Open
-line_end i (b ∷ s) = elim (eqb b line_feed) [ true ↦ At i | false ↦ line_end (suc i) s ]
+unfoldable pub line_end : ℕ → List ℕ → Maybe ℕ
+line_end i [] = None
+line_end i (b ∷ s) = elim (eqb b line_feed) [ true ↦ Some i | false ↦ line_end (suc i) s ]
 
 -- no LF
 abbrev pub Free : List ℕ → Type 0
@@ -22,16 +22,16 @@ pub record Ending (i k : ℕ) (s : List ℕ) : Type 0 where
   pub free : Free (take (k - i) s)
   pub split : s ≡ take (k - i) s ++ (line_feed ∷ drop (suc (k - i)) s)
 
-same_at : {i k : ℕ} → At i ≡ At k → i ≡ k
+same_at : {i k : ℕ} → Some i ≡ Some k → i ≡ k
 same_at e = cc
 
-pub ends_at : (i k : ℕ) (s : List ℕ) → line_end i s ≡ At k → Ending i k s
+pub ends_at : (i k : ℕ) (s : List ℕ) → line_end i s ≡ Some k → Ending i k s
 unfolding line_end
 ends_at i k [] e = absurd (let z : ◌≡◌ {A = ℕ} 0 1 = cc in omega arith)
 ends_at i k (b ∷ s) e = go (eqb b line_feed) refl e (λ q. ends_at (suc i) k s q)
   where
-    go : (t : Bool) → eqb b line_feed ≡ t → (elim t as (λ _. Ends) [ true ↦ At i | false ↦ line_end (suc i) s ]) ≡ At k →
-        (line_end (suc i) s ≡ At k → Ending (suc i) k s) → Ending i k (b ∷ s)
+    go : (t : Bool) → eqb b line_feed ≡ t → (elim t as (λ _. Maybe ℕ) [ true ↦ Some i | false ↦ line_end (suc i) s ]) ≡ Some k →
+        (line_end (suc i) s ≡ Some k → Ending (suc i) k s) → Ending i k (b ∷ s)
     go true q f w =
         let n : i ≡ k = same_at f in
         let z : k - i ≡ 0 = omega arith in
@@ -44,13 +44,13 @@ ends_at i k (b ∷ s) e = go (eqb b line_feed) refl e (λ q. ends_at (suc i) k s
         let z : k - i ≡ suc (k - suc i) = omega arith in
         record { behind_start = omega arith; in_piece = omega arith; free = rw z (q, r.free); split = rw z (ap (λ t. b ∷ t) r.split) }
 
-pub open_free : (i : ℕ) (s : List ℕ) → line_end i s ≡ Open → Free s
+pub open_free : (i : ℕ) (s : List ℕ) → line_end i s ≡ None → Free s
 unfolding line_end
 open_free i [] e = tt
 open_free i (b ∷ s) e = go (eqb b line_feed) refl e (λ q. open_free (suc i) s q)
   where
-    go : (t : Bool) → eqb b line_feed ≡ t → (elim t as (λ _. Ends) [ true ↦ At i | false ↦ line_end (suc i) s ]) ≡ Open →
-        (line_end (suc i) s ≡ Open → Free s) → Free (b ∷ s)
+    go : (t : Bool) → eqb b line_feed ≡ t → (elim t as (λ _. Maybe ℕ) [ true ↦ Some i | false ↦ line_end (suc i) s ]) ≡ None →
+        (line_end (suc i) s ≡ None → Free s) → Free (b ∷ s)
     go true q f w = absurd (let z : ◌≡◌ {A = ℕ} 0 1 = cc in omega arith)
     go false q f w = (q, w f)
 
@@ -76,7 +76,7 @@ unfolding fed_all
 fed_line d at h l s f = fed_part d at h l (line_feed ∷ s) f ∙ rw (fed_lf d at (h ++ l))
 
 -- ---- as code has it: the piece s from `from` on, in which the line does not end
-pub rest_of_piece : (d : Reader) (at : ℕ) (h s : List ℕ) (from : ℕ) → line_end from (drop from s) ≡ Open →
+pub rest_of_piece : (d : Reader) (at : ℕ) (h s : List ℕ) (from : ℕ) → line_end from (drop from s) ≡ None →
     fed_all (going d at (held_of h)) (drop from s) ≡ held_on d at (h ++ drop from s)
 unfolding fed_all
 rest_of_piece d at h s from e = ap (fed_all (going d at (held_of h))) (sym (append-nil (drop from s)))

@@ -12,13 +12,6 @@ pub const LINE_FEED: u8 = 10;
 // One byte more than a line may have: a line that is too long stays too long.
 pub const HELD: usize = paper::DIGITS + 1;
 
-// Where a line ends: at its LF, or not in this piece.
-#[derive(Clone, Copy)]
-pub enum Ends {
-    At(usize),
-    Open,
-}
-
 // What came of a line in earlier pieces: its first HELD bytes.
 #[derive(Clone, Copy)]
 pub struct Held {
@@ -27,17 +20,17 @@ pub struct Held {
 }
 
 // The end of the line that begins at `from`.
-pub fn line_end(s: &[u8], from: usize) -> Ends
+pub fn line_end(s: &[u8], from: usize) -> Option<usize>
     ensures { result ≡ line_end from (drop from s.now) }
 {
     let mut i = from;
     while i < s.len() {
         if s[i] == LINE_FEED {
-            return Ends::At(i);
+            return Some(i);
         }
         i += 1;
     }
-    Ends::Open
+    None
 }
 
 // Nothing held.
@@ -119,12 +112,12 @@ pub fn cut_line(h: Held, piece: &[u8], from: usize) -> Cut
 {
     let end = line_end(piece, from);
     match end {
-        Ends::At(e) => Cut {
+        Some(e) => Cut {
             unended: false,
             to: e,
             held: with_rest(h, part(piece, from, e)),
         },
-        Ends::Open => Cut {
+        None => Cut {
             unended: true,
             to: piece.len(),
             held: hold(h, part(piece, from, piece.len())),

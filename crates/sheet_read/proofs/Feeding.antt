@@ -8,6 +8,7 @@ use Prim.Native.Nat.{ℕ, zero, suc, ◌+◌, ◌-◌, ◌≤◌, ◌<◌}
 use native.Mathlib.Omega.{arith}
 use lib.ListN.{length, take, drop, length-take, length-append}
 use lib.Seq.{take_all}
+use Rattle.std.specs.declared.option.Option.TheVariants.{Some}
 use Rattle.paper.specs.Words.{joined}
 use Rattle.paper.specs.Numbers.{Outcome, done, refused}
 use Rattle.paper.specs.Layout as layout
@@ -25,7 +26,6 @@ use native.Mathlib.Numerals.{add-one}
 use Rattle.sheet_lines.specs.Fed.{Reading, going, stopped, Fed, begun, max_held, line_feed, held_of, after_line, behind, fed_all}
 use Rattle.sheet_lines.specs.Pieces.{as_lines, lines_append, fed_append}
 use Rattle.sheet_lines.specs.Ends.{line_end, ends_at, fed_line, rest_of_piece}
-use Rattle.sheet_lines.specs.declared.Ends.TheVariants as ends
 use Rattle.sheet_lines.specs.Held.{held_in, no_line, Holds, nothing_holds, more_holds}
 use Rattle.sheet_lines.specs.Cut.{part_of, Fits, line_from, line_with, cut_at, part_there, line_inside, cut_open, cut_ended, line_cut, step_with}
 use Rattle.sheet_lines.specs.declared.Cut.{Cut}
@@ -94,7 +94,7 @@ same_fed : (r : Reading) (f g : List (List ℕ)) → f ≡ g → ◌≡◌ {A = 
 same_fed r f g e = rw e
 
 -- the line from `from` to its LF
-module _ (piece : List ℕ) (from e : ℕ) (E : line_end from (drop from piece) ≡ ends.At e) where
+module _ (piece : List ℕ) (from e : ℕ) (E : line_end from (drop from piece) ≡ Some e) where
   abbrev part : List ℕ
   part = take (e - from) (drop from piece)
 
@@ -136,7 +136,7 @@ module _ (s : State) (k k' : Lent) (room room' : List ℕ) (at : ℕ) (piece : L
   abbrev e : ℕ
   e = c.to
 
-  E : line_end from (drop from piece) ≡ ends.At e
+  E : line_end from (drop from piece) ≡ Some e
   E = (cut_ended s.held piece from c ec.0 oc).0
 
   -- a line where it lies, or put together, says the same

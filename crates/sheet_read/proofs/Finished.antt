@@ -7,6 +7,7 @@ use Prim.Native.Nat.{ℕ, ◌+◌, ◌≤◌, ◌<◌}
 use native.Mathlib.Omega.{arith}
 use lib.ListN.{length, length-take}
 use borrow.Author.Tests.{le-leb}
+use Rattle.std.specs.declared.option.Option.TheVariants.{None, Some}
 use Rattle.paper.specs.declared.Refusal.TheVariants.{Layout}
 use Rattle.paper.specs.Words.{joined, four}
 use Rattle.paper.specs.Layout.{hex}
@@ -14,8 +15,7 @@ use Rattle.paper.specs.Sheets as paper
 use Rattle.paper.specs.Sheets.{Open, outside, at_sites, at_rules, at_items, stop_found, sheet_ended, findings}
 use Rattle.paper.proofs.Lists.{no_way, none_in}
 use Rattle.sheet_findings.specs.Written.{written_at, room_said, room_after}
-use Rattle.sheet_findings.specs.declared.Room.{Room}
-use Rattle.sheet_findings.specs.declared.Room.TheVariants.{To, Short}
+use Rattle.paper.specs.Answered.{Maybe}
 use Rattle.sheet_ended.specs.Sets.{end_room, found_text, said_at, written_after}
 use Rattle.sheet_ended.proofs.Laws.{length_hex, written_none, said_to, after_is}
 use Rattle.sheet_ended.proofs.Holds.{found_is}
@@ -56,21 +56,21 @@ out_is (Rules s) e = no_way (sym e)
 out_is (Items s r n) e = no_way (sym e)
 
 module _ (s : State) (k : Lent) (room : List ℕ) (at : ℕ) where
-  pub end_short : length room < at + end_room → Ends s k room room at Short
+  pub end_short : length room < at + end_room → Ends s k room room at None
   end_short h = (λ g. absurd (omega arith), λ g. (refl, refl))
 
   module _ (h : at + end_room ≤ length room) where
-    pub end_stopped : s.stopped ≡ true → Ends s k room room at (To at)
+    pub end_stopped : s.stopped ≡ true → Ends s k room room at (Some at)
     unfolding ended joined
     end_stopped e = (λ g M S. go M S, λ g. absurd (omega arith))
       where
-        go : (M : Reading) → Shows s k M → Ending M room room at (To at)
-        go stopped S = let z : at ≡ at + 0 = omega arith in record { is = ap To z; into = sym (written_none room at) }
+        go : (M : Reading) → Shows s k M → Ending M room room at (Some at)
+        go stopped S = let z : at ≡ at + 0 = omega arith in record { is = ap Some z; into = sym (written_none room at) }
         go (going d l b) G = no_way (sym e ∙ G.goes)
 
-    module _ (room' : List ℕ) (w : Room) (sf : s.stopped ≡ false) where
+    module _ (room' : List ℕ) (w : Maybe ℕ) (sf : s.stopped ≡ false) where
       -- a text x that is written, if every reading that is shown ends in it
-      told : (x : List ℕ) → w ≡ To (at + length x) → room' ≡ written_at room at x → ((d : paper.Reader) → Going s k d s.reader.line (held_in s.held) → as_lines (ended (going d s.reader.line (held_in s.held))) ≡ x) → Ends s k room room' at w
+      told : (x : List ℕ) → w ≡ Some (at + length x) → room' ≡ written_at room at x → ((d : paper.Reader) → Going s k d s.reader.line (held_in s.held) → as_lines (ended (going d s.reader.line (held_in s.held))) ≡ x) → Ends s k room room' at w
       told x a b f = (λ g M S. go M S, λ g. absurd (omega arith))
         where
           go : (M : Reading) → Shows s k M → Ending M room room' at w

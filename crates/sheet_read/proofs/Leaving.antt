@@ -8,14 +8,15 @@ use native.Mathlib.Omega.{arith}
 use lib.ListN.{length}
 use lib.Dec.{ltb, leb}
 use borrow.Author.Tests.{lt-ltb, le-ltb, le-leb, lt-leb}
+use Rattle.std.specs.declared.result.Result.TheVariants.{Err}
+use Rattle.std.specs.declared.option.Option.TheVariants.{None, Some}
 use Rattle.paper.specs.declared.Refusal.TheVariants.{Layout}
 use Rattle.std.specs.Prelude.{if◌then◌else◌}
 use Rattle.paper.specs.Layout.{hex}
 use Rattle.paper.specs.Sheets.{stop_found}
 use Rattle.term_table.specs.Table.{Square, no_edges}
 use Rattle.sheet_findings.specs.Written.{room_said, room_after}
-use Rattle.sheet_findings.specs.declared.Room.{Room}
-use Rattle.sheet_findings.specs.declared.Room.TheVariants.{To, Short}
+use Rattle.paper.specs.Answered.{Maybe}
 use Rattle.sheet_lines.specs.Held.{no_line}
 use Rattle.sheet_lines.specs.Cut.{part_of, line_from, cut_at}
 use Rattle.sheet_lines.specs.declared.Cut.{Cut}
@@ -29,8 +30,8 @@ use Rattle.sheet_reader.proofs.Leaving.{if_yes, if_no}
 use Rattle.sheet_step.specs.Leaves.{step_in}
 use Rattle.sheet_read.specs.declared.State.{State}
 use Rattle.sheet_read.specs.declared.Fed.{Fed}
-use Rattle.sheet_read.specs.declared.Checked.{Checked}
-use Rattle.sheet_read.specs.declared.Checked.TheVariants as checked
+use Rattle.sheet_read.specs.Checked.{Checked}
+use Rattle.sheet_read.specs.declared.Unchecked.TheVariants as checked
 use Rattle.sheet_read.specs.Whole.{first_state, is_stopped}
 use Rattle.sheet_read.specs.Leaves.{Leaves, leaves, fed_to, line_text, line_stepped, line_cut, feed_line_in, pauses_at, goes_on, feed_from, feed_in, Said, said, stop_said, found_said, end_said, end_in, is_enough, is_left_in, checked_as, check_ended, check_fed, cleared, check_in}
 
@@ -123,21 +124,21 @@ module _ (goal : Leaves Fed) (piece : List ℕ) (x : Leaves Fed) where
 -- ---- the end
 module _ (s : State) (t : Square) (room : List ℕ) (at : ℕ) where
   abbrev unended : Said
-  unended = if s.stopped then said (To at) room else end_said s t room at
+  unended = if s.stopped then said (Some at) room else end_said s t room at
 
-  pub ends_short : length room < at + end_room → said Short room ≡ end_in s t room at
+  pub ends_short : length room < at + end_room → said None room ≡ end_in s t room at
   unfolding end_in
-  ends_short h = if_no (leb (at + end_room) (length room)) unended (said Short room) (lt-leb (at + end_room) (length room) h)
+  ends_short h = if_no (leb (at + end_room) (length room)) unended (said None room) (lt-leb (at + end_room) (length room) h)
 
   module _ (h : at + end_room ≤ length room) where
     ends : unended ≡ end_in s t room at
     unfolding end_in
-    ends = if_yes (leb (at + end_room) (length room)) unended (said Short room) (le-leb (at + end_room) (length room) h)
+    ends = if_yes (leb (at + end_room) (length room)) unended (said None room) (le-leb (at + end_room) (length room) h)
 
-    pub ends_stopped : s.stopped ≡ true → said (To at) room ≡ end_in s t room at
-    ends_stopped e = if_yes s.stopped (said (To at) room) (end_said s t room at) e ∙ ends
+    pub ends_stopped : s.stopped ≡ true → said (Some at) room ≡ end_in s t room at
+    ends_stopped e = if_yes s.stopped (said (Some at) room) (end_said s t room at) e ∙ ends
 
-    module _ (room' : List ℕ) (w : Room) (sf : s.stopped ≡ false) where
+    module _ (room' : List ℕ) (w : Maybe ℕ) (sf : s.stopped ≡ false) where
       abbrev L : ℕ
       L = s.reader.line
 
@@ -145,7 +146,7 @@ module _ (s : State) (t : Square) (room : List ℕ) (at : ℕ) where
       unheld = if is_outside s.reader.stands then found_said s t room at else stop_said L room at
 
       says : {x : Said} → said w room' ≡ x → x ≡ end_said s t room at → said w room' ≡ end_in s t room at
-      says a b = a ∙ (b ∙ (if_no s.stopped (said (To at) room) (end_said s t room at) sf ∙ ends))
+      says a b = a ∙ (b ∙ (if_no s.stopped (said (Some at) room) (end_said s t room at) sf ∙ ends))
 
       stop_is : (w ≡ room_said room at (hex (stop_found L (Layout L)))) × (room' ≡ room_after room at (hex (stop_found L (Layout L)))) → said w room' ≡ stop_said L room at
       stop_is o = ap (λ x. said x room') o.0 ∙ ap (said (room_said room at (hex (stop_found L (Layout L))))) o.1
@@ -174,17 +175,17 @@ module _ (sheet : List ℕ) (k : Lent) (room : List ℕ) where
   abbrev fedded : Leaves Fed
   fedded = feed_in first_state (cleared k) room 0 sheet
 
-  pub lacks : is_enough k ≡ false → leaves checked.NoMemory k room ≡ check_in sheet k room
+  pub lacks : is_enough k ≡ false → leaves (Err checked.NoMemory) k room ≡ check_in sheet k room
   unfolding check_in
-  lacks e = if_no (is_enough k) (check_fed (length sheet) fedded) (leaves checked.NoMemory k room) e
+  lacks e = if_no (is_enough k) (check_fed (length sheet) fedded) (leaves (Err checked.NoMemory) k room) e
 
-  pub lacks_sites : length k.sites < sites_room → leaves checked.NoMemory k room ≡ check_in sheet k room
+  pub lacks_sites : length k.sites < sites_room → leaves (Err checked.NoMemory) k room ≡ check_in sheet k room
   lacks_sites h = lacks (ap (λ c. c && (leb kept_room (length k.words) && leb items_room (length k.items))) (lt-leb sites_room (length k.sites) h))
 
-  pub lacks_words : length k.words < kept_room → leaves checked.NoMemory k room ≡ check_in sheet k room
+  pub lacks_words : length k.words < kept_room → leaves (Err checked.NoMemory) k room ≡ check_in sheet k room
   lacks_words h = lacks (and_false (leb sites_room (length k.sites)) _ (ap (λ c. c && leb items_room (length k.items)) (lt-leb kept_room (length k.words) h)))
 
-  pub lacks_items : length k.items < items_room → leaves checked.NoMemory k room ≡ check_in sheet k room
+  pub lacks_items : length k.items < items_room → leaves (Err checked.NoMemory) k room ≡ check_in sheet k room
   lacks_items h = lacks (and_false (leb sites_room (length k.sites)) _ (and_false (leb kept_room (length k.words)) _ (lt-leb items_room (length k.items) h)))
 
   module _ (hm : sites_room ≤ length k.sites) (hw : kept_room ≤ length k.words) (hi : items_room ≤ length k.items) (s : State) (t : Square) (es : (s ≡ first_state) × (t ≡ no_edges)) (f : Fed) (k' : Lent) (room' : List ℕ)
@@ -198,7 +199,7 @@ module _ (sheet : List ℕ) (k : Lent) (room : List ℕ) where
     unfolding check_in
     goes =
         ap (check_fed (length sheet)) (ef ∙ (ap (λ x. feed_in x (lent k.sites k.words k.items t) room 0 sheet) es.0 ∙ ap (λ x. feed_in first_state (lent k.sites k.words k.items x) room 0 sheet) es.1))
-        ∙ if_yes (is_enough k) (check_fed (length sheet) fedded) (leaves checked.NoMemory k room) has
+        ∙ if_yes (is_enough k) (check_fed (length sheet) fedded) (leaves (Err checked.NoMemory) k room) has
 
     left_is : b ≡ is_left_in f.read (length sheet) f.state.stopped
     left_is = go b q
@@ -214,11 +215,11 @@ module _ (sheet : List ℕ) (k : Lent) (room : List ℕ) where
     abbrev closing : Leaves Checked
     closing = check_ended k' (end_in f.state k'.table room' f.to)
 
-    pub leaves_left : b ≡ true → leaves checked.NoRoom k' room' ≡ check_in sheet k room
-    leaves_left e = if_yes (is_left_in f.read (length sheet) f.state.stopped) (leaves checked.NoRoom k' room') closing (sym left_is ∙ e) ∙ goes
+    pub leaves_left : b ≡ true → leaves (Err checked.NoRoom) k' room' ≡ check_in sheet k room
+    leaves_left e = if_yes (is_left_in f.read (length sheet) f.state.stopped) (leaves (Err checked.NoRoom) k' room') closing (sym left_is ∙ e) ∙ goes
 
-    pub leaves_closed : b ≡ false → (w : Room) (room'' : List ℕ) → said w room'' ≡ end_in f.state k'.table room' f.to → (r : Checked) → r ≡ checked_as w → leaves r k' room'' ≡ check_in sheet k room
+    pub leaves_closed : b ≡ false → (w : Maybe ℕ) (room'' : List ℕ) → said w room'' ≡ end_in f.state k'.table room' f.to → (r : Checked) → r ≡ checked_as w → leaves r k' room'' ≡ check_in sheet k room
     leaves_closed e w room'' ew r er =
         ap (λ x. leaves x k' room'') er
         ∙ (ap (check_ended k') ew
-        ∙ (if_no (is_left_in f.read (length sheet) f.state.stopped) (leaves checked.NoRoom k' room') closing (sym left_is ∙ e) ∙ goes))
+        ∙ (if_no (is_left_in f.read (length sheet) f.state.stopped) (leaves (Err checked.NoRoom) k' room') closing (sym left_is ∙ e) ∙ goes))

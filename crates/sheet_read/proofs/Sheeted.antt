@@ -8,12 +8,13 @@ use native.Mathlib.Omega.{arith}
 use lib.ListN.{length, take, drop, length-append, take-append-drop}
 use lib.Dec.{leb}
 use borrow.Author.Tests.{leb-true, leb-false}
+use Rattle.std.specs.declared.result.Result.TheVariants.{Err, Ok}
+use Rattle.std.specs.declared.option.Option.TheVariants.{None, Some}
 use Rattle.paper.specs.Sheets.{findings}
 use Rattle.paper.proofs.Lists.{no_way}
 use Rattle.term_table.specs.Table.{Square, no_edges}
 use Rattle.sheet_findings.specs.Written.{written_at}
-use Rattle.sheet_findings.specs.declared.Room.{Room}
-use Rattle.sheet_findings.specs.declared.Room.TheVariants.{To, Short}
+use Rattle.paper.specs.Answered.{Maybe}
 use Rattle.sheet_ended.specs.Sets.{end_room}
 use Rattle.sheet_ended.proofs.Laws.{written_then}
 use Rattle.sheet_lines.specs.Fed.{Reading, going, stopped, begun, fed, behind, fed_all, ended, closed, findings_fed}
@@ -21,7 +22,7 @@ use Rattle.sheet_lines.specs.Pieces.{as_lines, lines_append, fed_append}
 use Rattle.sheet_reader.specs.State.{Lent, lent, step_room, sites_room, kept_room, items_room}
 use Rattle.sheet_read.specs.declared.State.{State}
 use Rattle.sheet_read.specs.Whole.{first_state, Shows, Fedding, Feeds, Ending, Ends, Pauses, Checks}
-use Rattle.sheet_read.specs.declared.Checked.TheVariants as checked
+use Rattle.sheet_read.specs.declared.Unchecked.TheVariants as checked
 use Rattle.sheet_read.proofs.Feeding.{shows_first}
 
 stays : (s : List ℕ) → fed_all stopped s ≡ record { reading = stopped; found = [] }
@@ -77,7 +78,7 @@ module _ (sheet m ws it room : List ℕ) (t : Square) (hm : sites_room ≤ lengt
   fedding : Fedding begun k' room room' 0 (take i sheet) st to
   fedding = F.1.0 (omega arith) begun (rw es.0 (shows_first (lent m ws it t) (record { sites = hm; words = hw; items = hi }) es.1))
 
-  pub check_left : (b : Bool) → (b ≡ false → (length sheet ≤ i) ⊎ (st.stopped ≡ true)) × (b ≡ true → (i < length sheet) × (st.stopped ≡ false)) → b ≡ true → Checks sheet m ws it room room' checked.NoRoom
+  pub check_left : (b : Bool) → (b ≡ false → (length sheet ≤ i) ⊎ (st.stopped ≡ true)) × (b ≡ true → (i < length sheet) × (st.stopped ≡ false)) → b ≡ true → Checks sheet m ws it room room' (Err checked.NoRoom)
   check_left b q e =
       let a = q.1 e in
       let D = fedding in
@@ -85,17 +86,17 @@ module _ (sheet m ws it room : List ℕ) (t : Square) (hm : sites_room ≤ lengt
       let n = no_less sheet i in
       ⊎_elim (λ x. no_way (sym x ∙ a.1)) (λ x. omega arith) (F.1.1 a.0)
 
-  module _ (b : Bool) (q : (b ≡ false → (length sheet ≤ i) ⊎ (st.stopped ≡ true)) × (b ≡ true → (i < length sheet) × (st.stopped ≡ false))) (e : b ≡ false) (room'' : List ℕ) (w : Room) (E : (m ws i : List ℕ) → Ends st (lent m ws i k'.table) room' room'' to w) where
+  module _ (b : Bool) (q : (b ≡ false → (length sheet ≤ i) ⊎ (st.stopped ≡ true)) × (b ≡ true → (i < length sheet) × (st.stopped ≡ false))) (e : b ≡ false) (room'' : List ℕ) (w : Maybe ℕ) (E : (m ws i : List ℕ) → Ends st (lent m ws i k'.table) room' room'' to w) where
     all : findings sheet ≡ as_lines (f sheet i) ++ as_lines (ended (M sheet i))
     all = ⊎_elim (λ h. whole sheet i h) (λ h. halted sheet i (is_stopped st k' (M sheet i) fedding.shows h)) (q.0 e)
 
     ending : to + end_room ≤ length room' → Ending (M sheet i) room' room'' to w
     ending h = (E k'.sites k'.words k'.items).0 h (M sheet i) fedding.shows
 
-    short_not : {A : Type 0} (n : ℕ) → w ≡ Short → w ≡ To n → A
+    short_not : {A : Type 0} (n : ℕ) → w ≡ None → w ≡ Some n → A
     short_not n x y = let z : ◌≡◌ {A = ℕ} 0 1 = cc in absurd (omega arith)
 
-    pub check_short : w ≡ Short → Checks sheet m ws it room room'' checked.NoRoom
+    pub check_short : w ≡ None → Checks sheet m ws it room room'' (Err checked.NoRoom)
     check_short z = go (leb (to + end_room) (length room')) refl
       where
         go : (t : Bool) → leb (to + end_room) (length room') ≡ t → length room < length (findings sheet) + step_room
@@ -107,7 +108,7 @@ module _ (sheet m ws it room : List ℕ) (t : Square) (hm : sites_room ≤ lengt
             let k = l in
             omega arith
 
-    pub check_done : (n : ℕ) → w ≡ To n → Checks sheet m ws it room room'' (checked.Done n)
+    pub check_done : (n : ℕ) → w ≡ Some n → Checks sheet m ws it room room'' (Ok n)
     check_done n z = go (leb (to + end_room) (length room')) refl
       where
         go : (t : Bool) → leb (to + end_room) (length room') ≡ t → (n ≡ length (findings sheet)) × (room'' ≡ written_at room 0 (findings sheet))

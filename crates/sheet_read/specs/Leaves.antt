@@ -1,4 +1,6 @@
 -- What feed, end and check leave, whatever the state and the lent memory hold: `feed_in`, `end_in`, `check_in`.
+use Rattle.std.specs.declared.result.Result.TheVariants.{Err, Ok}
+use Rattle.std.specs.declared.option.Option.TheVariants.{None, Some}
 use Rattle.std.specs.Prelude.{Bool, false, ◌&&◌, ◌||◌, not, List, ℕ, zero, suc, ◌+◌, length, ltb, leb}
 use Rattle.paper.specs.declared.Refusal.TheVariants.{Layout}
 use Rattle.std.specs.Prelude.{if◌then◌else◌}
@@ -6,8 +8,7 @@ use Rattle.paper.specs.Layout.{hex}
 use Rattle.paper.specs.Sheets.{stop_found}
 use Rattle.term_table.specs.Table.{Square, no_edges}
 use Rattle.sheet_findings.specs.Written.{room_said, room_after}
-use Rattle.sheet_findings.specs.declared.Room.{Room}
-use Rattle.sheet_findings.specs.declared.Room.TheVariants.{To, Short}
+use Rattle.paper.specs.Answered.{Maybe}
 use Rattle.sheet_lines.specs.Held.{no_line}
 use Rattle.sheet_lines.specs.Cut.{part_of, line_from, cut_at}
 use Rattle.sheet_lines.specs.declared.Cut.{Cut}
@@ -19,8 +20,8 @@ use Rattle.sheet_reader.specs.declared.Stepped.{Stepped}
 use Rattle.sheet_step.specs.Leaves.{step_in}
 use Rattle.sheet_read.specs.declared.State.{State}
 use Rattle.sheet_read.specs.declared.Fed.{Fed}
-use Rattle.sheet_read.specs.declared.Checked.{Checked}
-use Rattle.sheet_read.specs.declared.Checked.TheVariants as checked
+use Rattle.sheet_read.specs.Checked.{Checked}
+use Rattle.sheet_read.specs.declared.Unchecked.TheVariants as checked
 use Rattle.sheet_read.specs.Whole.{first_state, is_stopped}
 
 -- an answer, with the lent memory and the room as they are then
@@ -74,10 +75,10 @@ feed_in s k room at piece = feed_from (length piece) piece (leaves (fed_to s 0 a
 
 -- ---- the end: "at the end the 14s ascending, then 15"; a line that is not ended, or a set that is open, is 1
 pub record Said : Type 0 where
-  pub answer : Room
+  pub answer : Maybe ℕ
   pub room : List ℕ
 
-abbrev pub said : Room → List ℕ → Said
+abbrev pub said : Maybe ℕ → List ℕ → Said
 said w room = record { answer = w; room = room }
 
 abbrev pub stop_said : ℕ → List ℕ → ℕ → Said
@@ -94,7 +95,7 @@ end_said s t room at =
 -- after a stop nothing more is found; less room than END_ROOM is left as it was
 unfoldable pub end_in : State → Square → List ℕ → ℕ → Said
 end_in s t room at =
-    if leb (at + end_room) (length room) then (if s.stopped then said (To at) room else end_said s t room at) else said Short room
+    if leb (at + end_room) (length room) then (if s.stopped then said (Some at) room else end_said s t room at) else said None room
 
 -- ---- a sheet that is there whole: begin, feed, end. NoRoom where feed pauses before the sheet's end, or the end has less room than END_ROOM.
 abbrev pub is_enough : Lent → Bool
@@ -103,20 +104,20 @@ is_enough k = leb sites_room (length k.sites) && (leb kept_room (length k.words)
 abbrev pub is_left_in : ℕ → ℕ → Bool → Bool
 is_left_in read all halted = ltb read all && not halted
 
-abbrev pub checked_as : Room → Checked
-checked_as (To e) = checked.Done e
-checked_as Short = checked.NoRoom
+abbrev pub checked_as : Maybe ℕ → Checked
+checked_as (Some e) = Ok e
+checked_as None = Err checked.NoRoom
 
 abbrev pub check_ended : Lent → Said → Leaves Checked
 check_ended k o = leaves (checked_as o.answer) k o.room
 
 abbrev pub check_fed : ℕ → Leaves Fed → Leaves Checked
 check_fed all x =
-    if is_left_in x.answer.read all x.answer.state.stopped then leaves checked.NoRoom x.memory x.room
+    if is_left_in x.answer.read all x.answer.state.stopped then leaves (Err checked.NoRoom) x.memory x.room
     else check_ended x.memory (end_in x.answer.state x.memory.table x.room x.answer.to)
 
 abbrev pub cleared : Lent → Lent
 cleared k = lent k.sites k.words k.items no_edges
 
 unfoldable pub check_in : List ℕ → Lent → List ℕ → Leaves Checked
-check_in sheet k room = if is_enough k then check_fed (length sheet) (feed_in first_state (cleared k) room 0 sheet) else leaves checked.NoMemory k room
+check_in sheet k room = if is_enough k then check_fed (length sheet) (feed_in first_state (cleared k) room 0 sheet) else leaves (Err checked.NoMemory) k room

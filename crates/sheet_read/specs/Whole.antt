@@ -1,10 +1,11 @@
 -- The code's state tells where the reading of `sheet_lines` stands; feeding is `fed_all`.
+use Rattle.std.specs.declared.result.Result.TheVariants.{Err, Ok}
+use Rattle.std.specs.declared.option.Option.TheVariants.{None, Some}
 use Rattle.std.specs.Prelude.{◌≡◌, Bool, true, false, List, ℕ, ◌+◌, ◌≤◌, ◌<◌, length, leb, ◌⊎◌}
 use Rattle.paper.specs.Sheets as paper
 use Rattle.paper.specs.Sheets.{findings}
 use Rattle.sheet_findings.specs.Written.{written_at}
-use Rattle.sheet_findings.specs.declared.Room.{Room}
-use Rattle.sheet_findings.specs.declared.Room.TheVariants.{To, Short}
+use Rattle.paper.specs.Answered.{Maybe}
 use Rattle.sheet_lines.specs.Fed.{Reading, going, stopped, fed_all, ended, max_held}
 use Rattle.sheet_lines.specs.Pieces.{as_lines}
 use Rattle.sheet_lines.specs.Held.{held_in, no_line}
@@ -14,8 +15,8 @@ use Rattle.sheet_reader.specs.declared.Event.{Event}
 use Rattle.sheet_reader.specs.declared.Event.TheVariants as event
 use Rattle.sheet_reader.specs.declared.Stands.TheVariants.{Outside}
 use Rattle.sheet_read.specs.declared.State.{State}
-use Rattle.sheet_read.specs.declared.Checked.{Checked}
-use Rattle.sheet_read.specs.declared.Checked.TheVariants as checked
+use Rattle.sheet_read.specs.Checked.{Checked}
+use Rattle.sheet_read.specs.declared.Unchecked.TheVariants as checked
 
 unfoldable pub first_state : State
 first_state = record { reader = record { line = 1; stands = Outside; ended = no_sets }; held = no_line; stopped = false }
@@ -58,14 +59,14 @@ Feeds s k k' room room' at x s' to = (M : Reading) → Shows s k M → Fedding M
 abbrev pub small_at : ℕ → List ℕ → Bool
 small_at at room = leb (at + end_room) (length room)
 
-pub record Ending (M : Reading) (room room' : List ℕ) (at : ℕ) (w : Room) : Type 0 where
-  pub is : w ≡ To (at + length (as_lines (ended M)))
+pub record Ending (M : Reading) (room room' : List ℕ) (at : ℕ) (w : Maybe ℕ) : Type 0 where
+  pub is : w ≡ Some (at + length (as_lines (ended M)))
   pub into : room' ≡ written_at room at (as_lines (ended M))
 
-abbrev pub Ends : State → Lent → List ℕ → List ℕ → ℕ → Room → Type 0
+abbrev pub Ends : State → Lent → List ℕ → List ℕ → ℕ → Maybe ℕ → Type 0
 Ends s k room room' at w =
     (at + end_room ≤ length room → (M : Reading) → Shows s k M → Ending M room room' at w)
-    × (length room < at + end_room → (w ≡ Short) × (room' ≡ room))
+    × (length room < at + end_room → (w ≡ None) × (room' ≡ room))
 
 -- a piece was not read to its end: the sheet stopped, or the room left is too short for a line
 abbrev pub Pauses : State → List ℕ → ℕ → List ℕ → ℕ → Type 0
@@ -78,6 +79,6 @@ pub record Enough (m ws i : List ℕ) : Type 0 where
   pub items : items_room ≤ length i
 
 abbrev pub Checks : List ℕ → List ℕ → List ℕ → List ℕ → List ℕ → List ℕ → Checked → Type 0
-Checks sheet m ws i room room' (checked.Done n) = (n ≡ length (findings sheet)) × (room' ≡ written_at room 0 (findings sheet))
-Checks sheet m ws i room room' checked.NoRoom = length room < length (findings sheet) + step_room
-Checks sheet m ws i room room' checked.NoMemory = (Enough m ws i → ⊥) × (room' ≡ room)
+Checks sheet m ws i room room' (Ok n) = (n ≡ length (findings sheet)) × (room' ≡ written_at room 0 (findings sheet))
+Checks sheet m ws i room room' (Err checked.NoRoom) = length room < length (findings sheet) + step_room
+Checks sheet m ws i room room' (Err checked.NoMemory) = (Enough m ws i → ⊥) × (room' ≡ room)

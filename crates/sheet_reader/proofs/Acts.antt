@@ -12,7 +12,7 @@ use Rattle.paper.specs.Layout.{hex}
 use Rattle.paper.specs.Sheets as paper
 use Rattle.paper.specs.Sheets.{stepped, Open, refusal_found, stop_found}
 use Rattle.sheet_findings.specs.Written.{written_at, room_said, room_after}
-use Rattle.sheet_findings.specs.declared.Room.{Room}
+use Rattle.paper.specs.Answered.{Maybe}
 use Rattle.sheet_lines.specs.Fed.{after_line}
 use Rattle.sheet_ended.specs.Sets.{to_or}
 use Rattle.sheet_ended.proofs.Laws.{length_hex, written_none, said_to, after_is}
@@ -48,7 +48,7 @@ unfolding refusal_found four
 refusal_long place x = length_hex _
 
 -- ---- the sheet stops
-pub stops : (r : Reader) (why : Refusal) (room room' : List ℕ) (at to : ℕ) (w : Room) → at + step_room ≤ length room → w ≡ room_said room at (hex (stop_found r.line why)) → room' ≡ room_after room at (hex (stop_found r.line why)) → to ≡ to_or w at → Stops r why room room' at (record { reader = r; event = event.Stopped why; to = to })
+pub stops : (r : Reader) (why : Refusal) (room room' : List ℕ) (at to : ℕ) (w : Maybe ℕ) → at + step_room ≤ length room → w ≡ room_said room at (hex (stop_found r.line why)) → room' ≡ room_after room at (hex (stop_found r.line why)) → to ≡ to_or w at → Stops r why room room' at (record { reader = r; event = event.Stopped why; to = to })
 stops r why room room' at to w h s o t =
     let l = stop_long r.line why in
     let x = hex (stop_found r.line why) in
@@ -122,7 +122,7 @@ pub goes_as : (r : Reader) (st : Stands) (ev : Event) (to l : ℕ) → l ≡ nex
 unfolding gone_on
 goes_as r st ev to l e = rw e
 
-pub stops_as : (r : Reader) (why : Refusal) (room room' : List ℕ) (at to : ℕ) (w : Room) → w ≡ room_said room at (hex (stop_found r.line why)) → room' ≡ room_after room at (hex (stop_found r.line why)) → to ≡ to_or w at → (k : Lent) → after (record { reader = r; event = event.Stopped why; to = to }) k room' ≡ stop_in r k room at why
+pub stops_as : (r : Reader) (why : Refusal) (room room' : List ℕ) (at to : ℕ) (w : Maybe ℕ) → w ≡ room_said room at (hex (stop_found r.line why)) → room' ≡ room_after room at (hex (stop_found r.line why)) → to ≡ to_or w at → (k : Lent) → after (record { reader = r; event = event.Stopped why; to = to }) k room' ≡ stop_in r k room at why
 unfolding stop_in stop_answer
 stops_as r why room room' at to w s o t k =
     let x = hex (stop_found r.line why) in

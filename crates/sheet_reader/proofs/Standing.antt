@@ -4,6 +4,7 @@ use mathlib.Core.List.{List, []}
 use Prim.Native.Nat.{ℕ, zero, suc}
 use native.Mathlib.Omega.{arith}
 use lib.ListN.{length}
+use Rattle.std.specs.declared.option.Option.TheVariants.{None, Some}
 use Rattle.paper.specs.declared.Refusal.TheVariants.{Layout}
 use Rattle.paper.specs.Numbers.{refused}
 use Rattle.paper.specs.Layout.{a_rule, end_set}
@@ -17,20 +18,19 @@ use Rattle.sheet_reader.specs.declared.OpenSet.{OpenSet}
 use Rattle.sheet_reader.specs.declared.Stands.{Stands}
 use Rattle.sheet_reader.specs.declared.Stands.TheVariants.{Outside, Sites, Rules, Items}
 use Rattle.sheet_reader.specs.declared.Event.TheVariants as event
-use Rattle.sheet_reader.specs.declared.Where.TheVariants.{In, Not}
 
-pub where_not : {A : Type 0} {x : OpenSet} → In x ≡ Not → A
+pub where_not : {A : Type 0} {x : OpenSet} → Some x ≡ None → A
 where_not e = let z : ◌≡◌ {A = ℕ} 0 1 = cc in absurd (omega arith)
 
 -- ---- where rules and the end may stand
-pub rule_out : (p : paper.Ended) (at : ℕ) (k : Lent) (s : Stands) (x y n : ℕ) → rule_set s ≡ Not → act p at (stands_in k s) (a_rule x y n) ≡ refused (Layout at)
+pub rule_out : (p : paper.Ended) (at : ℕ) (k : Lent) (s : Stands) (x y n : ℕ) → rule_set s ≡ None → act p at (stands_in k s) (a_rule x y n) ≡ refused (Layout at)
 unfolding act
 rule_out p at k Outside x y n e = refl
 rule_out p at k (Sites s) x y n e = where_not e
 rule_out p at k (Rules s) x y n e = where_not e
 rule_out p at k (Items s r m) x y n e = refl
 
-pub end_out : (p : paper.Ended) (at : ℕ) (k : Lent) (s : Stands) → rule_set s ≡ Not → act p at (stands_in k s) end_set ≡ refused (Layout at)
+pub end_out : (p : paper.Ended) (at : ℕ) (k : Lent) (s : Stands) → rule_set s ≡ None → act p at (stands_in k s) end_set ≡ refused (Layout at)
 unfolding act
 end_out p at k Outside e = refl
 end_out p at k (Sites s) e = where_not e
@@ -45,7 +45,7 @@ pub record Inside (p : paper.Ended) (at : ℕ) (k : Lent) (s : Stands) (g : Open
   pub ended : act_event (stands_in k s) end_set ≡ event.Ended
   pub fine : Fine k p s → Endable p (set_in k g)
 
-pub inside : (p : paper.Ended) (at : ℕ) (k : Lent) (s : Stands) (g : OpenSet) → rule_set s ≡ In g → Inside p at k s g
+pub inside : (p : paper.Ended) (at : ℕ) (k : Lent) (s : Stands) (g : OpenSet) → rule_set s ≡ Some g → Inside p at k s g
 unfolding act
 inside p at k Outside g e = where_not (sym e)
 inside p at k (Sites s) g e = let z : s ≡ g = cc in rw (← z) (record { rules = λ x y n. refl; events = λ x y n. refl; ends = refl; ended = refl; fine = λ f. f })

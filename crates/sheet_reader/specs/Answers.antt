@@ -1,4 +1,5 @@
 -- What a line's answer says: the paper's step, whole.
+use Rattle.std.specs.declared.option.Option.TheVariants.{None, Some}
 use Rattle.std.specs.Prelude.{◌≡◌, Bool, true, false, List, [], ℕ, zero, suc, ◌+◌, ◌≤◌, ◌<◌, length}
 use Rattle.paper.specs.declared.Item.{Item}
 use Rattle.paper.specs.declared.Refusal.{Refusal}
@@ -19,8 +20,7 @@ use Rattle.sheet_reader.specs.declared.Event.TheVariants as event
 use Rattle.sheet_reader.specs.declared.Stepped.{Stepped}
 use Rattle.sheet_reader.specs.declared.Stands.{Stands}
 use Rattle.sheet_reader.specs.declared.Stands.TheVariants.{Outside, Sites, Rules, Items}
-use Rattle.sheet_reader.specs.declared.Where.{Where}
-use Rattle.sheet_reader.specs.declared.Where.TheVariants.{In, Not}
+use Rattle.paper.specs.Answered.{Maybe}
 use Rattle.sheet_reader.specs.declared.Awaits.{Awaits}
 use Rattle.sheet_reader.specs.declared.Awaits.TheVariants.{Rule, NoRule}
 
@@ -31,17 +31,17 @@ is_outside (Sites s) = false
 is_outside (Rules s) = false
 is_outside (Items s r n) = false
 
-abbrev pub site_set : Stands → Where
-site_set Outside = Not
-site_set (Sites s) = In s
-site_set (Rules s) = Not
-site_set (Items s r n) = Not
+abbrev pub site_set : Stands → Maybe OpenSet
+site_set Outside = None
+site_set (Sites s) = Some s
+site_set (Rules s) = None
+site_set (Items s r n) = None
 
-abbrev pub rule_set : Stands → Where
-rule_set Outside = Not
-rule_set (Sites s) = In s
-rule_set (Rules s) = In s
-rule_set (Items s r n) = Not
+abbrev pub rule_set : Stands → Maybe OpenSet
+rule_set Outside = None
+rule_set (Sites s) = Some s
+rule_set (Rules s) = Some s
+rule_set (Items s r n) = None
 
 abbrev pub open_rule : Stands → Awaits
 open_rule Outside = NoRule

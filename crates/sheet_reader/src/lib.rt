@@ -87,13 +87,6 @@ pub struct Stepped {
     pub to: usize,
 }
 
-// The set that a frame is for, if the reader stands where the frame may stand.
-#[derive(Clone, Copy)]
-pub enum Where {
-    In(OpenSet),
-    Not,
-}
-
 // The rule whose items are to come, if there is one.
 #[derive(Clone, Copy)]
 pub enum Awaits {
@@ -118,26 +111,26 @@ pub fn outside(s: Stands) -> bool
 }
 
 // 02 may stand before the first 03 of an open set.
-pub fn site_set(s: Stands) -> Where
+pub fn site_set(s: Stands) -> Option<OpenSet>
     ensures { result ≡ site_set s }
 {
     match s {
-        Stands::Outside => Where::Not,
-        Stands::Sites(set) => Where::In(set),
-        Stands::Rules(_) => Where::Not,
-        Stands::Items { .. } => Where::Not,
+        Stands::Outside => None,
+        Stands::Sites(set) => Some(set),
+        Stands::Rules(_) => None,
+        Stands::Items { .. } => None,
     }
 }
 
 // 03 and 06 may stand in an open set, but not among the items of a rule.
-pub fn rule_set(s: Stands) -> Where
+pub fn rule_set(s: Stands) -> Option<OpenSet>
     ensures { result ≡ rule_set s }
 {
     match s {
-        Stands::Outside => Where::Not,
-        Stands::Sites(set) => Where::In(set),
-        Stands::Rules(set) => Where::In(set),
-        Stands::Items { .. } => Where::Not,
+        Stands::Outside => None,
+        Stands::Sites(set) => Some(set),
+        Stands::Rules(set) => Some(set),
+        Stands::Items { .. } => None,
     }
 }
 

@@ -7,6 +7,7 @@ use native.Mathlib.Omega.{arith}
 use lib.ListN.{length}
 use lib.Dec.{ltb}
 use borrow.Author.Tests.{lt-ltb, le-ltb, le-leb, ltb-true, ltb-false}
+use Rattle.std.specs.declared.option.Option.TheVariants.{None, Some}
 use Rattle.paper.specs.declared.Item.{Item}
 use Rattle.paper.specs.declared.Refusal.TheVariants.{Layout}
 use Rattle.paper.specs.Numbers.{max_items, Outcome, done, refused}
@@ -28,8 +29,7 @@ use Rattle.sheet_reader.specs.declared.Reader.{Reader}
 use Rattle.sheet_reader.specs.declared.Event.{Event}
 use Rattle.sheet_reader.specs.declared.Event.TheVariants as event
 use Rattle.sheet_reader.specs.declared.Stepped.{Stepped}
-use Rattle.sheet_reader.specs.declared.Where.{Where}
-use Rattle.sheet_reader.specs.declared.Where.TheVariants.{In, Not}
+use Rattle.paper.specs.Answered.{Maybe}
 use Rattle.sheet_reader.specs.declared.Awaits.{Awaits}
 use Rattle.sheet_reader.specs.declared.Awaits.TheVariants.{Rule, NoRule}
 use Rattle.item_words.specs.Items.{Ranged, put_item, items_in}
@@ -81,14 +81,14 @@ answers_from {r} {j} {k} {k'} {room} {room'} {at} {o} {e} {a} s q A =
     rw q (record { event = B.event; to = B.to; into = B.into; goes = B.goes; fits = B.fits })
 
 -- ---- 03
-module _ (r : Reader) (rule : Awaited) (m ws it room : List ℕ) (at : ℕ) (a : Stepped) (v : Where) (ev : v ≡ rule_set r.stands) where
+module _ (r : Reader) (rule : Awaited) (m ws it room : List ℕ) (at : ℕ) (a : Stepped) (v : Maybe OpenSet) (ev : v ≡ rule_set r.stands) where
   abbrev R : Written
   R = record { place = rule.place; priority = rule.priority; count = rule.count; items = [] }
 
-  pub rule_not : (room' : List ℕ) → v ≡ Not → Stops r (Layout r.line) room room' at a → (t : Square) (p : paper.Ended) → Tells r (lent m ws it t) p → Acts r (lent m ws it t) (lent m ws it t) room room' at p (a_rule rule.place rule.priority rule.count) a
+  pub rule_not : (room' : List ℕ) → v ≡ None → Stops r (Layout r.line) room room' at a → (t : Square) (p : paper.Ended) → Tells r (lent m ws it t) p → Acts r (lent m ws it t) (lent m ws it t) room room' at p (a_rule rule.place rule.priority rule.count) a
   rule_not room' e S t p T = stopped (Layout r.line) (rule_out p r.line (lent m ws it t) r.stands rule.place rule.priority rule.count (sym ev ∙ e)) S
 
-  module _ (g : OpenSet) (eg : v ≡ In g) where
+  module _ (g : OpenSet) (eg : v ≡ Some g) where
     pub rule_at_once : (m' ws' room' : List ℕ) → rule.count ≡ 0 → ((t : Square) (p : paper.Ended) → Reads r (lent m ws it t) (lent m' ws' it t) room room' at p g rule a) → (t : Square) (p : paper.Ended) → Tells r (lent m ws it t) p → Acts r (lent m ws it t) (lent m' ws' it t) room room' at p (a_rule rule.place rule.priority rule.count) a
     rule_at_once m' ws' room' z A t p T =
         let k = lent m ws it t in

@@ -4,6 +4,8 @@ use mathlib.Core.List.{List}
 use Prim.Native.Nat.{ℕ, ◌-◌, ◌<◌, ◌≤◌}
 use lib.Dec.{eqb, ltb}
 use borrow.Author.Tests.{eq-eqb, ne_eqb, lt-ltb, le-ltb}
+use Rattle.std.specs.declared.result.Result.TheVariants.{Err, Ok}
+use Rattle.std.specs.declared.option.Option.TheVariants.{None, Some}
 use Rattle.paper.specs.declared.Item.{Item}
 use Rattle.paper.specs.declared.Refusal.{Refusal}
 use Rattle.paper.specs.declared.Refusal.TheVariants.{Layout}
@@ -12,10 +14,9 @@ use Rattle.paper.specs.Sheets.{refusal_found}
 use Rattle.term_table.specs.Table.{Square}
 use Rattle.item_words.specs.Items as handed
 use Rattle.rule_load.specs.Whole.{load_in, loaded_as, sites_after, words_after}
-use Rattle.rule_load.specs.declared.Loaded.{Loaded}
-use Rattle.rule_load.specs.declared.Loaded.TheVariants as loaded
+use Rattle.paper.specs.Answered.{Answer}
 use Rattle.sheet_findings.specs.Written.{room_said, room_after}
-use Rattle.sheet_findings.specs.declared.Room.{Room}
+use Rattle.paper.specs.Answered.{Maybe}
 use Rattle.sheet_ended.specs.Sets.{to_or}
 use Rattle.sheet_reader.specs.State.{Lent, lent}
 use Rattle.sheet_reader.specs.Answers.{rule_set, open_rule}
@@ -26,8 +27,6 @@ use Rattle.sheet_reader.specs.declared.Reader.{Reader}
 use Rattle.sheet_reader.specs.declared.Event.TheVariants as event
 use Rattle.sheet_reader.specs.declared.Stands.TheVariants.{Rules, Items}
 use Rattle.sheet_reader.specs.declared.Stepped.{Stepped}
-use Rattle.sheet_reader.specs.declared.Where.{Where}
-use Rattle.sheet_reader.specs.declared.Where.TheVariants.{In, Not}
 use Rattle.sheet_reader.specs.declared.Awaits.{Awaits}
 use Rattle.sheet_reader.specs.declared.Awaits.TheVariants.{Rule, NoRule}
 use Rattle.sheet_reader.proofs.Leaving.{if_yes, if_no}
@@ -35,7 +34,7 @@ use Rattle.sheet_rule.specs.Rules.{next_rule_of, minus_of, item_kept}
 use Rattle.sheet_rule.specs.Leaves.{one_rule_more, rule_loaded, loaded_memory, load_of, read_in, rule_where, rule_in, with_kept, item_awaited, item_in}
 
 -- ---- a rule with all its items
-module _ (r : Reader) (g : OpenSet) (w : Awaited) (m ws it room : List ℕ) (at : ℕ) (a : Stepped) (v : Loaded) (m' ws' : List ℕ)
+module _ (r : Reader) (g : OpenSet) (w : Awaited) (m ws it room : List ℕ) (at : ℕ) (a : Stepped) (v : Answer ℕ) (m' ws' : List ℕ)
     (ev : v ≡ loaded_as (load_in m g.sites ws g.rules (handed.rule_in it w.place w.priority w.count)))
     (em : m' ≡ sites_after m g.sites (load_in m g.sites ws g.rules (handed.rule_in it w.place w.priority w.count)))
     (ew : ws' ≡ words_after ws g.rules (load_in m g.sites ws g.rules (handed.rule_in it w.place w.priority w.count))) (t : Square) where
@@ -52,7 +51,7 @@ module _ (r : Reader) (g : OpenSet) (w : Awaited) (m ws it room : List ℕ) (at 
       ∙ (ap (λ x. rule_loaded r (lent (sites_after m g.sites (load_of k g w)) x it t) room at g w v) ew
       ∙ ap (rule_loaded r (loaded_memory k g (load_of k g w)) room at g w) ev)
 
-  pub loads_kept : (j n : ℕ) (room' : List ℕ) → v ≡ loaded.Kept j → n ≡ next_rule_of g.rules → room' ≡ room → a ≡ gone_on r (Rules (record { term = g.term; flags = g.flags; sites = j; rules = n })) (event.Kept w.place w.priority) at → after a k' room' ≡ read_in r k room at g w
+  pub loads_kept : (j n : ℕ) (room' : List ℕ) → v ≡ Ok j → n ≡ next_rule_of g.rules → room' ≡ room → a ≡ gone_on r (Rules (record { term = g.term; flags = g.flags; sites = j; rules = n })) (event.Kept w.place w.priority) at → after a k' room' ≡ read_in r k room at g w
   loads_kept j n room' e en er ea =
       let more : a ≡ gone_on r (Rules (one_rule_more g j)) (event.Kept w.place w.priority) at =
       ea ∙ ap (λ c. gone_on r (Rules (record { term = g.term; flags = g.flags; sites = j; rules = c })) (event.Kept w.place w.priority) at) en in
@@ -60,7 +59,7 @@ module _ (r : Reader) (g : OpenSet) (w : Awaited) (m ws it room : List ℕ) (at 
       ∙ (ap (after (gone_on r (Rules (one_rule_more g j)) (event.Kept w.place w.priority) at) k') er
       ∙ (ap (rule_loaded r k' room at g w) (sym e) ∙ reads))
 
-  pub loads_refused : (why : Refusal) (room' : List ℕ) (o : Room) (to : ℕ) → v ≡ loaded.Refused why → o ≡ room_said room at (hex (refusal_found w.place why)) → room' ≡ room_after room at (hex (refusal_found w.place why)) → to ≡ to_or o at → a ≡ gone_on r (Rules g) (event.Refused w.place w.priority why) to → after a k' room' ≡ read_in r k room at g w
+  pub loads_refused : (why : Refusal) (room' : List ℕ) (o : Maybe ℕ) (to : ℕ) → v ≡ Err why → o ≡ room_said room at (hex (refusal_found w.place why)) → room' ≡ room_after room at (hex (refusal_found w.place why)) → to ≡ to_or o at → a ≡ gone_on r (Rules g) (event.Refused w.place w.priority why) to → after a k' room' ≡ read_in r k room at g w
   loads_refused why room' o to e eo er et ea =
       let line = hex (refusal_found w.place why) in
       let there : to ≡ to_or (room_said room at line) at = et ∙ ap (λ x. to_or x at) eo in
@@ -70,12 +69,12 @@ module _ (r : Reader) (g : OpenSet) (w : Awaited) (m ws it room : List ℕ) (at 
       ∙ (ap (rule_loaded r k' room at g w) (sym e) ∙ reads))
 
 -- ---- 03
-module _ (r : Reader) (w : Awaited) (m ws it room : List ℕ) (at : ℕ) (a : Stepped) (v : Where) (ev : v ≡ rule_set r.stands) where
-  pub rules_not : (room' : List ℕ) → v ≡ Not → ((k : Lent) → after a k room' ≡ stop_in r k room at (Layout r.line)) → (t : Square) → after a (lent m ws it t) room' ≡ rule_in r (lent m ws it t) room at w
+module _ (r : Reader) (w : Awaited) (m ws it room : List ℕ) (at : ℕ) (a : Stepped) (v : Maybe OpenSet) (ev : v ≡ rule_set r.stands) where
+  pub rules_not : (room' : List ℕ) → v ≡ None → ((k : Lent) → after a k room' ≡ stop_in r k room at (Layout r.line)) → (t : Square) → after a (lent m ws it t) room' ≡ rule_in r (lent m ws it t) room at w
   unfolding rule_in
   rules_not room' e S t = S (lent m ws it t) ∙ ap (rule_where r (lent m ws it t) room at w) (sym e ∙ ev)
 
-  module _ (g : OpenSet) (eg : v ≡ In g) where
+  module _ (g : OpenSet) (eg : v ≡ Some g) where
     pub rules_at_once : (m' ws' room' : List ℕ) → w.count ≡ 0 → ((t : Square) → after a (lent m' ws' it t) room' ≡ read_in r (lent m ws it t) room at g w) → (t : Square) → after a (lent m' ws' it t) room' ≡ rule_in r (lent m ws it t) room at w
     unfolding rule_in
     rules_at_once m' ws' room' z A t =

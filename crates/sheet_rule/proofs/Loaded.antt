@@ -7,6 +7,7 @@ use native.Mathlib.Omega.{arith}
 use lib.ListN.{length, length-append}
 use lib.Dec.{ltb, leb}
 use borrow.Author.Tests.{ltb-true}
+use Rattle.std.specs.declared.result.Result.TheVariants.{Err, Ok}
 use Rattle.paper.specs.declared.Refusal.{Refusal}
 use Rattle.paper.specs.declared.Refusal.TheVariants.{TooManyRules, TooManyItems, PlaceUsed}
 use Rattle.paper.specs.declared.Rule.{Rule}
@@ -22,8 +23,7 @@ use Rattle.rule_load.proofs.Afterwards.{load_is, refused_same, after_sites, afte
 use Rattle.rule_load.proofs.Ranging.{RuleFits}
 use Rattle.sites.proofs.Places.{sites_length}
 use native.Mathlib.Numerals.{add-one}
-use Rattle.rule_load.specs.declared.Loaded.{Loaded}
-use Rattle.rule_load.specs.declared.Loaded.TheVariants as loaded
+use Rattle.paper.specs.Answered.{Answer}
 use Rattle.sheet_reader.specs.State.{sites_room, kept_room}
 use Rattle.sheet_reader.proofs.Standing.{length_kept}
 
@@ -80,21 +80,21 @@ module _ (m ws : List ℕ) (n k t f : ℕ) (r : Rule) (hm : sites_room ≤ lengt
   here_is : load here (written r) ≡ (load_in m n ws k r >>= λ h. done (renamed t f h))
   here_is = load_named t f (bare m n ws k) (written r) ∙ ap (λ o. o >>= λ h. done (renamed t f h)) (sym (loads_as m ws n k r hm hw S few-rules))
 
-  loaded_refused : (o : Outcome Set) (x : Refusal) → loaded.Refused x ≡ loaded_as o → o ≡ refused x
+  loaded_refused : (o : Outcome Set) (x : Refusal) → Err x ≡ loaded_as o → o ≡ refused x
   loaded_refused (done g) x e = let z : ◌≡◌ {A = ℕ} 0 1 = cc in absurd (omega arith)
   loaded_refused (refused y) x e = let z : x ≡ y = cc in ap refused (sym z)
 
-  loaded_kept : (o : Outcome Set) (j : ℕ) → loaded.Kept j ≡ loaded_as o → (g : Set) × (o ≡ done g) × (j ≡ length g.sites)
+  loaded_kept : (o : Outcome Set) (j : ℕ) → Ok j ≡ loaded_as o → (g : Set) × (o ≡ done g) × (j ≡ length g.sites)
   loaded_kept (done g) j e = (g, refl, (cc))
   loaded_kept (refused y) j e = let z : ◌≡◌ {A = ℕ} 0 1 = cc in absurd (omega arith)
 
-  module _ (v : Loaded) (m' ws' : List ℕ) (ev : v ≡ loaded_as (load_in m n ws k r)) (em : m' ≡ sites_after m n (load_in m n ws k r)) (ew : ws' ≡ words_after ws k (load_in m n ws k r)) where
+  module _ (v : Answer ℕ) (m' ws' : List ℕ) (ev : v ≡ loaded_as (load_in m n ws k r)) (em : m' ≡ sites_after m n (load_in m n ws k r)) (ew : ws' ≡ words_after ws k (load_in m n ws k r)) where
     pub record Refusing (x : Refusal) : Type 0 where
       pub loads : load here (written r) ≡ refused x
       pub sites : m' ≡ m
       pub words : ws' ≡ ws
 
-    pub rule_refused : (x : Refusal) → v ≡ loaded.Refused x → Refusing x
+    pub rule_refused : (x : Refusal) → v ≡ Err x → Refusing x
     rule_refused x e =
         let o = loaded_refused (load_in m n ws k r) x (sym e ∙ ev) in
         record { loads = here_is ∙ ap (λ o. o >>= λ h. done (renamed t f h)) o; sites = em ∙ (refused_same m n ws k r x o).0; words = ew ∙ (refused_same m n ws k r x o).1 }
@@ -107,7 +107,7 @@ module _ (m ws : List ℕ) (n k t f : ℕ) (r : Rule) (hm : sites_room ≤ lengt
       pub few : length (kept_first ws k) < max_rules
       pub kept : length set.kept ≡ length (kept_first ws k) + 1
 
-    pub rule_kept : (j : ℕ) → v ≡ loaded.Kept j → Keeping j
+    pub rule_kept : (j : ℕ) → v ≡ Ok j → Keeping j
     rule_kept j e =
         let o = loaded_kept (load_in m n ws k r) j (sym e ∙ ev) in
         let g = o.0 in

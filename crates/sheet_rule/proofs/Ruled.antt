@@ -5,6 +5,7 @@ use Prim.Native.Nat.{ℕ, ◌+◌, ◌≤◌, ◌<◌, min}
 use native.Mathlib.Omega.{arith}
 use lib.ListN.{length}
 use borrow.Author.Tests.{lt-ltb}
+use Rattle.std.specs.declared.result.Result.TheVariants.{Err, Ok}
 use Rattle.paper.specs.declared.Item.{Item}
 use Rattle.paper.specs.declared.Refusal.{Refusal}
 use Rattle.paper.specs.Numbers.{max_rules, max_items, done, refused}
@@ -14,7 +15,7 @@ use Rattle.paper.specs.Sheets as paper
 use Rattle.paper.specs.Sheets.{stepped, at_rules, refusal_found, rule_read}
 use Rattle.term_table.specs.Table.{Square}
 use Rattle.sheet_findings.specs.Written.{room_said, room_after}
-use Rattle.sheet_findings.specs.declared.Room.{Room}
+use Rattle.paper.specs.Answered.{Maybe}
 use Rattle.sites.specs.Slots.{sites_in}
 use Rattle.rule_words.specs.Stored.{kept_first}
 use Rattle.sheet_ended.specs.Sets.{to_or}
@@ -32,8 +33,7 @@ use Rattle.paper.specs.declared.Rule as declared
 use Rattle.item_words.specs.Items as handed
 use Rattle.item_words.proofs.Laws.{rule_written}
 use Rattle.rule_load.specs.Whole.{loaded_as, load_in, sites_after, words_after}
-use Rattle.rule_load.specs.declared.Loaded.{Loaded}
-use Rattle.rule_load.specs.declared.Loaded.TheVariants as loaded
+use Rattle.paper.specs.Answered.{Answer}
 use Rattle.sheet_reader.proofs.Standing.{length_kept}
 use Rattle.sheet_rule.proofs.Loaded.{rule_refused, rule_kept}
 use Rattle.rule_load.proofs.Ranging.{RuleFits, ItemFits}
@@ -58,7 +58,7 @@ event_refused : (g : Set) (r : Written) (x : Refusal) → load g r ≡ refused x
 unfolding rule_event
 event_refused g r x e = rw (e, rule_event)
 
-module _ (r : Reader) (g : OpenSet) (rule : Awaited) (m ws it room : List ℕ) (at : ℕ) (a : Stepped) (w : declared.Rule) (v : Loaded) (m' ws' : List ℕ)
+module _ (r : Reader) (g : OpenSet) (rule : Awaited) (m ws it room : List ℕ) (at : ℕ) (a : Stepped) (w : declared.Rule) (v : Answer ℕ) (m' ws' : List ℕ)
     (er : w ≡ handed.rule_in it rule.place rule.priority rule.count) (ef : (rule.place < 4294967296) × (rule.priority < 18446744073709551616))
     (ev : v ≡ loaded_as (load_in m g.sites ws g.rules w)) (em : m' ≡ sites_after m g.sites (load_in m g.sites ws g.rules w)) (ew : ws' ≡ words_after ws g.rules (load_in m g.sites ws g.rules w)) where
   same_rule : (t : Square) → written w ≡ rule_in (lent m ws it t) rule rule.count
@@ -82,7 +82,7 @@ module _ (r : Reader) (g : OpenSet) (rule : Awaited) (m ws it room : List ℕ) (
   fits : RuleFits w
   fits = record { place = rw place_is ef.0; priority = rw priority_is ef.1; items = λ i j. item_fits i (items_ranged it (min rule.count max_items) i (rw items_are at j)) }
 
-  pub reads_refused : (why : Refusal) (room' : List ℕ) (o : Room) (to : ℕ) → v ≡ loaded.Refused why → at + step_room ≤ length room → o ≡ room_said room at (hex (refusal_found rule.place why)) → room' ≡ room_after room at (hex (refusal_found rule.place why)) → to ≡ to_or o at → a ≡ went r (Rules g) (event.Refused rule.place rule.priority why) to → (t : Square) (p : paper.Ended) → Reads r (lent m ws it t) (lent m' ws' it t) room room' at p g rule a
+  pub reads_refused : (why : Refusal) (room' : List ℕ) (o : Maybe ℕ) (to : ℕ) → v ≡ Err why → at + step_room ≤ length room → o ≡ room_said room at (hex (refusal_found rule.place why)) → room' ≡ room_after room at (hex (refusal_found rule.place why)) → to ≡ to_or o at → a ≡ went r (Rules g) (event.Refused rule.place rule.priority why) to → (t : Square) (p : paper.Ended) → Reads r (lent m ws it t) (lent m' ws' it t) room room' at p g rule a
   reads_refused why room' o to e l eo ero et ea t p H E R =
       let k = lent m ws it t in
       let F = rule_refused m ws g.sites g.rules g.term g.flags w R.sites R.words E.sites E.rules fits v m' ws' ev em ew why e in
@@ -95,7 +95,7 @@ module _ (r : Reader) (g : OpenSet) (rule : Awaited) (m ws it room : List ℕ) (
       (event_refused (set_in k g) (rule_in k rule rule.count) why L)
       ea (et ∙ ap (λ z. to_or z at) (said_to room at x o eo (omega arith))) (after_is room room' at x ero (omega arith)) (omega arith) refl H E R)
 
-  pub reads_kept : (j n : ℕ) (room' : List ℕ) → v ≡ loaded.Kept j → n ≡ next_rule_of g.rules → length m' ≡ length m → length ws' ≡ length ws → room' ≡ room → a ≡ went r (Rules (record { term = g.term; flags = g.flags; sites = j; rules = n })) (event.Kept rule.place rule.priority) at → (t : Square) (p : paper.Ended) → Reads r (lent m ws it t) (lent m' ws' it t) room room' at p g rule a
+  pub reads_kept : (j n : ℕ) (room' : List ℕ) → v ≡ Ok j → n ≡ next_rule_of g.rules → length m' ≡ length m → length ws' ≡ length ws → room' ≡ room → a ≡ went r (Rules (record { term = g.term; flags = g.flags; sites = j; rules = n })) (event.Kept rule.place rule.priority) at → (t : Square) (p : paper.Ended) → Reads r (lent m ws it t) (lent m' ws' it t) room room' at p g rule a
   reads_kept j n room' e en lm lw eo ea t p H E R =
       let k = lent m ws it t in
       let k' = lent m' ws' it t in

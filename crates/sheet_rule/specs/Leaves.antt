@@ -1,4 +1,6 @@
 -- What 03, 04 and 05 leave, whatever the reader and the lent memory hold.
+use Rattle.std.specs.declared.result.Result.TheVariants.{Err, Ok}
+use Rattle.std.specs.declared.option.Option.TheVariants.{None, Some}
 use Rattle.std.specs.Prelude.{List, ℕ, ◌-◌, eqb, ltb}
 use Rattle.paper.specs.declared.Item.{Item}
 use Rattle.paper.specs.declared.Refusal.TheVariants.{Layout}
@@ -9,8 +11,7 @@ use Rattle.paper.specs.Loading.{Set}
 use Rattle.paper.specs.Sheets.{refusal_found}
 use Rattle.item_words.specs.Items as handed
 use Rattle.rule_load.specs.Whole.{load_in, loaded_as, sites_after, words_after}
-use Rattle.rule_load.specs.declared.Loaded.{Loaded}
-use Rattle.rule_load.specs.declared.Loaded.TheVariants as loaded
+use Rattle.paper.specs.Answered.{Answer}
 use Rattle.sheet_findings.specs.Written.{room_said, room_after}
 use Rattle.sheet_ended.specs.Sets.{to_or}
 use Rattle.sheet_reader.specs.State.{Lent, lent}
@@ -21,8 +22,7 @@ use Rattle.sheet_reader.specs.declared.Awaited.{Awaited}
 use Rattle.sheet_reader.specs.declared.Reader.{Reader}
 use Rattle.sheet_reader.specs.declared.Event.TheVariants as event
 use Rattle.sheet_reader.specs.declared.Stands.TheVariants.{Rules, Items}
-use Rattle.sheet_reader.specs.declared.Where.{Where}
-use Rattle.sheet_reader.specs.declared.Where.TheVariants.{In, Not}
+use Rattle.paper.specs.Answered.{Maybe}
 use Rattle.sheet_reader.specs.declared.Awaits.{Awaits}
 use Rattle.sheet_reader.specs.declared.Awaits.TheVariants.{Rule, NoRule}
 use Rattle.sheet_rule.specs.Rules.{next_rule_of, minus_of, item_kept}
@@ -31,9 +31,9 @@ use Rattle.sheet_rule.specs.Rules.{next_rule_of, minus_of, item_kept}
 abbrev pub one_rule_more : OpenSet → ℕ → OpenSet
 one_rule_more s n = record { term = s.term; flags = s.flags; sites = n; rules = next_rule_of s.rules }
 
-abbrev pub rule_loaded : Reader → Lent → List ℕ → ℕ → OpenSet → Awaited → Loaded → After
-rule_loaded r k room at s w (loaded.Kept n) = after (gone_on r (Rules (one_rule_more s n)) (event.Kept w.place w.priority) at) k room
-rule_loaded r k room at s w (loaded.Refused why) =
+abbrev pub rule_loaded : Reader → Lent → List ℕ → ℕ → OpenSet → Awaited → Answer ℕ → After
+rule_loaded r k room at s w (Ok n) = after (gone_on r (Rules (one_rule_more s n)) (event.Kept w.place w.priority) at) k room
+rule_loaded r k room at s w (Err why) =
     let line = hex (refusal_found w.place why) in
     after (gone_on r (Rules s) (event.Refused w.place w.priority why) (to_or (room_said room at line) at)) k (room_after room at line)
 
@@ -49,9 +49,9 @@ read_in r k room at s w = rule_loaded r (loaded_memory k s (load_of k s w)) room
 
 -- ---- "03 place (4), priority (8, two's complement), item count (1), then its items": 1 where no set is open or items are to come; a rule without items
 -- is read at once
-abbrev pub rule_where : Reader → Lent → List ℕ → ℕ → Awaited → Where → After
-rule_where r k room at w Not = stop_in r k room at (Layout r.line)
-rule_where r k room at w (In s) =
+abbrev pub rule_where : Reader → Lent → List ℕ → ℕ → Awaited → Maybe OpenSet → After
+rule_where r k room at w None = stop_in r k room at (Layout r.line)
+rule_where r k room at w (Some s) =
     if eqb w.count 0 then read_in r k room at s w else after (gone_on r (Items s w w.count) event.Item at) k room
 
 unfoldable pub rule_in : Reader → Lent → List ℕ → ℕ → Awaited → After

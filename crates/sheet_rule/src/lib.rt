@@ -15,12 +15,10 @@ ghost use Rattle.sheet_rule.specs.Leaves.{read_in, rule_in, item_in};
 
 use item_words::hold_item;
 use paper::{ITEMS, Item, RULES, Refusal};
-use rule_load::{Loaded, load_handed};
+use rule_load::load_handed;
 use sheet_ended::to_or;
 use sheet_findings::write_refusal;
-use sheet_reader::{
-    Awaited, Awaits, Event, OpenSet, Reader, Stands, Stepped, Where, on, open_rule, rule_set, stop,
-};
+use sheet_reader::{Awaited, Awaits, Event, OpenSet, Reader, Stands, Stepped, on, open_rule, rule_set, stop};
 
 // One kept rule more; a set has no more than RULES.
 fn next_rule(n: u32) -> u32
@@ -71,7 +69,7 @@ fn read_rule(
     match load_handed(
         m, set.sites, words, set.rules, place, priority, rule.count, items,
     ) {
-        Loaded::Kept(n) => {
+        Ok(n) => {
             let more = OpenSet {
                 term: set.term,
                 flags: set.flags,
@@ -80,7 +78,7 @@ fn read_rule(
             };
             on(r, Stands::Rules(more), Event::Kept { place, priority }, at)
         }
-        Loaded::Refused(why) => {
+        Err(why) => {
             let w = write_refusal(place, why, room, at);
             let to = to_or(w, at);
             on(
@@ -118,7 +116,7 @@ pub fn rule_frame(
 {
     let line = r.line;
     let stands = r.stands;
-    let Where::In(set) = rule_set(stands) else {
+    let Some(set) = rule_set(stands) else {
         return stop(r, Refusal::Layout { line }, room, at);
     };
     let left = rule.count;

@@ -9,6 +9,7 @@ use native.Mathlib.Omega.{arith}
 use lib.ListN.{length, get_elem?, drop, length-append}
 use lib.Dec.{ltb, leb}
 use borrow.Author.Tests.{lt-ltb, le-ltb, le-leb}
+use Rattle.std.specs.declared.result.Result.TheVariants.{Err, Ok}
 use Rattle.paper.specs.declared.Refusal.{Refusal}
 use Rattle.paper.specs.declared.Refusal.TheVariants.{Repeated}
 use Rattle.paper.specs.Words.{any, first}
@@ -21,8 +22,9 @@ use Rattle.paper.specs.Loading.{Set, with_sites}
 use Rattle.paper.specs.Sheets as paper
 use Rattle.paper.specs.Sheets.{stepped, at_sites, site_read_in}
 use Rattle.sites.specs.Slots.{slot, sites_in, held_by, added_in, numbered_as, store, after_add}
+use Rattle.paper.specs.Answered.{Answer}
 use Rattle.sites.specs.declared.Numbered.{Numbered}
-use Rattle.sites.specs.declared.Numbered.TheVariants.{Known, Fresh, Refused}
+use Rattle.sites.specs.declared.Numbered.TheVariants.{Known, Fresh}
 use Rattle.sites.proofs.Places.{sites_length}
 use Rattle.sheet_reader.specs.State.{sites_room}
 
@@ -70,10 +72,10 @@ there_adds T at x i S e = go (number_of T x) refl
     go (some j) q = (j, rw (low, few, fits (term_of x) refl, q))
 
 -- ---- the three ways
-pub data Way (m : List ℕ) (n at : ℕ) (b : List ℕ) (x : Site) (p : paper.Ended) (g : Set) : Numbered → Type 0 where
-  was_known : (j : ℕ) → after_add m n (added_in m n at b) ≡ m → site_read_in p at g x ≡ refused (Repeated at) → Way m n at b x p g (Known j)
-  is_fresh : (j : ℕ) (a : Added) → added_in m n at b ≡ done a → length a.sites ≡ n + 1 → n < max_sites → site_read_in p at g x ≡ done (stepped p (at_sites (with_sites g a.sites)) []) → Way m n at b x p g (Fresh j)
-  was_refused : (w : Refusal) → after_add m n (added_in m n at b) ≡ m → site_read_in p at g x ≡ refused w → Way m n at b x p g (Refused w)
+pub data Way (m : List ℕ) (n at : ℕ) (b : List ℕ) (x : Site) (p : paper.Ended) (g : Set) : Answer Numbered → Type 0 where
+  was_known : (j : ℕ) → after_add m n (added_in m n at b) ≡ m → site_read_in p at g x ≡ refused (Repeated at) → Way m n at b x p g (Ok (Known j))
+  is_fresh : (j : ℕ) (a : Added) → added_in m n at b ≡ done a → length a.sites ≡ n + 1 → n < max_sites → site_read_in p at g x ≡ done (stepped p (at_sites (with_sites g a.sites)) []) → Way m n at b x p g (Ok (Fresh j))
+  was_refused : (w : Refusal) → after_add m n (added_in m n at b) ≡ m → site_read_in p at g x ≡ refused w → Way m n at b x p g (Err w)
 
 module _ (m : List ℕ) (n at : ℕ) (b : List ℕ) (x : Site) (p : paper.Ended) (g : Set) (q : whole (site_read b) ≡ some x) (s : g.sites ≡ sites_in m n) (S : Sound g.sites) (room : sites_room ≤ length m) where
   abbrev T : Sites
@@ -145,12 +147,12 @@ module _ (m : List ℕ) (n at : ℕ) (b : List ℕ) (x : Site) (p : paper.Ended)
 
 -- by the answer
 module _ (m : List ℕ) (n at : ℕ) (b : List ℕ) (x : Site) (p : paper.Ended) (g : Set) where
-  pub known_way : (v : Numbered) (j : ℕ) → v ≡ Known j → Way m n at b x p g v → (after_add m n (added_in m n at b) ≡ m) × (site_read_in p at g x ≡ refused (Repeated at))
+  pub known_way : (v : Answer Numbered) (j : ℕ) → v ≡ Ok (Known j) → Way m n at b x p g v → (after_add m n (added_in m n at b) ≡ m) × (site_read_in p at g x ≡ refused (Repeated at))
   known_way v j e (was_known i w r) = (w, r)
   known_way v j e (is_fresh i a r l h w) = let z : ◌≡◌ {A = ℕ} 0 1 = cc in absurd (omega arith)
   known_way v j e (was_refused w r f) = let z : ◌≡◌ {A = ℕ} 0 1 = cc in absurd (omega arith)
 
-  pub refused_way : (v : Numbered) (w : Refusal) → v ≡ Refused w → Way m n at b x p g v → (after_add m n (added_in m n at b) ≡ m) × (site_read_in p at g x ≡ refused w)
+  pub refused_way : (v : Answer Numbered) (w : Refusal) → v ≡ Err w → Way m n at b x p g v → (after_add m n (added_in m n at b) ≡ m) × (site_read_in p at g x ≡ refused w)
   refused_way v w e (was_known i u r) = let z : ◌≡◌ {A = ℕ} 0 1 = cc in absurd (omega arith)
   refused_way v w e (is_fresh i a r l h u) = let z : ◌≡◌ {A = ℕ} 0 1 = cc in absurd (omega arith)
   refused_way v w e (was_refused y r f) = let z : y ≡ w = cc in (r, f ∙ ap refused z)
@@ -162,7 +164,7 @@ module _ (m : List ℕ) (n at : ℕ) (b : List ℕ) (x : Site) (p : paper.Ended)
     pub few : n < max_sites
     pub reads : site_read_in p at g x ≡ done (stepped p (at_sites (with_sites g added.sites)) [])
 
-  pub fresh_way : (v : Numbered) (j : ℕ) → v ≡ Fresh j → Way m n at b x p g v → Fresher
+  pub fresh_way : (v : Answer Numbered) (j : ℕ) → v ≡ Ok (Fresh j) → Way m n at b x p g v → Fresher
   fresh_way v j e (was_known i u r) = let z : ◌≡◌ {A = ℕ} 0 1 = cc in absurd (omega arith)
   fresh_way v j e (is_fresh i a r l h u) = record { added = a; is = r; long = l; few = h; reads = u }
   fresh_way v j e (was_refused w r f) = let z : ◌≡◌ {A = ℕ} 0 1 = cc in absurd (omega arith)

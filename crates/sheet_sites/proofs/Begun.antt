@@ -6,6 +6,7 @@ use Prim.Native.Nat.{ℕ, suc}
 use native.Mathlib.Omega.{arith}
 use lib.Dec.{ltb, leb}
 use borrow.Author.Tests.{ltb-true, leb-true, not-true}
+use Rattle.std.specs.declared.result.Result.TheVariants.{Err, Ok}
 use Rattle.paper.specs.declared.Refusal.{Refusal}
 use Rattle.paper.specs.declared.Refusal.TheVariants.{Layout, Repeated, TooManySets, TermTooHigh}
 use Rattle.paper.specs.Words.{below}
@@ -20,8 +21,7 @@ use Rattle.sites.specs.Slots.{sites_in}
 use Rattle.sites.proofs.After.{sound_none}
 use Rattle.rule_words.specs.Stored.{run, kept_first}
 use Rattle.sheet_ended.specs.Sets.{verdict_as, may_begin}
-use Rattle.paper.specs.declared.Verdict.{Verdict}
-use Rattle.paper.specs.declared.Verdict.TheVariants as verdict
+use Rattle.paper.specs.Answered.{Verdict}
 use Rattle.paper.proofs.Lists.{no_way}
 use Rattle.sheet_ended.specs.Holds.{Holds, Endable}
 use Rattle.sheet_ended.proofs.Holds.{used_is, begun_is}
@@ -52,11 +52,11 @@ begin_is : (p : paper.Ended) (at : ℕ) (k : Lent) (s : Stands) (t f : ℕ) → 
 unfolding act
 begin_is p at k s t f e = let q = out_is s e in rw q
 
-begun_refused : (o : Outcome (Unit {0})) (x : Refusal) → verdict.Refused x ≡ verdict_as o → o ≡ refused x
+begun_refused : (o : Outcome (Unit {0})) (x : Refusal) → Err x ≡ verdict_as o → o ≡ refused x
 begun_refused (done u) x e = let z : ◌≡◌ {A = ℕ} 0 1 = cc in absurd (omega arith)
 begun_refused (refused y) x e = let z : x ≡ y = cc in ap refused (sym z)
 
-begun_fine : (o : Outcome (Unit {0})) → verdict.Fine ≡ verdict_as o → o ≡ done tt
+begun_fine : (o : Outcome (Unit {0})) → (Ok tt) ≡ verdict_as o → o ≡ done tt
 begun_fine (done u) e = refl
 begun_fine (refused y) e = let z : ◌≡◌ {A = ℕ} 0 1 = cc in absurd (omega arith)
 
@@ -65,7 +65,7 @@ module _ (r : Reader) (t f : ℕ) (room room' : List ℕ) (at : ℕ) (a : Steppe
   begin_not e S k p T = stopped (Layout r.line) (not_begin p r.line k r.stands t f (sym eb ∙ e)) S
 
   module _ (yes : b ≡ true) (v : Verdict) (ev : v ≡ verdict_as (may_begin r.ended t r.line)) where
-    pub begin_refused : (why : Refusal) → v ≡ verdict.Refused why → Stops r why room room' at a → (k : Lent) (p : paper.Ended) → Tells r k p → Acts r k k room room' at p (begin_set t f) a
+    pub begin_refused : (why : Refusal) → v ≡ Err why → Stops r why room room' at a → (k : Lent) (p : paper.Ended) → Tells r k p → Acts r k k room room' at p (begin_set t f) a
     begin_refused why e S k p T =
         let m = begun_refused (may_begin r.ended t r.line) why (sym e ∙ ev) in
         stopped why (begin_is p r.line k r.stands t f (sym eb ∙ yes) ∙ (begun_is r.ended k.table p T.holds r.line t f ∙ ap (λ o. o >>= λ _. done (stepped p (at_sites (empty_set t f)) [])) m)) S
@@ -97,7 +97,7 @@ module _ (r : Reader) (t f : ℕ) (room room' : List ℕ) (at : ℕ) (a : Steppe
         demand_term true x e = refl
         demand_term false x e = let z : ◌≡◌ {A = ℕ} 0 1 = cc in absurd (omega arith)
 
-    pub begin_fine : v ≡ verdict.Fine → a ≡ went r (Sites new) event.Begun at → room' ≡ room → (k : Lent) (p : paper.Ended) → Tells r k p → Acts r k k room room' at p (begin_set t f) a
+    pub begin_fine : v ≡ Ok tt → a ≡ went r (Sites new) event.Begun at → room' ≡ room → (k : Lent) (p : paper.Ended) → Tells r k p → Acts r k k room room' at p (begin_set t f) a
     begin_fine e i q k p T =
         let m = begun_fine (may_begin r.ended t r.line) (sym e ∙ ev) in
         let o : act p r.line (stands_in k r.stands) (begin_set t f) ≡ done (stepped p (at_sites (empty_set t f)) []) = begin_is p r.line k r.stands t f (sym eb ∙ yes) ∙ (begun_is r.ended k.table p T.holds r.line t f ∙ ap (λ o. o >>= λ _. done (stepped p (at_sites (empty_set t f)) [])) m) in

@@ -6,6 +6,8 @@ use Prim.Native.Nat.{ℕ, ◌-◌}
 use native.Mathlib.Omega.{arith}
 use lib.ListN.{length, take, drop}
 use borrow.Author.Tests.{lt-ltb}
+use Rattle.std.specs.declared.result.Result.TheVariants.{Err, Ok}
+use Rattle.std.specs.declared.option.Option.TheVariants.{None, Some}
 use Rattle.paper.specs.declared.Refusal.{Refusal}
 use Rattle.paper.specs.declared.Refusal.TheVariants.{Layout, Repeated}
 use Rattle.paper.specs.Numbers.{refused}
@@ -16,6 +18,7 @@ use Rattle.paper.specs.Sheets as paper
 use Rattle.paper.specs.Sheets.{at_sites, site_read_in, act}
 use Rattle.term_table.specs.Table.{Square}
 use Rattle.sites.specs.Slots.{sites_in, added_in, numbered_as, after_add}
+use Rattle.paper.specs.Answered.{Answer}
 use Rattle.sites.specs.declared.Numbered.{Numbered}
 use Rattle.sites.specs.declared.Numbered.TheVariants as numbered
 use Rattle.sites.proofs.After.{after_add_is, after_add_sound}
@@ -29,22 +32,21 @@ use Rattle.sheet_reader.specs.declared.Stands.TheVariants.{Outside, Sites, Rules
 use Rattle.sheet_reader.specs.declared.Reader.{Reader}
 use Rattle.sheet_reader.specs.declared.Event.TheVariants as event
 use Rattle.sheet_reader.specs.declared.Stepped.{Stepped}
-use Rattle.sheet_reader.specs.declared.Where.{Where}
-use Rattle.sheet_reader.specs.declared.Where.TheVariants.{In, Not}
+use Rattle.paper.specs.Answered.{Maybe}
 use Rattle.sheet_sites.proofs.Added.{Way, way, known_way, refused_way, fresh_way}
 use Rattle.sheet_reader.proofs.Acts.{stopped, goes_on}
 
-where_not : {A : Type 0} {x : OpenSet} → In x ≡ Not → A
+where_not : {A : Type 0} {x : OpenSet} → Some x ≡ None → A
 where_not e = let z : ◌≡◌ {A = ℕ} 0 1 = cc in absurd (omega arith)
 
-site_out : (p : paper.Ended) (at : ℕ) (k : Lent) (s : Stands) (x : Site) → site_set s ≡ Not → act p at (stands_in k s) (a_site x) ≡ refused (Layout at)
+site_out : (p : paper.Ended) (at : ℕ) (k : Lent) (s : Stands) (x : Site) → site_set s ≡ None → act p at (stands_in k s) (a_site x) ≡ refused (Layout at)
 unfolding act
 site_out p at k Outside x e = refl
 site_out p at k (Sites s) x e = where_not e
 site_out p at k (Rules s) x e = refl
 site_out p at k (Items s r n) x e = refl
 
-site_is : (s : Stands) (g : OpenSet) → site_set s ≡ In g → s ≡ Sites g
+site_is : (s : Stands) (g : OpenSet) → site_set s ≡ Some g → s ≡ Sites g
 site_is Outside g e = where_not (sym e)
 site_is (Sites s) g e = let z : s ≡ g = cc in ap Sites z
 site_is (Rules s) g e = where_not (sym e)
@@ -54,11 +56,11 @@ site_acts : (p : paper.Ended) (at : ℕ) (k : Lent) (g : OpenSet) (x : Site) →
 unfolding act
 site_acts p at k g x = refl
 
-module _ (r : Reader) (b : List ℕ) (room room' : List ℕ) (at : ℕ) (a : Stepped) (v : Where) (ev : v ≡ site_set r.stands) (m : List ℕ) where
-  pub site_not : v ≡ Not → Stops r (Layout r.line) room room' at a → (w i : List ℕ) (t : Square) (p : paper.Ended) (x : Site) → whole (site_read b) ≡ some x → Tells r (lent m w i t) p → Acts r (lent m w i t) (lent m w i t) room room' at p (a_site x) a
+module _ (r : Reader) (b : List ℕ) (room room' : List ℕ) (at : ℕ) (a : Stepped) (v : Maybe OpenSet) (ev : v ≡ site_set r.stands) (m : List ℕ) where
+  pub site_not : v ≡ None → Stops r (Layout r.line) room room' at a → (w i : List ℕ) (t : Square) (p : paper.Ended) (x : Site) → whole (site_read b) ≡ some x → Tells r (lent m w i t) p → Acts r (lent m w i t) (lent m w i t) room room' at p (a_site x) a
   site_not e S w i t p x q T = stopped (Layout r.line) (site_out p r.line (lent m w i t) r.stands x (sym ev ∙ e)) S
 
-  module _ (g : OpenSet) (eg : v ≡ In g) (u : Numbered) (m' : List ℕ) (eu : u ≡ numbered_as g.sites (added_in m g.sites r.line b)) (em : m' ≡ after_add m g.sites (added_in m g.sites r.line b)) where
+  module _ (g : OpenSet) (eg : v ≡ Some g) (u : Answer Numbered) (m' : List ℕ) (eu : u ≡ numbered_as g.sites (added_in m g.sites r.line b)) (em : m' ≡ after_add m g.sites (added_in m g.sites r.line b)) where
     stands_is : r.stands ≡ Sites g
     stands_is = site_is r.stands g (sym ev ∙ eg)
 
@@ -75,19 +77,19 @@ module _ (r : Reader) (b : List ℕ) (room room' : List ℕ) (at : ℕ) (a : Ste
       the_way : Way m g.sites r.line b x p (set_in k g) (numbered_as g.sites (added_in m g.sites r.line b))
       the_way = way m g.sites r.line b x p (set_in k g) q refl endable.sites T.roomy.sites
 
-      pub site_known : (j : ℕ) → u ≡ numbered.Known j → Stops r (Repeated r.line) room room' at a → Acts r k (lent m' w i t) room room' at p (a_site x) a
+      pub site_known : (j : ℕ) → u ≡ Ok (numbered.Known j) → Stops r (Repeated r.line) room room' at a → Acts r k (lent m' w i t) room room' at p (a_site x) a
       site_known j e S =
           let f = known_way m g.sites r.line b x p (set_in k g) _ j (sym eu ∙ e) the_way in
           let z : m' ≡ m = em ∙ f.0 in
           rw z (stopped (Repeated r.line) (acts ∙ f.1) S)
 
-      pub site_refused : (why : Refusal) → u ≡ numbered.Refused why → Stops r why room room' at a → Acts r k (lent m' w i t) room room' at p (a_site x) a
+      pub site_refused : (why : Refusal) → u ≡ Err why → Stops r why room room' at a → Acts r k (lent m' w i t) room room' at p (a_site x) a
       site_refused why e S =
           let f = refused_way m g.sites r.line b x p (set_in k g) _ why (sym eu ∙ e) the_way in
           let z : m' ≡ m = em ∙ f.0 in
           rw z (stopped why (acts ∙ f.1) S)
 
-      pub site_fresh : (j n : ℕ) → u ≡ numbered.Fresh j → length m' ≡ length m → n ≡ next_of g.sites → a ≡ went r (Sites (record { term = g.term; flags = g.flags; sites = n; rules = g.rules })) event.Site at → room' ≡ room → Acts r k (lent m' w i t) room room' at p (a_site x) a
+      pub site_fresh : (j n : ℕ) → u ≡ Ok (numbered.Fresh j) → length m' ≡ length m → n ≡ next_of g.sites → a ≡ went r (Sites (record { term = g.term; flags = g.flags; sites = n; rules = g.rules })) event.Site at → room' ≡ room → Acts r k (lent m' w i t) room room' at p (a_site x) a
       unfolding with_sites
       site_fresh j n e l en ea er =
           let f = fresh_way m g.sites r.line b x p (set_in k g) _ j (sym eu ∙ e) the_way in

@@ -1,10 +1,12 @@
 -- What 01 and 02 leave, whatever the reader and the lent memory hold.
+use Rattle.std.specs.declared.result.Result.TheVariants.{Err, Ok}
+use Rattle.std.specs.declared.option.Option.TheVariants.{None, Some}
 use Rattle.std.specs.Prelude.{List, ℕ, length, drop, eqb}
 use Rattle.paper.specs.declared.Refusal.TheVariants.{Layout, Repeated}
-use Rattle.paper.specs.declared.Verdict.{Verdict}
-use Rattle.paper.specs.declared.Verdict.TheVariants as verdict
+use Rattle.paper.specs.Answered.{Verdict}
 use Rattle.std.specs.Prelude.{if◌then◌else◌}
 use Rattle.sites.specs.Slots.{added_in, numbered_as, after_add}
+use Rattle.paper.specs.Answered.{Answer}
 use Rattle.sites.specs.declared.Numbered.{Numbered}
 use Rattle.sites.specs.declared.Numbered.TheVariants as numbered
 use Rattle.sheet_ended.specs.Sets.{verdict_as, may_begin}
@@ -15,8 +17,7 @@ use Rattle.sheet_reader.specs.declared.OpenSet.{OpenSet}
 use Rattle.sheet_reader.specs.declared.Reader.{Reader}
 use Rattle.sheet_reader.specs.declared.Event.TheVariants as event
 use Rattle.sheet_reader.specs.declared.Stands.TheVariants.{Sites}
-use Rattle.sheet_reader.specs.declared.Where.{Where}
-use Rattle.sheet_reader.specs.declared.Where.TheVariants.{In, Not}
+use Rattle.paper.specs.Answered.{Maybe}
 use Rattle.sheet_sites.specs.Numbers.{next_of}
 
 -- ---- "01 term, flags": 1 where a set is open, "9 for a term used before, then 7"
@@ -24,8 +25,8 @@ abbrev pub new_set : ℕ → ℕ → OpenSet
 new_set t f = record { term = t; flags = f; sites = 0; rules = 0 }
 
 abbrev pub begin_judged : Reader → Lent → List ℕ → ℕ → OpenSet → Verdict → After
-begin_judged r k room at s verdict.Fine = after (gone_on r (Sites s) event.Begun at) k room
-begin_judged r k room at s (verdict.Refused why) = stop_in r k room at why
+begin_judged r k room at s (Ok _) = after (gone_on r (Sites s) event.Begun at) k room
+begin_judged r k room at s (Err why) = stop_in r k room at why
 
 abbrev pub begin_as : Reader → Lent → List ℕ → ℕ → ℕ → ℕ → Verdict → After
 begin_as r k room at t f v = if is_outside r.stands then begin_judged r k room at (new_set t f) v else stop_in r k room at (Layout r.line)
@@ -37,14 +38,14 @@ begin_in r k room at t f = begin_as r k room at t f (verdict_as (may_begin r.end
 abbrev pub one_site_more : OpenSet → OpenSet
 one_site_more s = record { term = s.term; flags = s.flags; sites = next_of s.sites; rules = s.rules }
 
-abbrev pub site_numbered : Reader → Lent → List ℕ → ℕ → OpenSet → Numbered → After
-site_numbered r k room at s (numbered.Known i) = stop_in r k room at (Repeated r.line)
-site_numbered r k room at s (numbered.Refused why) = stop_in r k room at why
-site_numbered r k room at s (numbered.Fresh i) = after (gone_on r (Sites (one_site_more s)) event.Site at) k room
+abbrev pub site_numbered : Reader → Lent → List ℕ → ℕ → OpenSet → Answer Numbered → After
+site_numbered r k room at s (Ok (numbered.Known i)) = stop_in r k room at (Repeated r.line)
+site_numbered r k room at s (Err why) = stop_in r k room at why
+site_numbered r k room at s (Ok (numbered.Fresh i)) = after (gone_on r (Sites (one_site_more s)) event.Site at) k room
 
-abbrev pub site_where : Reader → Lent → List ℕ → ℕ → List ℕ → Where → After
-site_where r k room at b Not = stop_in r k room at (Layout r.line)
-site_where r k room at b (In s) =
+abbrev pub site_where : Reader → Lent → List ℕ → ℕ → List ℕ → Maybe OpenSet → After
+site_where r k room at b None = stop_in r k room at (Layout r.line)
+site_where r k room at b (Some s) =
     let added = added_in k.sites s.sites r.line b in
     site_numbered r (lent (after_add k.sites s.sites added) k.words k.items k.table) room at s (numbered_as s.sites added)
 

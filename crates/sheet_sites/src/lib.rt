@@ -13,9 +13,9 @@ ghost use Rattle.sheet_reader.specs.Leaves.{after};
 ghost use Rattle.sheet_sites.specs.Numbers.{next_of};
 ghost use Rattle.sheet_sites.specs.Leaves.{begin_in, site_in, site_line_in};
 
-use paper::{Refusal, Verdict};
+use paper::Refusal;
 use sheet_ended::may_begin;
-use sheet_reader::{Event, OpenSet, Reader, Stands, Stepped, Where, on, outside, site_set, stop};
+use sheet_reader::{Event, OpenSet, Reader, Stands, Stepped, on, outside, site_set, stop};
 use sites::{Numbered, add};
 
 fn next(n: u16) -> u16
@@ -37,7 +37,7 @@ pub fn begin_frame(r: Reader, term: u16, flags: u8, room: &mut [u8], at: usize) 
     }
     let ended = r.ended;
     let v = may_begin(ended, term, line);
-    if let Verdict::Refused(why) = v {
+    if let Err(why) = v {
         return stop(r, why, room, at);
     }
     let set = OpenSet {
@@ -60,13 +60,13 @@ fn site_frame(r: Reader, body: &[u8], m: &mut [u8], room: &mut [u8], at: usize) 
 {
     let line = r.line;
     let stands = r.stands;
-    let Where::In(set) = site_set(stands) else {
+    let Some(set) = site_set(stands) else {
         return stop(r, Refusal::Layout { line }, room, at);
     };
     match add(m, set.sites, body, line) {
-        Numbered::Known(_) => stop(r, Refusal::Repeated { line }, room, at),
-        Numbered::Refused(why) => stop(r, why, room, at),
-        Numbered::Fresh(_) => {
+        Ok(Numbered::Known(_)) => stop(r, Refusal::Repeated { line }, room, at),
+        Err(why) => stop(r, why, room, at),
+        Ok(Numbered::Fresh(_)) => {
             let more = OpenSet {
                 term: set.term,
                 flags: set.flags,

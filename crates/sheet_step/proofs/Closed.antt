@@ -5,6 +5,8 @@ use Prim.Native.Nat.{ℕ, zero, suc, ◌+◌, ◌-◌, ◌≤◌}
 use native.Mathlib.Omega.{arith}
 use lib.ListN.{length}
 use borrow.Author.Tests.{le-ltb}
+use Rattle.std.specs.declared.result.Result.TheVariants.{Ok}
+use Rattle.std.specs.declared.option.Option.TheVariants.{None, Some}
 use Rattle.paper.specs.declared.Refusal.TheVariants.{Layout}
 use Rattle.paper.specs.Words.{joined}
 use Rattle.paper.specs.Numbers.{max_rules, done}
@@ -24,8 +26,7 @@ use Rattle.sheet_reader.specs.declared.Stands.TheVariants.{Outside}
 use Rattle.sheet_reader.specs.declared.Reader.{Reader}
 use Rattle.sheet_reader.specs.declared.Event.TheVariants as event
 use Rattle.sheet_reader.specs.declared.Stepped.{Stepped}
-use Rattle.sheet_reader.specs.declared.Where.{Where}
-use Rattle.sheet_reader.specs.declared.Where.TheVariants.{In, Not}
+use Rattle.paper.specs.Answered.{Maybe}
 use lib.ListN.{take, drop, length-drop}
 use lib.Seq.{drop-drop}
 use borrow.Rule.Slice.PartMut.{put_mid, Post-is}
@@ -39,8 +40,8 @@ use Rattle.sheet_ended.specs.Holds.{with_ended}
 use Rattle.sheet_ended.proofs.Holds.{holds_more}
 use Rattle.report.specs.Lines.{report_text, report_room, reported}
 use Rattle.report.specs.Lines as lines
-use Rattle.report.specs.declared.Reported.{Reported}
-use Rattle.report.specs.declared.Reported.TheVariants as reported-is
+use Rattle.report.specs.Reported.{Reported}
+use Rattle.report.specs.declared.Unreported.TheVariants as reported-is
 use Rattle.report.proofs.ListLaws.{map_map}
 use Rattle.report.proofs.ReportLaws.{room_enough}
 use Rattle.sheet_lines.specs.Fed.{after_line}
@@ -70,7 +71,7 @@ module _ (ws : List ℕ) (n flags : ℕ) (room : List ℕ) (at : ℕ) (few : n �
   abbrev T : List ℕ
   T = report_text ws n flags
 
-  said : reported ws n flags (drop at room) ≡ reported-is.Done (length T)
+  said : reported ws n flags (drop at room) ≡ Ok (length T)
   unfolding reported
   said = let l = length-drop at room in rw (le-ltb max_rules n (omega arith), le-ltb (length (drop at room)) report_room (omega arith))
 
@@ -94,11 +95,11 @@ ended_text : (at : ℕ) (p : paper.Ended) (k : Lent) (g : OpenSet) → text_of a
 unfolding after_line report_text report
 ended_text at p k g = ap joined (map_map hex listed_found (report_for g.flags (kept_first k.words g.rules)))
 
-module _ (r : Reader) (m ws : List ℕ) (t : Square) (room : List ℕ) (at : ℕ) (a : Stepped) (v : Where) (ev : v ≡ rule_set r.stands) where
-  pub end_not : (room' : List ℕ) → v ≡ Not → Stops r (Layout r.line) room room' at a → (i : List ℕ) (p : paper.Ended) → Tells r (lent m ws i t) p → Acts r (lent m ws i t) (lent m ws i t) room room' at p end_set a
+module _ (r : Reader) (m ws : List ℕ) (t : Square) (room : List ℕ) (at : ℕ) (a : Stepped) (v : Maybe OpenSet) (ev : v ≡ rule_set r.stands) where
+  pub end_not : (room' : List ℕ) → v ≡ None → Stops r (Layout r.line) room room' at a → (i : List ℕ) (p : paper.Ended) → Tells r (lent m ws i t) p → Acts r (lent m ws i t) (lent m ws i t) room room' at p end_set a
   end_not room' e S i p T = stopped (Layout r.line) (end_out p r.line (lent m ws i t) r.stands (sym ev ∙ e)) S
 
-  pub end_ended : (g : OpenSet) (room' : List ℕ) (t' : Square) (to : ℕ) (E : EndedSets) → v ≡ In g → at + step_room ≤ length room → (to ≡ report_end ws g.rules g.flags room at) × (room' ≡ report_after ws g.rules g.flags room at) → t' ≡ with_edges t (edges_from g.term (sites_in m g.sites)) → E ≡ with_set r.ended g.term g.flags g.rules → a ≡ record { reader = record { line = r.line + 1; stands = Outside; ended = E }; event = event.Ended; to = to } → (i : List ℕ) (p : paper.Ended) → Tells r (lent m ws i t) p → Acts r (lent m ws i t) (lent m ws i t') room room' at p end_set a
+  pub end_ended : (g : OpenSet) (room' : List ℕ) (t' : Square) (to : ℕ) (E : EndedSets) → v ≡ Some g → at + step_room ≤ length room → (to ≡ report_end ws g.rules g.flags room at) × (room' ≡ report_after ws g.rules g.flags room at) → t' ≡ with_edges t (edges_from g.term (sites_in m g.sites)) → E ≡ with_set r.ended g.term g.flags g.rules → a ≡ record { reader = record { line = r.line + 1; stands = Outside; ended = E }; event = event.Ended; to = to } → (i : List ℕ) (p : paper.Ended) → Tells r (lent m ws i t) p → Acts r (lent m ws i t) (lent m ws i t') room room' at p end_set a
   end_ended g room' t' to E eg h er et ee ea i p T =
       let k = lent m ws i t in
       let k' = lent m ws i t' in

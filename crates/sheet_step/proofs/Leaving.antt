@@ -5,6 +5,7 @@ use Prim.Native.Nat.{ℕ, ◌+◌, ◌<◌, ◌≤◌}
 use lib.ListN.{length, take}
 use lib.Dec.{leb}
 use borrow.Author.Tests.{le-leb, lt-leb}
+use Rattle.std.specs.declared.option.Option.TheVariants.{None, Some}
 use Rattle.paper.specs.declared.Refusal.TheVariants.{Layout}
 use Rattle.paper.specs.Numbers.{last_line}
 use Rattle.term_table.specs.Table.{Square, with_edges}
@@ -22,19 +23,18 @@ use Rattle.sheet_reader.specs.declared.Reader.{Reader}
 use Rattle.sheet_reader.specs.declared.Event.TheVariants as event
 use Rattle.sheet_reader.specs.declared.Stands.TheVariants.{Outside}
 use Rattle.sheet_reader.specs.declared.Stepped.{Stepped}
-use Rattle.sheet_reader.specs.declared.Where.{Where}
-use Rattle.sheet_reader.specs.declared.Where.TheVariants.{In, Not}
+use Rattle.paper.specs.Answered.{Maybe}
 use Rattle.sheet_reader.proofs.Leaving.{if_yes, if_no}
 use Rattle.sheet_step.specs.Parts.{report_end, report_after}
 use Rattle.sheet_step.specs.Leaves.{set_closed, with_its_edges, end_where, end_in, frame_in, line_in, numbered_in, step_in}
 
 -- ---- 06
-module _ (r : Reader) (m ws : List ℕ) (t : Square) (room : List ℕ) (at : ℕ) (a : Stepped) (v : Where) (ev : v ≡ rule_set r.stands) where
-  pub ends_not : (room' : List ℕ) → v ≡ Not → ((k : Lent) → after a k room' ≡ stop_in r k room at (Layout r.line)) → (i : List ℕ) → after a (lent m ws i t) room' ≡ end_in r (lent m ws i t) room at
+module _ (r : Reader) (m ws : List ℕ) (t : Square) (room : List ℕ) (at : ℕ) (a : Stepped) (v : Maybe OpenSet) (ev : v ≡ rule_set r.stands) where
+  pub ends_not : (room' : List ℕ) → v ≡ None → ((k : Lent) → after a k room' ≡ stop_in r k room at (Layout r.line)) → (i : List ℕ) → after a (lent m ws i t) room' ≡ end_in r (lent m ws i t) room at
   unfolding end_in
   ends_not room' e S i = S (lent m ws i t) ∙ ap (end_where r (lent m ws i t) room at) (sym e ∙ ev)
 
-  pub ends_ended : (g : OpenSet) (room' : List ℕ) (t' : Square) (to : ℕ) (E : EndedSets) → v ≡ In g → (to ≡ report_end ws g.rules g.flags room at) × (room' ≡ report_after ws g.rules g.flags room at) → t' ≡ with_edges t (edges_from g.term (sites_in m g.sites)) → E ≡ with_set r.ended g.term g.flags g.rules → a ≡ record { reader = record { line = r.line + 1; stands = Outside; ended = E }; event = event.Ended; to = to } → (i : List ℕ) → after a (lent m ws i t') room' ≡ end_in r (lent m ws i t) room at
+  pub ends_ended : (g : OpenSet) (room' : List ℕ) (t' : Square) (to : ℕ) (E : EndedSets) → v ≡ Some g → (to ≡ report_end ws g.rules g.flags room at) × (room' ≡ report_after ws g.rules g.flags room at) → t' ≡ with_edges t (edges_from g.term (sites_in m g.sites)) → E ≡ with_set r.ended g.term g.flags g.rules → a ≡ record { reader = record { line = r.line + 1; stands = Outside; ended = E }; event = event.Ended; to = to } → (i : List ℕ) → after a (lent m ws i t') room' ≡ end_in r (lent m ws i t) room at
   unfolding end_in
   ends_ended g room' t' to E eg er et ee ea i =
       let k = lent m ws i t in

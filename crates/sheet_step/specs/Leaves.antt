@@ -1,4 +1,5 @@
 -- What a line leaves, whatever the reader and the lent memory hold: `step_in`.
+use Rattle.std.specs.declared.option.Option.TheVariants.{None, Some}
 use Rattle.std.specs.Prelude.{List, ℕ, ◌+◌, length, take, leb}
 use Rattle.paper.specs.declared.Refusal.TheVariants.{Layout}
 use Rattle.std.specs.Prelude.{if◌then◌else◌}
@@ -18,8 +19,7 @@ use Rattle.sheet_reader.specs.declared.Reader.{Reader}
 use Rattle.sheet_reader.specs.declared.Event.TheVariants as event
 use Rattle.sheet_reader.specs.declared.Stands.TheVariants.{Outside}
 use Rattle.sheet_reader.specs.declared.Stepped.{Stepped}
-use Rattle.sheet_reader.specs.declared.Where.{Where}
-use Rattle.sheet_reader.specs.declared.Where.TheVariants.{In, Not}
+use Rattle.paper.specs.Answered.{Maybe}
 use Rattle.sheet_sites.specs.Leaves.{begin_in, site_line_in}
 use Rattle.sheet_rule.specs.Leaves.{rule_in, item_in}
 use Rattle.sheet_step.specs.Parts.{report_end, report_after}
@@ -36,9 +36,9 @@ set_closed r k room at s =
 abbrev pub with_its_edges : Lent → OpenSet → Lent
 with_its_edges k s = lent k.sites k.words k.items (with_edges k.table (edges_from s.term (sites_in k.sites s.sites)))
 
-abbrev pub end_where : Reader → Lent → List ℕ → ℕ → Where → After
-end_where r k room at Not = stop_in r k room at (Layout r.line)
-end_where r k room at (In s) = after (set_closed r k room at s) (with_its_edges k s) (report_after k.words s.rules s.flags room at)
+abbrev pub end_where : Reader → Lent → List ℕ → ℕ → Maybe OpenSet → After
+end_where r k room at None = stop_in r k room at (Layout r.line)
+end_where r k room at (Some s) = after (set_closed r k room at s) (with_its_edges k s) (report_after k.words s.rules s.flags room at)
 
 unfoldable pub end_in : Reader → Lent → List ℕ → ℕ → After
 end_in r k room at = end_where r k room at (rule_set r.stands)

@@ -11,23 +11,21 @@ ghost use Rattle.sheet_step.specs.Parts.{count_of, report_end, report_after};
 ghost use Rattle.sheet_step.specs.Leaves.{end_in, numbered_in, step_in};
 
 use paper::{Refusal, TERMS};
-use report::{Reported, report};
+use report::{Unreported, report};
 use sheet_ended::{add_edges, with_set};
 use sheet_frames::{Frame, read_line};
-use sheet_reader::{
-    Awaited, Event, LAST_LINE, Reader, STEP_ROOM, Stands, Stepped, Where, rule_set, stop,
-};
+use sheet_reader::{Awaited, Event, LAST_LINE, Reader, STEP_ROOM, Stands, Stepped, rule_set, stop};
 use sheet_rule::{item_frame, rule_frame};
 use sheet_sites::{begin_frame, site_line};
 use term_table::WORDS;
 
-fn count_of(r: Reported) -> usize
+fn count_of(r: Result<u32, Unreported>) -> usize
     ensures { (result ≡ count_of r) × (result < 4294967296) }
 {
     match r {
-        Reported::Done(n) => n as usize,
-        Reported::TooManyRules(_) => 0,
-        Reported::NoRoom => 0,
+        Ok(n) => n as usize,
+        Err(Unreported::TooManyRules(_)) => 0,
+        Err(Unreported::NoRoom) => 0,
     }
 }
 
@@ -62,7 +60,7 @@ fn end_frame(
 {
     let line = r.line;
     let stands = r.stands;
-    let Where::In(set) = rule_set(stands) else {
+    let Some(set) = rule_set(stands) else {
         return stop(r, Refusal::Layout { line }, room, at);
     };
     let to = report_at(words, set.rules, set.flags, room, at);

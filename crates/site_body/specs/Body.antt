@@ -1,11 +1,11 @@
 -- One body of a site: its layout by tables, what bytes are read as, and whether it may be added. Definitions only.
+use Rattle.std.specs.declared.result.Result.TheVariants.{Err, Ok}
+use Rattle.std.specs.declared.option.Option.TheVariants.{None, Some}
 use Rattle.std.specs.Prelude.{Bool, true, false, not, List, [], ◌∷◌, ℕ, zero, suc, ◌+◌, ◌-◌, ◌*◌, length, get_or, ltb, leb}
 use Rattle.std.proofs.Math.Option.{Option, none, some}
-use Rattle.paper.specs.declared.Found.{Found}
-use Rattle.paper.specs.declared.Found.TheVariants.{At, Nothing}
+use Rattle.paper.specs.Answered.{Maybe}
 use Rattle.paper.specs.declared.Refusal.TheVariants.{Layout, TooManySources}
-use Rattle.paper.specs.declared.Verdict.{Verdict}
-use Rattle.paper.specs.declared.Verdict.TheVariants as verdict
+use Rattle.paper.specs.Answered.{Verdict}
 use Rattle.paper.specs.Words.{or_else, first}
 use Rattle.paper.specs.Numbers.{max_sources, Outcome, done, refused, ◌>>=◌, demand}
 use Rattle.paper.specs.Layout.{whole, site_read}
@@ -83,26 +83,26 @@ unfoldable pub site_of : List ℕ → Site
 site_of b = or_else (whole (site_read b)) no_site
 
 -- an answer that may be missing
-abbrev pub found_as : Option ℕ → Found
-found_as none = Nothing
-found_as (some n) = At n
+abbrev pub found_as : Option ℕ → Maybe ℕ
+found_as none = None
+found_as (some n) = Some n
 
 -- the source of a site that can be a child, with its variant and its field
-unfoldable pub link_of : Site → Link
-link_of (const_bool t v) = link.Nothing
-link_of (const_int t h l) = link.Nothing
-link_of (const_prim v) = link.Nothing
-link_of (argument i) = link.Nothing
-link_of (extractor t s) = link.Nothing
-link_of (constructor t n l) = link.Nothing
-link_of (iterator s) = link.Nothing
-link_of (make_variant t v l) = link.Nothing
-link_of (match_variant s v f) = link.Variant s v f
-link_of (make_struct t l) = link.Nothing
-link_of (extract_struct s f) = link.Struct s f
-link_of (make_some s) = link.Nothing
-link_of (match_some s) = link.Some s
-link_of (match_tuple s f) = link.Nothing
+unfoldable pub link_of : Site → Maybe Link
+link_of (const_bool t v) = None
+link_of (const_int t h l) = None
+link_of (const_prim v) = None
+link_of (argument i) = None
+link_of (extractor t s) = None
+link_of (constructor t n l) = None
+link_of (iterator s) = None
+link_of (make_variant t v l) = None
+link_of (match_variant s v f) = Some (link.Variant s v f)
+link_of (make_struct t l) = None
+link_of (extract_struct s f) = Some (link.Struct s f)
+link_of (make_some s) = None
+link_of (match_some s) = Some (link.Some s)
+link_of (match_tuple s f) = None
 
 -- ---- may it be added
 
@@ -118,8 +118,8 @@ admits n at s = do
   term_fits (term_of s)
 
 abbrev pub verdict_as : Outcome (Unit {0}) → Verdict
-verdict_as (done a) = verdict.Fine
-verdict_as (refused r) = verdict.Refused r
+verdict_as (done a) = Ok tt
+verdict_as (refused r) = Err r
 
 -- the same of a body; "not as laid out" before all else
 abbrev pub admits_body : ℕ → ℕ → Option Site → Outcome (Unit {0})

@@ -8,7 +8,7 @@ ghost use Rattle.paper.specs.Layout.{whole, site_read};
 ghost use Rattle.paper.specs.Sites.{sources, term_of, parent};
 ghost use Rattle.site_body.specs.Body.{off_of, many_of, words, kind, is_body, site_of, found_as, link_of, missing, admits_body, verdict_as};
 
-use paper::{Found, Refusal, SOURCES, TERMS, Verdict};
+use paper::{Refusal, SOURCES, TERMS};
 use widths::size8;
 
 const KINDS: usize = 14;
@@ -35,7 +35,6 @@ pub enum Link {
     Some {
         source: u16,
     },
-    Nothing,
 }
 
 // The byte at a place, 0 past the end.
@@ -124,91 +123,91 @@ pub fn source_count(b: &[u8]) -> usize
 }
 
 // Source j, counted from 0.
-pub fn source(b: &[u8], j: usize) -> Found
+pub fn source(b: &[u8], j: usize) -> Option<u16>
     ensures { result ≡ found_as (get_elem? (sources (site_of b.now)) j) }
 {
     if !is_body(b) {
         if j == 0 {
-            return Found::At(65535);
+            return Some(65535);
         }
-        return Found::Nothing;
+        return None;
     }
     if many_of(b) <= j {
-        return Found::Nothing;
+        return None;
     }
-    Found::At(word_at(b, off_of(b) + 2 * j))
+    Some(word_at(b, off_of(b) + 2 * j))
 }
 
-fn term_in(b: &[u8]) -> Found
+fn term_in(b: &[u8]) -> Option<u16>
     requires { is_body b.now ≡ true }
     ensures { result ≡ found_as (term_of (site_of b.now)) }
 {
     let k = byte_at(b, 0);
     if k == 4 {
-        return Found::At(word_at(b, 1));
+        return Some(word_at(b, 1));
     }
     if k == 5 {
-        return Found::At(word_at(b, 1));
+        return Some(word_at(b, 1));
     }
-    Found::Nothing
+    None
 }
 
 // The term of an Extractor or a Constructor.
-pub fn term(b: &[u8]) -> Found
+pub fn term(b: &[u8]) -> Option<u16>
     ensures { result ≡ found_as (term_of (site_of b.now)) }
 {
     if !is_body(b) {
-        return Found::Nothing;
+        return None;
     }
     term_in(b)
 }
 
 // The source of a MatchVariant, an ExtractStruct or a MatchSome, with its variant and its field.
-pub fn link_of(b: &[u8]) -> Link
+pub fn link_of(b: &[u8]) -> Option<Link>
     ensures { result ≡ link_of (site_of b.now) }
 {
     if !is_body(b) {
-        return Link::Nothing;
+        return None;
     }
     let k = byte_at(b, 0);
     if k == 8 {
-        return Link::Variant {
+        return Some(Link::Variant {
             source: word_at(b, 1),
             variant: word_at(b, 3),
             field: byte_at(b, 5),
-        };
+        });
     }
     if k == 10 {
-        return Link::Struct {
+        return Some(Link::Struct {
             source: word_at(b, 1),
             field: byte_at(b, 3),
-        };
+        });
     }
     if k == 12 {
-        return Link::Some {
+        return Some(Link::Some {
             source: word_at(b, 1),
-        };
+        });
     }
-    Link::Nothing
+    None
 }
 
-pub fn parent(b: &[u8]) -> Found
+pub fn parent(b: &[u8]) -> Option<u16>
     ensures { result ≡ found_as (parent (site_of b.now)) }
 {
     match link_of(b) {
-        Link::Variant {
+        Some(Link::Variant {
             source,
             variant: _,
             field: _,
-        } => Found::At(source),
-        Link::Struct { source, field: _ } => Found::At(source),
-        Link::Some { source } => Found::At(source),
-        Link::Nothing => Found::Nothing,
+        }) => Some(source),
+        Some(Link::Struct { source, field: _ }) => Some(source),
+        Some(Link::Some { source }) => Some(source),
+        None => None,
     }
 }
 
 // The first of `many` sources, two bytes each from `from` on, that is not below the count.
-fn first_missing(b: &[u8], from: usize, many: usize, count: u16) -> Found
+fn first_missing(b: &[u8], from: usize, many: usize, count: u16) -> Option<u16>
     requires { from + 2 * many ≤ length b.now }
     ensures { result ≡ found_as (missing count (words many (drop from b.now))) }
 {
@@ -217,38 +216,38 @@ fn first_missing(b: &[u8], from: usize, many: usize, count: u16) -> Found
     while 0 < left {
         let s = word_at(b, at);
         if count <= s {
-            return Found::At(s);
+            return Some(s);
         }
         at += 2;
         left -= 1;
     }
-    Found::Nothing
+    None
 }
 
 // May this body be added to a set of so many sites? Looks at all but the sites themselves. `at` is the item or the line that asks.
-pub fn judge(b: &[u8], count: u16, at: u32) -> Verdict
+pub fn judge(b: &[u8], count: u16, at: u32) -> Result<(), Refusal>
     ensures { result ≡ verdict_as (admits_body count at (whole (site_read b.now))) }
 {
     if !is_body(b) {
-        return Verdict::Refused(Refusal::Layout { line: at });
+        return Err(Refusal::Layout { line: at });
     }
     let many = many_of(b);
     let lost = first_missing(b, off_of(b), many, count);
-    if let Found::At(s) = lost {
-        return Verdict::Refused(Refusal::Unknown { site: s });
+    if let Some(s) = lost {
+        return Err(Refusal::Unknown { site: s });
     }
     if SOURCES < many {
-        return Verdict::Refused(Refusal::TooManySources {
+        return Err(Refusal::TooManySources {
             asked: many as u32,
             at,
         });
     }
     let named = term_in(b);
-    let Found::At(t) = named else {
-        return Verdict::Fine;
+    let Some(t) = named else {
+        return Ok(());
     };
     if TERMS <= t as usize {
-        return Verdict::Refused(Refusal::TermTooHigh { asked: t as u32 });
+        return Err(Refusal::TermTooHigh { asked: t as u32 });
     }
-    Verdict::Fine
+    Ok(())
 }

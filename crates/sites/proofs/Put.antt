@@ -9,8 +9,8 @@ use lib.ListN.{length, take, drop, set, length-append, length-take, length-drop,
 use lib.Seq.{take_at, drop-append-add, drop-drop, drop-set-lt, take-suc-set, append_snoc}
 use lib.Dec.{leb}
 use borrow.Author.Tests.{le-leb, lt-leb, leb-true, leb-false}
-use Rattle.sites.specs.declared.Wrote.{Wrote}
-use Rattle.sites.specs.declared.Wrote.TheVariants.{To, Full}
+use Rattle.std.specs.declared.option.Option.TheVariants.{None, Some}
+use Rattle.paper.specs.Answered.{Maybe}
 use Rattle.sites.specs.Slots.{put, end_at, Writes}
 use Rattle.std.specs.Prelude.{if◌then◌else◌}
 
@@ -46,37 +46,37 @@ put_nil m at = let e : at + length {A = ℕ} [] ≡ at = omega arith in rw (e, a
 -- the rest of a list from a place on, as a part has it
 
 -- ---- where writing ends
-pub end_to : (room at : ℕ) (u : List ℕ) (e : ℕ) → To e ≡ end_at room at u → (e ≡ at + length u) × (at + length u ≤ room)
+pub end_to : (room at : ℕ) (u : List ℕ) (e : ℕ) → Some e ≡ end_at room at u → (e ≡ at + length u) × (at + length u ≤ room)
 end_to room at u e h = go (leb (at + length u) room) refl h
   where
-    go : (t : Bool) → leb (at + length u) room ≡ t → To e ≡ (if t then To (at + length u) else Full) → (e ≡ at + length u) × (at + length u ≤ room)
+    go : (t : Bool) → leb (at + length u) room ≡ t → Some e ≡ (if t then Some (at + length u) else None) → (e ≡ at + length u) × (at + length u ≤ room)
     go true p h = ((cc), leb-true _ _ p)
     go false p h = absurd (let z : ◌≡◌ {A = ℕ} 0 1 = cc in omega arith)
 
-pub end_full : (room at : ℕ) (u : List ℕ) → Full ≡ end_at room at u → room < at + length u
+pub end_full : (room at : ℕ) (u : List ℕ) → None ≡ end_at room at u → room < at + length u
 end_full room at u h = go (leb (at + length u) room) refl h
   where
-    go : (t : Bool) → leb (at + length u) room ≡ t → Full ≡ (if t then To (at + length u) else Full) → room < at + length u
+    go : (t : Bool) → leb (at + length u) room ≡ t → None ≡ (if t then Some (at + length u) else None) → room < at + length u
     go true p h = absurd (let z : ◌≡◌ {A = ℕ} 0 1 = cc in omega arith)
     go false p h = leb-false _ _ p
 
-pub writes_fits : (out : List ℕ) (at : ℕ) (u : List ℕ) (e : ℕ) (out' : List ℕ) → Writes out at u (To e) out' → (e ≡ at + length u) × (at + length u ≤ length out) × (out' ≡ put out at u)
+pub writes_fits : (out : List ℕ) (at : ℕ) (u : List ℕ) (e : ℕ) (out' : List ℕ) → Writes out at u (Some e) out' → (e ≡ at + length u) × (at + length u ≤ length out) × (out' ≡ put out at u)
 writes_fits out at u e out' w = let v = end_to (length out) at u e w.is in (v.0, v.1, w.bytes v.1)
 
 -- nothing is written; bytes are written; they do not fit
-pub writes_none : (out : List ℕ) (at : ℕ) → at ≤ length out → Writes out at [] (To at) out
+pub writes_none : (out : List ℕ) (at : ℕ) → at ≤ length out → Writes out at [] (Some at) out
 writes_none out at h =
     let n : at + length {A = ℕ} [] ≡ at = omega arith in
     record { is = rw (n, le-leb at (length out) h); bytes = λ _. sym (put_nil out at) }
 
-pub writes_put : (out : List ℕ) (at : ℕ) (u out' : List ℕ) → at + length u ≤ length out → out' ≡ put out at u → Writes out at u (To (at + length u)) out'
+pub writes_put : (out : List ℕ) (at : ℕ) (u out' : List ℕ) → at + length u ≤ length out → out' ≡ put out at u → Writes out at u (Some (at + length u)) out'
 writes_put out at u out' h e = record { is = rw (le-leb (at + length u) (length out) h); bytes = λ _. e }
 
-pub writes_short : (out : List ℕ) (at : ℕ) (u out' : List ℕ) → length out < at + length u → Writes out at u Full out'
+pub writes_short : (out : List ℕ) (at : ℕ) (u out' : List ℕ) → length out < at + length u → Writes out at u None out'
 writes_short out at u out' h = record { is = rw (lt-leb (at + length u) (length out) h); bytes = λ l. absurd (omega arith) }
 
 -- one thing after another; the first does not fit
-pub writes_then : (out : List ℕ) (at : ℕ) (x y : List ℕ) (e : ℕ) (r : Wrote) (o o' : List ℕ) → at ≤ length out → length o ≡ length out → Writes out at x (To e) o → Writes o e y r o' → Writes out at (x ++ y) r o'
+pub writes_then : (out : List ℕ) (at : ℕ) (x y : List ℕ) (e : ℕ) (r : Maybe ℕ) (o o' : List ℕ) → at ≤ length out → length o ≡ length out → Writes out at x (Some e) o → Writes o e y r o' → Writes out at (x ++ y) r o'
 writes_then out at x y e r o o' h l w v =
     let a = writes_fits out at x e o w in
     let p : e ≡ at + length x = a.0 in
@@ -87,7 +87,7 @@ writes_then out at x y e r o o' h l w v =
       bytes = λ f. v.bytes (omega arith) ∙ rw (q, p) (put_put out at x y h);
     }
 
-pub writes_stop : (out : List ℕ) (at : ℕ) (x y o o' : List ℕ) → Writes out at x Full o → Writes out at (x ++ y) Full o'
+pub writes_stop : (out : List ℕ) (at : ℕ) (x y o o' : List ℕ) → Writes out at x None o → Writes out at (x ++ y) None o'
 writes_stop out at x y o o' w =
     let a = end_full (length out) at x w.is in
     writes_short out at (x ++ y) o' (simp length-append (omega arith))

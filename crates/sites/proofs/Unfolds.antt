@@ -7,6 +7,8 @@ use native.Mathlib.Omega.{arith}
 use lib.ListN.{length, get_or, take, drop}
 use lib.Seq.{get_or_at, take-append_seam}
 use borrow.Author.Tests.{lt-ltb, le-ltb, le-leb, lt-leb}
+use Rattle.std.specs.declared.result.Result.TheVariants.{Err, Ok}
+use Rattle.std.specs.declared.option.Option.TheVariants.{None, Some}
 use Rattle.paper.specs.Words.{joined, below}
 use Rattle.paper.specs.Numbers.{max_unfolding, Outcome, done, refused}
 use Rattle.paper.specs.declared.Refusal.{Refusal}
@@ -17,9 +19,7 @@ use Rattle.paper.proofs.Lists.{rest_of}
 use Rattle.site_body.specs.Body.{is_body, many_of, no_site, off_of, site_of, words}
 use Rattle.site_body.proofs.Tables.{split}
 use Rattle.site_body.proofs.Back.{Bytes}
-use Rattle.sites.specs.declared.Wrote.{Wrote}
-use Rattle.sites.specs.declared.Wrote.TheVariants.{To, Full}
-use Rattle.sites.specs.declared.Unfolded.TheVariants as unfolding'
+use Rattle.paper.specs.Answered.{Maybe}
 use Rattle.sites.specs.Slots.{slot_body, site_in, sites_in, put, Writes, unfolded_in, unfolded_as, after_unfold, length_below}
 use Rattle.site_body.proofs.Turns.{words_cons}
 use Rattle.site_body.proofs.Bodies.{laid_in, site_none}
@@ -70,13 +70,13 @@ module _ (m : List ℕ) (s : ℕ) (b : List ℕ) (f : Bytes b) (q : b ≡ slot_b
   head_fits = let l = laid_in b f e in omega (arith, l.size)
 
   module _ (out : List ℕ) (at : ℕ) (h : at ≤ length out) where
-    pub stop_head : (o₁ o₂ : List ℕ) → Writes out at (take o b) Full o₁ → Writes out at (unfolded_in m s) Full o₂
+    pub stop_head : (o₁ o₂ : List ℕ) → Writes out at (take o b) None o₁ → Writes out at (unfolded_in m s) None o₂
     stop_head o₁ o₂ w = rw three_parts (writes_stop out at (take o b) (written ++ drop (o + 2 * k) b) o₁ o₂ w)
 
-    pub stop_sources : (i : ℕ) (o₁ o₂ o₃ : List ℕ) → length o₁ ≡ length out → Writes out at (take o b) (To i) o₁ → Writes o₁ i written Full o₂ → Writes out at (unfolded_in m s) Full o₃
-    stop_sources i o₁ o₂ o₃ l w v = rw three_parts (writes_then out at (take o b) (written ++ drop (o + 2 * k) b) i Full o₁ o₃ h l w (writes_stop o₁ i written (drop (o + 2 * k) b) o₂ o₃ v))
+    pub stop_sources : (i : ℕ) (o₁ o₂ o₃ : List ℕ) → length o₁ ≡ length out → Writes out at (take o b) (Some i) o₁ → Writes o₁ i written None o₂ → Writes out at (unfolded_in m s) None o₃
+    stop_sources i o₁ o₂ o₃ l w v = rw three_parts (writes_then out at (take o b) (written ++ drop (o + 2 * k) b) i None o₁ o₃ h l w (writes_stop o₁ i written (drop (o + 2 * k) b) o₂ o₃ v))
 
-    pub all_three : (i j : ℕ) (r : Wrote) (o₁ o₂ o₃ : List ℕ) → length o₁ ≡ length out → length o₂ ≡ length o₁ → Writes out at (take o b) (To i) o₁ → Writes o₁ i written (To j) o₂ → Writes o₂ j (take (length b - (o + 2 * k)) (drop (o + 2 * k) b)) r o₃ → Writes out at (unfolded_in m s) r o₃
+    pub all_three : (i j : ℕ) (r : Maybe ℕ) (o₁ o₂ o₃ : List ℕ) → length o₁ ≡ length out → length o₂ ≡ length o₁ → Writes out at (take o b) (Some i) o₁ → Writes o₁ i written (Some j) o₂ → Writes o₂ j (take (length b - (o + 2 * k)) (drop (o + 2 * k) b)) r o₃ → Writes out at (unfolded_in m s) r o₃
     all_three i j r o₁ o₂ o₃ l l' w v u =
         let a = writes_fits out at (take o b) i o₁ w in
         let t = rest_of b (o + 2 * k) in
@@ -84,7 +84,7 @@ module _ (m : List ℕ) (s : ℕ) (b : List ℕ) (f : Bytes b) (q : b ≡ slot_b
         rw three_parts (writes_then out at (take o b) (written ++ drop (o + 2 * k) b) i r o₁ o₃ h l w (writes_then o₁ i written (drop (o + 2 * k) b) j r o₂ o₃ c l' v (rw t at u)))
 
 -- where writing ended is within the room
-pub end_inside : (out : List ℕ) (at : ℕ) (u : List ℕ) (e : ℕ) (o : List ℕ) → Writes out at u (To e) o → length o ≡ length out → e ≤ length o
+pub end_inside : (out : List ℕ) (at : ℕ) (u : List ℕ) (e : ℕ) (o : List ℕ) → Writes out at u (Some e) o → length o ≡ length out → e ≤ length o
 end_inside out at u e o w l = let a = writes_fits out at u e o w in omega (arith, a.0, a.1)
 
 -- ---- the sources that are left
@@ -98,7 +98,7 @@ module _ (m : List ℕ) (s : ℕ) (b : List ℕ) (from left : ℕ) where
   abbrev others : List ℕ
   others = joined (map W (words (left - 1) (drop (from + 2) b)))
 
-  pub none_left : (out : List ℕ) (at : ℕ) → at ≤ length out → left ≡ 0 → Writes out at these (To at) out
+  pub none_left : (out : List ℕ) (at : ℕ) → at ≤ length out → left ≡ 0 → Writes out at these (Some at) out
   unfolding words joined
   none_left out at h e = rw e (writes_none out at h)
 
@@ -111,13 +111,13 @@ module _ (m : List ℕ) (s : ℕ) (b : List ℕ) (from left : ℕ) where
         ap (λ i. words i (drop from b)) e ∙ words_cons (left - 1) b from (omega arith) ∙ ap (λ i. i ∷ words (left - 1) (drop (from + 2) b)) (sym w) in
         rw d
 
-    pub skip_source : (out : List ℕ) (at : ℕ) (r : Wrote) (o : List ℕ) → s ≤ t → Writes out at others r o → Writes out at these r o
+    pub skip_source : (out : List ℕ) (at : ℕ) (r : Maybe ℕ) (o : List ℕ) → s ≤ t → Writes out at others r o → Writes out at these r o
     skip_source out at r o l v = rw (next_source, lower_false s (unfolded_in m) t l) v
 
-    pub stop_source : (out : List ℕ) (at : ℕ) (o o' : List ℕ) → t < s → Writes out at (unfolded_in m t) Full o → Writes out at these Full o'
+    pub stop_source : (out : List ℕ) (at : ℕ) (o o' : List ℕ) → t < s → Writes out at (unfolded_in m t) None o → Writes out at these None o'
     stop_source out at o o' l v = rw (next_source, lower_true s (unfolded_in m) t l) (writes_stop out at (unfolded_in m t) others o o' v)
 
-    pub go_on : (out : List ℕ) (at e : ℕ) (r : Wrote) (o o' : List ℕ) → at ≤ length out → length o ≡ length out → t < s → Writes out at (unfolded_in m t) (To e) o → Writes o e others r o' → Writes out at these r o'
+    pub go_on : (out : List ℕ) (at e : ℕ) (r : Maybe ℕ) (o o' : List ℕ) → at ≤ length out → length o ≡ length out → t < s → Writes out at (unfolded_in m t) (Some e) o → Writes o e others r o' → Writes out at these r o'
     go_on out at e r o o' g k l v u = rw (next_source, lower_true s (unfolded_in m) t l) (writes_then out at (unfolded_in m t) others e r o o' g k v u)
 
 -- ---- the answer
@@ -165,27 +165,27 @@ unfolding put
 put_front m x = take-append_seam x (drop (0 + length x) m)
 
 module _ (m : List ℕ) (n s : ℕ) (room : List ℕ) where
-  pub unfold_unknown : n ≤ s → (unfolding'.Refused (Unknown s) ≡ unfolded_as (answer m n s room)) × (room ≡ after_unfold room (answer m n s room))
+  pub unfold_unknown : n ≤ s → (Err (Unknown s) ≡ unfolded_as (answer m n s room)) × (room ≡ after_unfold room (answer m n s room))
   unfold_unknown h = let w = answer_unknown m n s room h in (rw w, rw w)
 
   module _ (h : s < n) (over : Refusal) (o : over ≡ UnfoldingTooLong (suc (limit m n s room))) (aside aside' : List ℕ) (z : length aside ≡ max_unfolding) where
-    pub unfold_long : Writes aside 0 (unfolded_in m s) Full aside' → (unfolding'.Refused over ≡ unfolded_as (answer m n s room)) × (room ≡ after_unfold room (answer m n s room))
+    pub unfold_long : Writes aside 0 (unfolded_in m s) None aside' → (Err over ≡ unfolded_as (answer m n s room)) × (room ≡ after_unfold room (answer m n s room))
     unfold_long v =
         let l = end_full (length aside) 0 (unfolded_in m s) v.is in
         let w = answer_over m n s room h (past_one max_unfolding (length room) (length (unfolded_in m s)) (omega arith)) in
         (rw (w, o), rw w)
 
-    module _ (e : ℕ) (v : Writes aside 0 (unfolded_in m s) (To e) aside') where
+    module _ (e : ℕ) (v : Writes aside 0 (unfolded_in m s) (Some e) aside') where
       pub ends : (e ≡ length (unfolded_in m s)) × (e ≤ max_unfolding)
       ends = let a = writes_fits aside 0 (unfolded_in m s) e aside' v in let x = a.0 in let y = a.1 in (omega arith, omega arith)
 
-      pub unfold_short : length room < e → (unfolding'.Refused over ≡ unfolded_as (answer m n s room)) × (room ≡ after_unfold room (answer m n s room))
+      pub unfold_short : length room < e → (Err over ≡ unfolded_as (answer m n s room)) × (room ≡ after_unfold room (answer m n s room))
       unfold_short l =
           let g = ends in
           let w = answer_over m n s room h (past_other max_unfolding (length room) (length (unfolded_in m s)) (omega (arith, g.0))) in
           (rw (w, o), rw w)
 
-      pub unfold_done : (room' : List ℕ) → e ≤ length room → room' ≡ put room 0 (take e aside') → (unfolding'.Bytes e ≡ unfolded_as (answer m n s room)) × (room' ≡ after_unfold room (answer m n s room))
+      pub unfold_done : (room' : List ℕ) → e ≤ length room → room' ≡ put room 0 (take e aside') → (Ok e ≡ unfolded_as (answer m n s room)) × (room' ≡ after_unfold room (answer m n s room))
       unfold_done room' l q =
           let g = ends in
           let w = answer_done m n s room h (in_both max_unfolding (length room) (length (unfolded_in m s)) (omega (arith, g.0, g.1)) (omega (arith, g.0))) in

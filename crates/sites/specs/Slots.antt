@@ -1,5 +1,7 @@
 -- A set's sites in lent bytes: slots of 32 bytes, a length byte and then the sheet body, kind byte first. Definitions, and one law that definitions
 -- elsewhere cite.
+use Rattle.std.specs.declared.result.Result.TheVariants.{Err, Ok}
+use Rattle.std.specs.declared.option.Option.TheVariants.{None, Some}
 use Rattle.std.specs.Prelude.{◌&&◌, true, ◌≡◌, refl, length, get_or, take, drop, ltb, leb}
 use Rattle.std.proofs.Math.Option.{Option, none, some}
 use mathlib.Core.List.{List, [], ◌∷◌, ◌++◌}
@@ -12,12 +14,11 @@ use Rattle.paper.specs.Numbers.{Outcome, done, refused, ◌>>=◌, demand}
 use Rattle.paper.specs.Layout.{whole, site_read}
 use Rattle.paper.specs.Sites.{Site, body, Sites, Added, add, unfolded as unfolded-by}
 use Rattle.site_body.specs.Body.{is_body}
+use Rattle.paper.specs.Answered.{Answer}
 use Rattle.sites.specs.declared.Numbered.{Numbered}
 use Rattle.sites.specs.declared.Numbered.TheVariants as numbered
-use Rattle.sites.specs.declared.Unfolded.{Unfolded}
-use Rattle.sites.specs.declared.Unfolded.TheVariants as unfolded
-use Rattle.sites.specs.declared.Wrote.{Wrote}
-use Rattle.sites.specs.declared.Wrote.TheVariants.{To, Full}
+use Rattle.paper.specs.Answered.{Answer}
+use Rattle.paper.specs.Answered.{Maybe}
 pub use Rattle.site_slots.specs.Seeking.{slot}
 pub use Rattle.site_body.specs.Body.{no_site, site_of, found_as}
 
@@ -52,9 +53,9 @@ unfoldable pub added_in : List ℕ → ℕ → ℕ → List ℕ → Outcome Adde
 added_in m n at b = add_body m n at (whole (site_read b))
 
 -- the number, and whether it is new
-abbrev pub numbered_as : ℕ → Outcome Added → Numbered
-numbered_as n (done a) = if ltb a.number n then numbered.Known a.number else numbered.Fresh a.number
-numbered_as n (refused r) = numbered.Refused r
+abbrev pub numbered_as : ℕ → Outcome Added → Answer Numbered
+numbered_as n (done a) = if ltb a.number n then (Ok (numbered.Known a.number)) else (Ok (numbered.Fresh a.number))
+numbered_as n (refused r) = Err r
 
 -- the memory m with the bytes s from `at` on
 unfoldable pub put : List ℕ → ℕ → List ℕ → List ℕ
@@ -77,19 +78,19 @@ unfoldable pub unfolded_in : List ℕ → ℕ → List ℕ
 unfolded_in m s = unfolded-by (sites_in m (suc s)) s
 
 -- how many bytes were written
-abbrev pub unfolded_as : Outcome (List ℕ) → Unfolded
-unfolded_as (done u) = unfolded.Bytes (length u)
-unfolded_as (refused r) = unfolded.Refused r
+abbrev pub unfolded_as : Outcome (List ℕ) → Answer ℕ
+unfolded_as (done u) = Ok (length u)
+unfolded_as (refused r) = Err r
 
 abbrev pub after_unfold : List ℕ → Outcome (List ℕ) → List ℕ
 after_unfold room (done u) = put room 0 u
 after_unfold room (refused r) = room
 
 -- where the bytes u end that are written from `at` on, if the room reaches that far
-abbrev pub end_at : ℕ → ℕ → List ℕ → Wrote
-end_at room at u = if leb (at + length u) room then To (at + length u) else Full
+abbrev pub end_at : ℕ → ℕ → List ℕ → Maybe ℕ
+end_at room at u = if leb (at + length u) room then Some (at + length u) else None
 
-pub record Writes (out : List ℕ) (at : ℕ) (u : List ℕ) (r : Wrote) (out' : List ℕ) : Type 0 where
+pub record Writes (out : List ℕ) (at : ℕ) (u : List ℕ) (r : Maybe ℕ) (out' : List ℕ) : Type 0 where
   pub is : r ≡ end_at (length out) at u
   pub bytes : at + length u ≤ length out → out' ≡ put out at u
 

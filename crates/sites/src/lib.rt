@@ -9,7 +9,7 @@ ghost use Rattle.paper.specs.Sites.{number_of, lower_only, unfold_answer};
 ghost use Rattle.site_body.specs.Body.{words, site_of, found_as};
 ghost use Rattle.sites.specs.Slots.{slot, slot_body, sites_in, Findable, added_in, numbered_as, after_add, put, unfolded_in, unfolded_as, after_unfold, Writes};
 
-use paper::{Found, Refusal, SITES, UNFOLDING, Verdict};
+use paper::{Refusal, SITES, UNFOLDING};
 use site_body::{is_body, judge, many_of, off_of, word_at};
 use widths::size8;
 
@@ -21,20 +21,6 @@ pub enum Numbered {
     Known(u16),
     // It is new.
     Fresh(u16),
-    Refused(Refusal),
-}
-
-#[derive(Clone, Copy)]
-pub enum Wrote {
-    // Written, up to here.
-    To(usize),
-    Full,
-}
-
-#[derive(Clone, Copy)]
-pub enum Unfolded {
-    Bytes(usize),
-    Refused(Refusal),
 }
 
 // The body in slot i, as a part of the lent bytes.
@@ -53,15 +39,15 @@ pub fn body<'a>(m: &'a [u8], i: u16) -> &'a [u8]
 }
 
 // The number of the body b among the first sites.
-fn find(m: &[u8], count: u16, b: &[u8]) -> Found
+fn find(m: &[u8], count: u16, b: &[u8]) -> Option<u16>
     requires { Findable b.now }
     ensures { result ≡ found_as (number_of (sites_in m.now count) (site_of b.now)) }
 {
     let i = site_slots::find(m, count, b);
     if i < count {
-        return Found::At(i);
+        return Some(i);
     }
-    Found::Nothing
+    None
 }
 
 fn put_at(m: &mut [u8], at: usize, s: &[u8])
@@ -86,56 +72,56 @@ fn store(m: &mut [u8], n: u16, b: &[u8])
 }
 
 // Adds the site whose body is b to the first sites of m. `at` is the item or the line that asks.
-pub fn add(m: &mut [u8], count: u16, b: &[u8], at: u32) -> Numbered
+pub fn add(m: &mut [u8], count: u16, b: &[u8], at: u32) -> Result<Numbered, Refusal>
     ensures { let added = added_in m.old count at b.now in
         (result ≡ numbered_as count added) × (m.new ≡ after_add m.old count added) }
 {
     let v = judge(b, count, at);
-    if let Verdict::Refused(r) = v {
-        return Numbered::Refused(r);
+    if let Err(r) = v {
+        return Err(r);
     }
     let n = count as usize;
     let known = find(m, count, b);
-    if let Found::At(i) = known {
+    if let Some(i) = known {
         if m.len() < n * SLOT {
-            return Numbered::Refused(Refusal::TooManySites {
+            return Err(Refusal::TooManySites {
                 asked: n as u32,
                 at,
             });
         }
-        return Numbered::Known(i);
+        return Ok(Numbered::Known(i));
     }
     if SITES <= n {
-        return Numbered::Refused(Refusal::TooManySites {
+        return Err(Refusal::TooManySites {
             asked: n as u32 + 1,
             at,
         });
     }
     if m.len() < (n + 1) * SLOT {
-        return Numbered::Refused(Refusal::TooManySites {
+        return Err(Refusal::TooManySites {
             asked: n as u32 + 1,
             at,
         });
     }
     store(m, count, b);
-    Numbered::Fresh(count)
+    Ok(Numbered::Fresh(count))
 }
 
 // Writes s from `at` on, if the room reaches that far.
-fn write(out: &mut [u8], at: usize, s: &[u8]) -> Wrote
+fn write(out: &mut [u8], at: usize, s: &[u8]) -> Option<usize>
     requires { at ≤ length out.old }
     ensures { Writes out.old at s.now result out.new }
 {
     if out.len() - at < s.len() {
-        return Wrote::Full;
+        return None;
     }
     put_at(out, at, s);
-    Wrote::To(at + s.len())
+    Some(at + s.len())
 }
 
 // Writes the unfolding of site s from `at` on.
 #[cycle(unfold_site_unfold_sources)]
-fn unfold_site(m: &[u8], s: u16, out: &mut [u8], at: usize) -> Wrote
+fn unfold_site(m: &[u8], s: u16, out: &mut [u8], at: usize) -> Option<usize>
     requires { at ≤ length out.old }
     ensures { Writes out.old at (unfolded_in m.now s) result out.new }
 {
@@ -147,12 +133,12 @@ fn unfold_site(m: &[u8], s: u16, out: &mut [u8], at: usize) -> Wrote
     let off = off_of(b);
     let many = many_of(b);
     let h = write(out, at, &b[..off]);
-    let Wrote::To(e) = h else {
-        return Wrote::Full;
+    let Some(e) = h else {
+        return None;
     };
     let w = unfold_sources(m, s, b, off, many, out, e);
-    let Wrote::To(f) = w else {
-        return Wrote::Full;
+    let Some(f) = w else {
+        return None;
     };
     write(out, f, &b[off + 2 * many..])
 }
@@ -167,21 +153,21 @@ fn unfold_sources(
     left: usize,
     out: &mut [u8],
     at: usize,
-) -> Wrote
+) -> Option<usize>
     requires { (at ≤ length out.old) × (from + 2 * left ≤ length b.now) × (left < 256) }
     ensures { let rest = words left (drop from b.now) in
         Writes out.old at (joined (map (lower_only s (unfolded_in m.now)) rest)) result out.new }
 {
     if left == 0 {
-        return Wrote::To(at);
+        return Some(at);
     }
     let t = word_at(b, from);
     if s <= t {
         return unfold_sources(m, s, b, from + 2, left - 1, out, at);
     }
     let w = unfold_site(m, t, out, at);
-    let Wrote::To(e) = w else {
-        return Wrote::Full;
+    let Some(e) = w else {
+        return None;
     };
     unfold_sources(m, s, b, from + 2, left - 1, out, e)
 }
@@ -201,22 +187,22 @@ fn too_long(room: usize) -> Refusal
 }
 
 // Writes the unfolding of site s of so many into the room, from its start on. What is refused leaves the room as it was, so the work is done aside.
-pub fn unfold(m: &[u8], count: u16, s: u16, room: &mut [u8]) -> Unfolded
+pub fn unfold(m: &[u8], count: u16, s: u16, room: &mut [u8]) -> Result<usize, Refusal>
     ensures { let answer = unfold_answer (sites_in m.now count) (length room.old) s in
         (result ≡ unfolded_as answer) × (room.new ≡ after_unfold room.old answer) }
 {
     if count <= s {
-        return Unfolded::Refused(Refusal::Unknown { site: s });
+        return Err(Refusal::Unknown { site: s });
     }
     let over = too_long(room.len());
     let mut aside = [0u8; UNFOLDING];
     let w = unfold_site(m, s, &mut aside, 0);
-    let Wrote::To(e) = w else {
-        return Unfolded::Refused(over);
+    let Some(e) = w else {
+        return Err(over);
     };
     if room.len() < e {
-        return Unfolded::Refused(over);
+        return Err(over);
     }
     put_at(room, 0, &aside[..e]);
-    Unfolded::Bytes(e)
+    Ok(e)
 }

@@ -8,9 +8,9 @@ use lib.ListN.{length, set, length-append}
 use lib.Seq.{sets, length-sets}
 use lib.Dec.{leb}
 use borrow.Author.Tests.{lt-ltb, le-ltb, leb-true, leb-false, ne_eqb}
+use Rattle.std.specs.declared.option.Option.TheVariants.{None, Some}
 use Rattle.tell_text.specs.Written.{Room, wrote, with_byte, after, fits, reaches, one_fits, one_past}
-use Rattle.sheet_findings.specs.declared.Room.TheVariants.{To, Short}
-use Rattle.sheet_findings.specs.declared.Room as F
+use Rattle.paper.specs.Answered.{Maybe}
 use Rattle.sheet_findings.specs.Written.{room_said}
 use Rattle.tell_english.specs.declared.Shape.{Shape}
 use Rattle.tell_parts.specs.Parts.{filled}
@@ -19,11 +19,11 @@ use Rattle.tell_english.specs.Words.{unknown_site, unreachable, hanging_site, se
 use Rattle.tell_english.specs.Said.{refused_words, stopped_words, limit_words, stop_limit_words, ended_words, words_for, explained, said, line_end, line_room}
 
 -- ---- LF
-pub end_fits : (m : List ℕ) (at : ℕ) → at < length m → (To (at + 1) ≡ line_end (m, at)) × (set m at 10 ≡ line_room (m, at))
+pub end_fits : (m : List ℕ) (at : ℕ) → at < length m → (Some (at + 1) ≡ line_end (m, at)) × (set m at 10 ≡ line_room (m, at))
 unfolding line_end line_room
 end_fits m at h = (rw (lt-ltb at (length m) h), ap (λ p. p.0) (sym (one_fits m at 10 h)))
 
-pub end_past : (m : List ℕ) (at : ℕ) → length m ≤ at → (Short ≡ line_end (m, at)) × (m ≡ line_room (m, at))
+pub end_past : (m : List ℕ) (at : ℕ) → length m ≤ at → (None ≡ line_end (m, at)) × (m ≡ line_room (m, at))
 unfolding line_end line_room
 end_past m at h = (rw (le-ltb at (length m) h), ap (λ p. p.0) (sym (one_past m at 10 h)))
 
@@ -35,14 +35,14 @@ ended_as true m at t e =
     let h = leb-true (at + length (t ++ (10 ∷ []))) (length m) e in
     let l : at + length t < length (sets m at t) = rw length-sets (omega arith) in
     let k : at + length t + 1 ≡ at + length (t ++ (10 ∷ [])) = omega arith in
-    rw (fits t m at (omega arith), lt-ltb (at + length t) (length (sets m at t)) l, e) (ap To k)
+    rw (fits t m at (omega arith), lt-ltb (at + length t) (length (sets m at t)) l, e) (ap Some k)
 ended_as false m at t e =
     let n = length-append t (10 ∷ []) in
     let h = leb-false (at + length (t ++ (10 ∷ []))) (length m) e in
     let r = reaches t m at (omega arith) in
     rw (le-ltb (wrote (m, at) t).1 (length (wrote (m, at) t).0) r, e)
 
-pub line_said : (p q : Room) (f : List ℕ) (clean : Bool) (r : F.Room) (out : List ℕ) → q ≡ wrote p (explained clean f) → r ≡ line_end q → out ≡ line_room q → (r ≡ room_said p.0 p.1 (said clean f)) × (out ≡ (wrote p (said clean f)).0)
+pub line_said : (p q : Room) (f : List ℕ) (clean : Bool) (r : Maybe ℕ) (out : List ℕ) → q ≡ wrote p (explained clean f) → r ≡ line_end q → out ≡ line_room q → (r ≡ room_said p.0 p.1 (said clean f)) × (out ≡ (wrote p (said clean f)).0)
 unfolding said line_room wrote
 line_said p q f clean r out e g h =
     let t = explained clean f in (

@@ -1,9 +1,9 @@
 -- A finding in English.
+use Rattle.std.specs.declared.option.Option.TheVariants.{None, Some}
 use Rattle.std.specs.Prelude.{Bool, true, false, List, [], ◌∷◌, ◌++◌, ℕ, ◌+◌, length, get_or, set, eqb, ltb}
 use Rattle.std.specs.Prelude.{if◌then◌else◌}
 use Rattle.tell_text.specs.Written.{Room, with_byte}
-use Rattle.sheet_findings.specs.declared.Room.TheVariants.{To, Short}
-use Rattle.sheet_findings.specs.declared.Room as F
+use Rattle.paper.specs.Answered.{Maybe}
 use Rattle.tell_english.specs.declared.Shape.{Shape}
 use Rattle.tell_english.specs.declared.Shape.TheVariants.{Refused, OverlapTwo, OverlapMore, MaskOne, MaskMore, Term, End, Stop, Empty, Unknown, Limit, StopLimit}
 use Rattle.tell_parts.specs.Parts.{filled}
@@ -71,8 +71,8 @@ unfoldable pub said : Bool → List ℕ → List ℕ
 said clean f = explained clean f ++ (10 ∷ [])
 
 -- LF at the end of what was written, and whether there was room for it
-unfoldable pub line_end : Room → F.Room
-line_end p = if ltb p.1 (length p.0) then To (p.1 + 1) else Short
+unfoldable pub line_end : Room → Maybe ℕ
+line_end p = if ltb p.1 (length p.0) then Some (p.1 + 1) else None
 
 unfoldable pub line_room : Room → List ℕ
 line_room p = (with_byte p 10).0

@@ -10,7 +10,6 @@ ghost use Rattle.tell_english.specs.Shapes.{when, refusal, listed, shape_of};
 ghost use Rattle.tell_english.specs.Words.{calls_itself, not_known};
 ghost use Rattle.tell_english.specs.Said.{refused_words, stopped_words, limit_words, stop_limit_words, ended_words, explained, said, line_end, line_room};
 
-use sheet_findings::Room;
 use tell_parts::{byte_at, fill, two_at};
 
 // What a frame is, by its kind and its length.
@@ -417,18 +416,18 @@ fn put_explained(f: &[u8], clean: bool, out: &mut [u8], at: usize) -> usize
 }
 
 // LF, and whether all of the line had room.
-fn end_line(out: &mut [u8], at: usize) -> Room
+fn end_line(out: &mut [u8], at: usize) -> Option<usize>
     ensures { (result ≡ line_end (out.old, at)) × (out.new ≡ line_room (out.old, at)) }
 {
     if at < out.len() {
         out[at] = 10;
-        return Room::To(at + 1);
+        return Some(at + 1);
     }
-    Room::Short
+    None
 }
 
 // The finding as a line of English, from `at` on. `clean`: nothing was found before it. A room that is too short keeps as much as it holds.
-pub fn explain(f: &[u8], clean: bool, out: &mut [u8], at: usize) -> Room
+pub fn explain(f: &[u8], clean: bool, out: &mut [u8], at: usize) -> Option<usize>
     ensures { let line = said clean f.now in
         (result ≡ room_said out.old at line) × (out.new ≡ (wrote (out.old, at) line).0) }
 {

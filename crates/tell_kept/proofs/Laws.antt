@@ -8,6 +8,7 @@ use native.Mathlib.Numerals.{add-one}
 use lib.ListN.{length, get_or, take, drop}
 use lib.Seq.{drop-cons}
 use borrow.Author.Tests.{le-ltb, eq-eqb, ne_eqb}
+use Rattle.std.specs.declared.result.Result.TheVariants.{Err, Ok}
 use Rattle.paper.specs.declared.Constraint.{Constraint}
 use Rattle.paper.specs.declared.Constraint.TheVariants.{ConstBool, ConstInt}
 use Rattle.paper.specs.declared.Overlap.{Overlap}
@@ -17,8 +18,7 @@ use Rattle.paper.specs.Numbers.{Outcome, done, refused, number, told, max_unfold
 use Rattle.paper.specs.Sites.{Sites, constraint_body, unfold_answer, known}
 use Rattle.paper.specs.Rules.{may_overlap, total, rank}
 use Rattle.paper.specs.Text.{unended, text}
-use Rattle.sites.specs.declared.Unfolded.{Unfolded}
-use Rattle.sites.specs.declared.Unfolded.TheVariants.{Bytes, Refused}
+use Rattle.paper.specs.Answered.{Answer}
 use Rattle.sites.specs.Slots.{sites_in, unfolded_as, after_unfold}
 use Rattle.sites.proofs.Places.{sites_length}
 use Rattle.sites.proofs.Unfolds.{put_front}
@@ -48,11 +48,11 @@ pub far_site : (m : List ℕ) (n s : ℕ) → n < 65536 → 65535 < s → unende
 unfolding site_text unfold_answer known
 far_site m n s h l = let k = sites_length m n in rw (le-ltb s (length (sites_in m n)) (omega arith))
 
-pub over_told : (o : Outcome (List ℕ)) (u : Unfolded) (r : Refusal) → u ≡ unfolded_as o → u ≡ Refused r → unended "OVER" ≡ or_over o
+pub over_told : (o : Outcome (List ℕ)) (u : Answer ℕ) (r : Refusal) → u ≡ unfolded_as o → u ≡ Err r → unended "OVER" ≡ or_over o
 over_told (done v) u r e g = absurd (let z : ◌≡◌ {A = ℕ} 0 1 = cc in omega arith)
 over_told (refused x) u r e g = refl
 
-pub bytes_told : (o : Outcome (List ℕ)) (u : Unfolded) (k : ℕ) (room out : List ℕ) → u ≡ unfolded_as o → u ≡ Bytes k → out ≡ after_unfold room o → digits_of (take k out) ≡ or_over o
+pub bytes_told : (o : Outcome (List ℕ)) (u : Answer ℕ) (k : ℕ) (room out : List ℕ) → u ≡ unfolded_as o → u ≡ Ok k → out ≡ after_unfold room o → digits_of (take k out) ≡ or_over o
 bytes_told (done v) u k room out e g h =
     let w : k ≡ length v = cc in
     ap digits_of (rw (w, h) (put_front room v))
@@ -215,11 +215,11 @@ whole s k h = ap digits_of (sym (take_all s k h))
     take_all (x ∷ s) zero h = absurd (omega arith)
     take_all (x ∷ s) (suc k) h = ap (λ t. x ∷ t) (take_all s k (omega arith))
 
-pub site_over : (t : Sites) (s l : ℕ) (u : Unfolded) (r : Refusal) → l ≡ max_unfolding → u ≡ unfolded_as (unfold_answer t l s) → u ≡ Refused r → unended "OVER" ≡ site_text t s
+pub site_over : (t : Sites) (s l : ℕ) (u : Answer ℕ) (r : Refusal) → l ≡ max_unfolding → u ≡ unfolded_as (unfold_answer t l s) → u ≡ Err r → unended "OVER" ≡ site_text t s
 unfolding site_text
 site_over t s l u r e f g = over_told (unfold_answer t max_unfolding s) u r (f ∙ ap (λ z. unfolded_as (unfold_answer t z s)) e) g
 
-pub site_bytes : (t : Sites) (s l : ℕ) (u : Unfolded) (k : ℕ) (room out : List ℕ) → l ≡ max_unfolding → u ≡ unfolded_as (unfold_answer t l s) → u ≡ Bytes k → out ≡ after_unfold room (unfold_answer t l s) → digits_of (take k out) ≡ site_text t s
+pub site_bytes : (t : Sites) (s l : ℕ) (u : Answer ℕ) (k : ℕ) (room out : List ℕ) → l ≡ max_unfolding → u ≡ unfolded_as (unfold_answer t l s) → u ≡ Ok k → out ≡ after_unfold room (unfold_answer t l s) → digits_of (take k out) ≡ site_text t s
 unfolding site_text
 site_bytes t s l u k room out e f g h = bytes_told (unfold_answer t max_unfolding s) u k room out (f ∙ ap (λ z. unfolded_as (unfold_answer t z s)) e) g (h ∙ ap (λ z. after_unfold room (unfold_answer t z s)) e)
 

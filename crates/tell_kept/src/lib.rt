@@ -12,10 +12,7 @@ ghost use Rattle.tell_text.specs.Written.{wrote};
 ghost use Rattle.tell_kept.specs.Listed.{site_text, c_line, c_lines, member_text, members, class_line, classes, head_text, total_line, kept_lines, told_text, refused_line, overlap_word, pair_line, set_line, terms_text, cyclic_line};
 
 use paper::{Constraint, Overlap, Refusal, UNFOLDING};
-use rule_words::{
-    constrained, constraint_at, equal_at, equals, lowest_at, place, rank, ranked, site_at, start,
-};
-use sites::Unfolded;
+use rule_words::{constrained, constraint_at, equal_at, equals, lowest_at, place, rank, ranked, site_at, start};
 use tell_text::{put, put_decimal, put_eight, put_four, put_hex, put_text, put_two};
 
 // The first k bytes of the room.
@@ -37,7 +34,7 @@ fn put_site(out: &mut [u8], at: usize, m: &[u8], n: u16, s: u64) -> usize
     }
     let mut room = [0u8; UNFOLDING];
     let u = sites::unfold(m, n, s as u16, &mut room);
-    let Unfolded::Bytes(k) = u else {
+    let Ok(k) = u else {
         return put_text(out, at, b"OVER");
     };
     put_first(out, at, &room, k)

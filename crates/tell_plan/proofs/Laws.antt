@@ -9,6 +9,7 @@ use native.Mathlib.Numerals.{add-one}
 use lib.ListN.{length, get_or, drop}
 use lib.Dec.{ltb}
 use borrow.Author.Tests.{lt-ltb, le-ltb, ltb-true, ltb-false}
+use Rattle.std.specs.declared.result.Result.TheVariants.{Err, Ok}
 use Rattle.paper.specs.declared.Break.{Break}
 use Rattle.std.specs.Prelude.{if◌then◌else◌}
 use Rattle.paper.specs.Words.{below, joined, four, eight}
@@ -19,10 +20,10 @@ use Rattle.paper.specs.Text.{unended, text}
 use Rattle.rule_words.specs.Stored.{kept_in, kept_at, base, place_at}
 use Rattle.sheet_digits.specs.Digits.{digits_of}
 use Rattle.tell_text.specs.Written.{Room, wrote, after, follows, nothing}
-use Rattle.plan.specs.declared.Judged.{Judged}
-use Rattle.plan.specs.declared.Judged.TheVariants.{Accepted, Bad, WrongLength}
-use Rattle.plan.specs.declared.Planned.{Planned}
-use Rattle.plan.specs.declared.Planned.TheVariants.{Proposed, Nothing, TooManyRules, NoRoom}
+use Rattle.plan.specs.Answered.{Judged}
+use Rattle.plan.specs.declared.Fault.TheVariants.{Bad, WrongLength}
+use Rattle.plan.specs.Answered.{Planned}
+use Rattle.plan.specs.declared.Unplanned.TheVariants.{Nothing, TooManyRules, NoRoom}
 use Rattle.plan.specs.declared.Hurdle.{Hurdle}
 use Rattle.plan.specs.declared.Hurdle.TheVariants.{Free, Masked, Alike}
 use Rattle.plan.specs.Plans.{check, Obstacle, by_mask, by_sameness, obstacle, Obstructed, listed, obstructed_at, obstructed, numbers, Plan, proposal, no_proposal, plan}
@@ -185,7 +186,7 @@ module _ (ws : List ℕ) (n flags : ℕ) (m : List ℕ) (long : length m ≡ max
   abbrev g : Set
   g = set_in ws n flags
 
-  planned_as : planned g m ≡ (if ltb max_rules n then TooManyRules else (if ltb (length m) n then NoRoom else plan_answer (plan g)))
+  planned_as : planned g m ≡ (if ltb max_rules n then (Err TooManyRules) else (if ltb (length m) n then (Err NoRoom) else plan_answer (plan g)))
   unfolding planned
   planned_as = rw (set_length ws n flags) refl
 
@@ -209,7 +210,7 @@ module _ (ws : List ℕ) (n flags : ℕ) (m : List ℕ) (long : length m ≡ max
   planned_few : ltb max_rules n ≡ false → (planned g m ≡ plan_answer (plan g)) × (proposal_after g m ≡ plan_over (plan g) m)
   planned_few t = let u = few_room t in (planned_as ∙ rw (t, u) refl, after_as ∙ rw (t, u) refl)
 
-  not_many : ltb max_rules n ≡ true → planned g m ≡ TooManyRules
+  not_many : ltb max_rules n ≡ true → planned g m ≡ Err TooManyRules
   not_many t = planned_as ∙ rw t refl
 
   get_front : (q r : List ℕ) (i : ℕ) → i < length q → get_or (q ++ r) i 0 ≡ get_or q i 0
@@ -217,7 +218,7 @@ module _ (ws : List ℕ) (n flags : ℕ) (m : List ℕ) (long : length m ≡ max
   get_front (x ∷ q) r zero h = refl
   get_front (x ∷ q) r (suc i) h = get_front q r i (omega arith)
 
-  proposed_lines : planned g m ≡ Proposed → (after : List ℕ) → after ≡ proposal_after g m → joined (below n (rule_at ws after)) ≡ lines
+  proposed_lines : planned g m ≡ Ok tt → (after : List ℕ) → after ≡ proposal_after g m → joined (below n (rule_at ws after)) ≡ lines
   proposed_lines e after w = go (ltb max_rules n) refl (plan g) refl
     where
       each : (q : List ℕ) → length q ≡ n → after ≡ q ++ drop (length q) m → (i : ℕ) → i < n → rule_at ws after i ≡ rule_line (rule g i).place (get_or q i 0)
@@ -238,7 +239,7 @@ module _ (ws : List ℕ) (n flags : ℕ) (m : List ℕ) (long : length m ≡ max
           as_lines : (q : List ℕ) → plan g ≡ proposal q → plan_lines g (plan g) ≡ joined (below (length g.kept) (λ i. rule_line (rule g i).place (get_or q i 0)))
           as_lines q r = unfold plan_lines in (ap (plan_lines g) r)
 
-  nothing_lines : planned g m ≡ Nothing → joined (below n (λ i. joined (below n (none_text g i)))) ≡ lines
+  nothing_lines : planned g m ≡ Err Nothing → joined (below n (λ i. joined (below n (none_text g i)))) ≡ lines
   nothing_lines e = go (ltb max_rules n) refl (plan g) refl
     where
       go : (t : Bool) → ltb max_rules n ≡ t → (a : Plan) → plan g ≡ a → joined (below n (λ i. joined (below n (none_text g i)))) ≡ lines
@@ -249,7 +250,7 @@ module _ (ws : List ℕ) (n flags : ℕ) (m : List ℕ) (long : length m ≡ max
           as_lines : (os : List Obstructed) → plan g ≡ no_proposal os → plan_lines g (plan g) ≡ joined (map (none_line g) os)
           as_lines os r = unfold plan_lines in (ap (plan_lines g) r)
 
-  many_lines : planned g m ≡ TooManyRules → [] ≡ lines
+  many_lines : planned g m ≡ Err TooManyRules → [] ≡ lines
   many_lines e = go (ltb max_rules n) refl (plan g) refl
     where
       go : (t : Bool) → ltb max_rules n ≡ t → (a : Plan) → plan g ≡ a → [] ≡ lines
@@ -257,7 +258,7 @@ module _ (ws : List ℕ) (n flags : ℕ) (m : List ℕ) (long : length m ≡ max
       go false t (proposal q) r = let f = sym e ∙ ((planned_few t).0 ∙ ap plan_answer r) in let z : ◌≡◌ {A = ℕ} 0 1 = cc in absurd (omega arith)
       go false t (no_proposal os) r = let f = sym e ∙ ((planned_few t).0 ∙ ap plan_answer r) in let z : ◌≡◌ {A = ℕ} 0 1 = cc in absurd (omega arith)
 
-  room_lines : planned g m ≡ NoRoom → [] ≡ lines
+  room_lines : planned g m ≡ Err NoRoom → [] ≡ lines
   room_lines e = go (ltb max_rules n) refl (plan g) refl
     where
       go : (t : Bool) → ltb max_rules n ≡ t → (a : Plan) → plan g ≡ a → [] ≡ lines
@@ -270,16 +271,16 @@ module _ (ws : List ℕ) (n flags : ℕ) (m : List ℕ) (long : length m ≡ max
     unfolding plan_text
     text_so t rest e w = chain3 p q s t (set_head term) (10 ∷ []) lines head end (w ∙ ap (λ z. wrote s z) e)
 
-    pub plan_proposed : (after : List ℕ) → after ≡ proposal_after g m → r ≡ Proposed → (t : Room) → t ≡ wrote s (joined (below n (rule_at ws after))) → t ≡ wrote p (plan_text term g)
+    pub plan_proposed : (after : List ℕ) → after ≡ proposal_after g m → r ≡ Ok tt → (t : Room) → t ≡ wrote s (joined (below n (rule_at ws after))) → t ≡ wrote p (plan_text term g)
     plan_proposed after w e t v = text_so t (joined (below n (rule_at ws after))) (proposed_lines (sym answer ∙ e) after w) v
 
-    pub plan_nothing : r ≡ Nothing → (t : Room) → t ≡ wrote s (joined (below n (λ i. joined (below n (none_text g i))))) → t ≡ wrote p (plan_text term g)
+    pub plan_nothing : r ≡ Err Nothing → (t : Room) → t ≡ wrote s (joined (below n (λ i. joined (below n (none_text g i))))) → t ≡ wrote p (plan_text term g)
     plan_nothing e t v = text_so t (joined (below n (λ i. joined (below n (none_text g i))))) (nothing_lines (sym answer ∙ e)) v
 
-    pub plan_many : r ≡ TooManyRules → s ≡ wrote p (plan_text term g)
+    pub plan_many : r ≡ Err TooManyRules → s ≡ wrote p (plan_text term g)
     plan_many e = text_so s [] (many_lines (sym answer ∙ e)) (nothing s)
 
-    pub plan_no_room : r ≡ NoRoom → s ≡ wrote p (plan_text term g)
+    pub plan_no_room : r ≡ Err NoRoom → s ≡ wrote p (plan_text term g)
     plan_no_room e = text_so s [] (room_lines (sym answer ∙ e)) (nothing s)
 
 -- ---- a set of `check-plan`
@@ -291,8 +292,8 @@ pub judged_put : (p q : Room) (ws : List ℕ) (v u : Judged) → v ≡ u → q �
 judged_put p q ws v u e f = f ∙ ap (λ z. wrote p (judged_words ws z)) (sym e)
 
 judged_same : (ws ps : List ℕ) (n flags : ℕ) (v : Judged) → check (set_in ws n flags) ps ≡ v → judged_words ws v ≡ judged_rest (set_in ws n flags) v
-judged_same ws ps n flags Accepted e = refl
-judged_same ws ps n flags (Bad b i j) e =
+judged_same ws ps n flags (Ok _) e = refl
+judged_same ws ps n flags (Err (Bad b i j)) e =
     let F = ((check_first (set_in ws n flags) ps b i j).0 e).1 in
     let s = set_length ws n flags in
     let l = F.in_order in
@@ -300,7 +301,7 @@ judged_same ws ps n flags (Bad b i j) e =
     let a = ap (λ (x : Kept). x.place) (set_rule ws n flags i (omega arith)) in
     let c = ap (λ (x : Kept). x.place) (set_rule ws n flags j (omega arith)) in
     rw (a, c) refl
-judged_same ws ps n flags (WrongLength m) e = refl
+judged_same ws ps n flags (Err (WrongLength m)) e = refl
 
 pub check_put : (p q r : Room) (ws ps : List ℕ) (n flags term : ℕ) (v : Judged) → v ≡ check (set_in ws n flags) ps → q ≡ wrote p (set_head term) → r ≡ wrote q (judged_words ws v) → r ≡ wrote p (judged_text term (set_in ws n flags) (check (set_in ws n flags) ps))
 unfolding judged_text

@@ -1,4 +1,5 @@
 -- Change request [11]: the texts of `plan` and of `check-plan`. Words are split by one space, hexadecimal is upper case, every line ends with LF.
+use Rattle.std.specs.declared.result.Result.TheVariants.{Err, Ok}
 use Rattle.std.specs.Prelude.{List, [], ◌∷◌, ◌++◌, map, ℕ, length, get_or, ltb}
 use Rattle.paper.specs.declared.Break.{Break}
 use Rattle.paper.specs.declared.Break.TheVariants.{Edge, Mask, Order}
@@ -10,8 +11,8 @@ use Rattle.paper.specs.Priorities.{rule, wrong_length}
 use Rattle.paper.specs.Text.{unended, text}
 use Rattle.sheet_digits.specs.Digits.{digits_of}
 use Rattle.tell_text.specs.Decimal.{decimal}
-use Rattle.plan.specs.declared.Judged.{Judged}
-use Rattle.plan.specs.declared.Judged.TheVariants.{Accepted, Bad, WrongLength}
+use Rattle.plan.specs.Answered.{Judged}
+use Rattle.plan.specs.declared.Fault.TheVariants.{Bad, WrongLength}
 use Rattle.plan.specs.Plans.{Obstacle, by_mask, by_sameness, Obstructed, Plan, proposal, no_proposal, plan}
 
 -- "set TERM"
@@ -48,9 +49,9 @@ break_text Mask = unended " mask "
 break_text Order = unended " order "
 
 abbrev pub judged_rest : Set → Judged → List ℕ
-judged_rest g Accepted = text " accepted"
-judged_rest g (Bad b i j) = break_text b ++ (two_places (rule g i).place (rule g j).place ++ (10 ∷ []))
-judged_rest g (WrongLength n) = unended " refused " ++ (decimal wrong_length ++ (unended " " ++ (decimal n ++ (10 ∷ []))))
+judged_rest g (Ok _) = text " accepted"
+judged_rest g (Err (Bad b i j)) = break_text b ++ (two_places (rule g i).place (rule g j).place ++ (10 ∷ []))
+judged_rest g (Err (WrongLength n)) = unended " refused " ++ (decimal wrong_length ++ (unended " " ++ (decimal n ++ (10 ∷ []))))
 
 unfoldable pub judged_text : ℕ → Set → Judged → List ℕ
 judged_text term g v = set_head term ++ judged_rest g v

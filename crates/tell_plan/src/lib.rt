@@ -1,20 +1,21 @@
 // The texts of `plan` and of `check-plan` (change request [11]): what the planner proposes for a set, and what the check says of a proposal.
 #![tactic(auto)]
 
+ghost use Rattle.std.specs.declared.result.Result.TheVariants.{Err};
 ghost use Rattle.std.specs.Prelude.{◌≡◌, List, [], ◌∷◌, ◌++◌, ℕ, ◌+◌, ◌<◌, ◌≤◌, length, get_or};
 ghost use Rattle.paper.specs.Words.{below, joined};
 ghost use Rattle.paper.specs.Numbers.{max_rules};
 ghost use Rattle.paper.specs.Priorities.{rule};
 ghost use Rattle.rule_words.specs.Stored.{kept_in};
 ghost use Rattle.tell_text.specs.Written.{wrote};
-ghost use Rattle.plan.specs.declared.Judged.TheVariants.{Bad, WrongLength};
+ghost use Rattle.plan.specs.declared.Fault.TheVariants.{Bad, WrongLength};
 ghost use Rattle.plan.specs.Plans.{check};
 ghost use Rattle.plan.specs.Lent.{set_in};
 ghost use Rattle.tell_plan.specs.PlanText.{set_head, rule_line, two_places, plan_text, break_text, judged_text, bad_line, set_bad, set_unknown};
 ghost use Rattle.tell_plan.specs.Lent.{rule_at, obstructed_words, none_text, judged_words};
 
 use paper::{Break, RULES};
-use plan::{Hurdle, Judged, Planned, check_plan, obstacle, plan};
+use plan::{Hurdle, Fault, Unplanned, check_plan, obstacle, plan};
 use rule_words::{place, start, word};
 use tell_text::{put_decimal, put_eight, put_four, put_text, put_two};
 
@@ -125,10 +126,10 @@ pub fn put_plan(out: &mut [u8], at: usize, term: u16, words: &[u64], n: u32, fla
     let mut priorities = [0u64; RULES];
     let r = plan(words, n, flags, &mut priorities);
     match r {
-        Planned::Proposed => put_rules(out, e, words, &priorities, n),
-        Planned::Nothing => put_nones(out, e, words, n, flags),
-        Planned::TooManyRules => e,
-        Planned::NoRoom => e,
+        Ok(()) => put_rules(out, e, words, &priorities, n),
+        Err(Unplanned::Nothing) => put_nones(out, e, words, n, flags),
+        Err(Unplanned::TooManyRules) => e,
+        Err(Unplanned::NoRoom) => e,
     }
 }
 
@@ -145,7 +146,7 @@ fn put_break(out: &mut [u8], at: usize, what: Break) -> usize
 }
 
 fn put_bad_pair(out: &mut [u8], at: usize, words: &[u64], what: Break, i: u32, j: u32) -> usize
-    ensures { (out.new, result) ≡ wrote (out.old, at) (judged_words words.now (Bad what i j)) }
+    ensures { (out.new, result) ≡ wrote (out.old, at) (judged_words words.now (Err (Bad what i j))) }
 {
     let a = put_break(out, at, what);
     let b = put_places(out, a, words, i, j);
@@ -153,7 +154,7 @@ fn put_bad_pair(out: &mut [u8], at: usize, words: &[u64], what: Break, i: u32, j
 }
 
 fn put_wrong_length(out: &mut [u8], at: usize, length: u64) -> usize
-    ensures { (out.new, result) ≡ wrote (out.old, at) (judged_words [] (WrongLength length)) }
+    ensures { (out.new, result) ≡ wrote (out.old, at) (judged_words [] (Err (WrongLength length))) }
 {
     let a = put_text(out, at, b" refused ");
     let b = put_decimal(out, a, WRONG_LENGTH);
@@ -162,17 +163,17 @@ fn put_wrong_length(out: &mut [u8], at: usize, length: u64) -> usize
     put_text(out, d, b"\n")
 }
 
-fn put_judged(out: &mut [u8], at: usize, words: &[u64], v: Judged) -> usize
+fn put_judged(out: &mut [u8], at: usize, words: &[u64], v: Result<(), Fault>) -> usize
     ensures { (out.new, result) ≡ wrote (out.old, at) (judged_words words.now v) }
 {
     match v {
-        Judged::Accepted => put_text(out, at, b" accepted\n"),
-        Judged::Bad {
+        Ok(()) => put_text(out, at, b" accepted\n"),
+        Err(Fault::Bad {
             what,
             earlier,
             later,
-        } => put_bad_pair(out, at, words, what, earlier, later),
-        Judged::WrongLength { asked } => put_wrong_length(out, at, asked as u64),
+        }) => put_bad_pair(out, at, words, what, earlier, later),
+        Err(Fault::WrongLength { asked }) => put_wrong_length(out, at, asked as u64),
     }
 }
 

@@ -5,11 +5,12 @@ use Prim.Native.Nat.{ℕ, zero, suc, ◌+◌, min}
 use native.Mathlib.Omega.{arith}
 use native.Mathlib.Numerals.{add-one}
 use lib.ListN.{length, get_or}
+use Rattle.std.specs.declared.result.Result.TheVariants.{Ok}
 use Rattle.paper.specs.declared.Refusal.{Refusal}
 use Rattle.paper.specs.declared.Refusal.TheVariants.{Layout, Unknown, Itself, Unreachable, Hanging, Endless, TooManySites, TooManySources, TooManyFields, TooManyRules, TooManyItems, TooManyConstrained, TooManyEqual, TooManySets, TermTooHigh, UnfoldingTooLong, PlaceUsed, Repeated}
 use Rattle.paper.specs.Text.{unended}
-use Rattle.classes.specs.declared.Taken.{Taken}
-use Rattle.classes.specs.declared.Taken.TheVariants as taken
+use Rattle.classes.specs.Called.{Taken}
+use Rattle.classes.specs.declared.Untaken.TheVariants as taken
 use Rattle.tell_text.specs.Written.{Room, wrote, nothing, follows}
 use Rattle.tell_text.specs.Decimal.{decimal}
 use Rattle.tell_reply.specs.Replies.{refusal_text, member_text, members_text, taken_text}
@@ -58,10 +59,10 @@ members_more p q r ms i e f = rw add-one (follows p q r (members_text ms i) (mem
 pub members_all : (p q : Room) (ms : List ℕ) (i j : ℕ) → q ≡ wrote p (members_text ms i) → i ≡ j → q ≡ wrote p (members_text ms j)
 members_all p q ms i j e h = told p q (members_text ms i) (members_text ms j) (ap (members_text ms) h) e
 
-pub taken_none : (ms : List ℕ) (t : Taken) (k : ℕ) → t ≡ taken.Members k → k ≡ 0 → taken_text ms t ≡ unended "none"
+pub taken_none : (ms : List ℕ) (t : Taken) (k : ℕ) → t ≡ Ok k → k ≡ 0 → taken_text ms t ≡ unended "none"
 taken_none ms t zero e z = ap (taken_text ms) e
 taken_none ms t (suc k) e z = absurd (omega arith)
 
-pub taken_some : (ms : List ℕ) (t : Taken) (k : ℕ) → t ≡ taken.Members k → (k ≡ 0 → ⊥) → taken_text ms t ≡ members_text ms (min k (length ms))
+pub taken_some : (ms : List ℕ) (t : Taken) (k : ℕ) → t ≡ Ok k → (k ≡ 0 → ⊥) → taken_text ms t ≡ members_text ms (min k (length ms))
 taken_some ms t zero e d = absurd (d refl)
 taken_some ms t (suc k) e d = ap (taken_text ms) e

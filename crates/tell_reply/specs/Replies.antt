@@ -3,23 +3,18 @@
 --     find X         SITE LINKS · none · refused 2 N             remove X       the members ascending, with a space between two · none · refused 2 N
 --     findmut X      SITE · none · refused 2 N                   len            a number
 --     any other line bad LINE                                    empty          true · false
+use Rattle.std.specs.declared.result.Result.TheVariants.{Err, Ok}
+use Rattle.std.specs.declared.option.Option.TheVariants.{None, Some}
 use Rattle.std.specs.Prelude.{Bool, true, false, List, [], ◌∷◌, ◌++◌, ℕ, zero, suc, min, length, get_or}
-use Rattle.paper.specs.declared.Found.{Found}
-use Rattle.paper.specs.declared.Found.TheVariants as found
+use Rattle.paper.specs.Answered.{Maybe}
 use Rattle.paper.specs.declared.Refusal.{Refusal}
 use Rattle.paper.specs.declared.Refusal.TheVariants.{Layout, Unknown, Itself, Unreachable, Hanging, Endless, TooManySites, TooManySources, TooManyFields, TooManyRules, TooManyItems, TooManyConstrained, TooManyEqual, TooManySets, TermTooHigh, UnfoldingTooLong, PlaceUsed, Repeated}
 use Rattle.paper.specs.Text.{unended}
 use Rattle.classes.specs.declared.Trail.{Trail}
-use Rattle.classes.specs.declared.Looked.{Looked}
-use Rattle.classes.specs.declared.Looked.TheVariants as looked
-use Rattle.classes.specs.declared.Sought.{Sought}
-use Rattle.classes.specs.declared.Sought.TheVariants as sought
-use Rattle.classes.specs.declared.Joined.{Joined}
-use Rattle.classes.specs.declared.Joined.TheVariants as joined
-use Rattle.classes.specs.declared.Same.{Same}
-use Rattle.classes.specs.declared.Same.TheVariants as same
-use Rattle.classes.specs.declared.Taken.{Taken}
-use Rattle.classes.specs.declared.Taken.TheVariants as taken
+use Rattle.classes.specs.Called.{Looked}
+use Rattle.paper.specs.Answered.{Answer}
+use Rattle.classes.specs.Called.{Taken}
+use Rattle.classes.specs.declared.Untaken.TheVariants as taken
 use Rattle.class_script.specs.declared.Reply.{Reply}
 use Rattle.class_script.specs.declared.Reply.TheVariants as reply
 use Rattle.tell_text.specs.Decimal.{decimal}
@@ -49,32 +44,32 @@ refusal_text (UnfoldingTooLong a) = []
 refusal_text (PlaceUsed a) = []
 refusal_text (Repeated a) = []
 
-abbrev pub joined_text : Joined → List ℕ
-joined_text (joined.Done b) = unended "ok"
-joined_text (joined.Refused e) = refusal_text e
+abbrev pub joined_text : Answer Bool → List ℕ
+joined_text (Ok b) = unended "ok"
+joined_text (Err e) = refusal_text e
 
-abbrev pub found_text : Found → List ℕ
-found_text (found.At s) = decimal s
-found_text found.Nothing = unended "none"
+abbrev pub found_text : Maybe ℕ → List ℕ
+found_text (Some s) = decimal s
+found_text None = unended "none"
 
-abbrev pub linked : Found → ℕ → List ℕ
-linked (found.At s) n = (decimal s ++ (32 ∷ [])) ++ decimal n
-linked found.Nothing n = unended "none"
+abbrev pub linked : Maybe ℕ → ℕ → List ℕ
+linked (Some s) n = (decimal s ++ (32 ∷ [])) ++ decimal n
+linked None n = unended "none"
 
 abbrev pub trail_text : Trail → List ℕ
 trail_text t = linked t.found t.links
 
 abbrev pub looked_text : Looked → List ℕ
-looked_text (looked.Got t) = trail_text t
-looked_text (looked.Refused e) = refusal_text e
+looked_text (Ok t) = trail_text t
+looked_text (Err e) = refusal_text e
 
-abbrev pub sought_text : Sought → List ℕ
-sought_text (sought.Got f) = found_text f
-sought_text (sought.Refused e) = refusal_text e
+abbrev pub sought_text : Answer (Maybe ℕ) → List ℕ
+sought_text (Ok f) = found_text f
+sought_text (Err e) = refusal_text e
 
-abbrev pub same_text : Same → List ℕ
-same_text (same.Is b) = bool_text b
-same_text (same.Refused e) = refusal_text e
+abbrev pub same_text : Answer Bool → List ℕ
+same_text (Ok b) = bool_text b
+same_text (Err e) = refusal_text e
 
 -- the member at the place i
 abbrev pub member_text : ℕ → ℕ → List ℕ
@@ -91,9 +86,9 @@ listed_text ms (suc k) = members_text ms (min (suc k) (length ms))
 
 -- a script lends room for every site, so that no removal finds its list short
 abbrev pub taken_text : List ℕ → Taken → List ℕ
-taken_text ms (taken.Members k) = listed_text ms k
-taken_text ms (taken.Refused e) = refusal_text e
-taken_text ms taken.Short = []
+taken_text ms (Ok k) = listed_text ms k
+taken_text ms (Err (taken.Refused e)) = refusal_text e
+taken_text ms (Err taken.Short) = []
 
 abbrev pub reply_text : List ℕ → ℕ → Reply → List ℕ
 reply_text ms line (reply.Merged j) = joined_text j

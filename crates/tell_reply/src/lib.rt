@@ -6,8 +6,8 @@ ghost use Rattle.tell_text.specs.Written.{wrote};
 ghost use Rattle.tell_reply.specs.Replies.{bool_text, refusal_text, joined_text, trail_text, looked_text, found_text, sought_text, same_text, member_text, members_text, taken_text, reply_text};
 
 use class_script::Reply;
-use classes::{Joined, Looked, Same, Sought, Taken, Trail};
-use paper::{Found, Refusal};
+use classes::{Untaken, Trail};
+use paper::Refusal;
 use tell_text::{put, put_decimal, put_text};
 
 fn put_bool(out: &mut [u8], n: usize, b: bool) -> usize
@@ -35,12 +35,12 @@ fn put_refusal(out: &mut [u8], n: usize, e: Refusal) -> usize
     }
 }
 
-fn put_joined(out: &mut [u8], n: usize, j: Joined) -> usize
+fn put_joined(out: &mut [u8], n: usize, j: Result<bool, Refusal>) -> usize
     ensures { (out.new, result) ≡ wrote (out.old, n) (joined_text j) }
 {
     match j {
-        Joined::Done(_) => put_text(out, n, b"ok"),
-        Joined::Refused(e) => put_refusal(out, n, e),
+        Ok(_) => put_text(out, n, b"ok"),
+        Err(e) => put_refusal(out, n, e),
     }
 }
 
@@ -48,7 +48,7 @@ fn put_trail(out: &mut [u8], n: usize, t: Trail) -> usize
     ensures { (out.new, result) ≡ wrote (out.old, n) (trail_text t) }
 {
     let f = t.found;
-    let Found::At(s) = f else {
+    let Some(s) = f else {
         return put_text(out, n, b"none");
     };
     let m = put_decimal(out, n, s as u64);
@@ -56,39 +56,39 @@ fn put_trail(out: &mut [u8], n: usize, t: Trail) -> usize
     put_decimal(out, k, t.links as u64)
 }
 
-fn put_looked(out: &mut [u8], n: usize, l: Looked) -> usize
+fn put_looked(out: &mut [u8], n: usize, l: Result<Trail, Refusal>) -> usize
     ensures { (out.new, result) ≡ wrote (out.old, n) (looked_text l) }
 {
     match l {
-        Looked::Got(t) => put_trail(out, n, t),
-        Looked::Refused(e) => put_refusal(out, n, e),
+        Ok(t) => put_trail(out, n, t),
+        Err(e) => put_refusal(out, n, e),
     }
 }
 
-fn put_found(out: &mut [u8], n: usize, f: Found) -> usize
+fn put_found(out: &mut [u8], n: usize, f: Option<u16>) -> usize
     ensures { (out.new, result) ≡ wrote (out.old, n) (found_text f) }
 {
-    let Found::At(s) = f else {
+    let Some(s) = f else {
         return put_text(out, n, b"none");
     };
     put_decimal(out, n, s as u64)
 }
 
-fn put_sought(out: &mut [u8], n: usize, s: Sought) -> usize
+fn put_sought(out: &mut [u8], n: usize, s: Result<Option<u16>, Refusal>) -> usize
     ensures { (out.new, result) ≡ wrote (out.old, n) (sought_text s) }
 {
     match s {
-        Sought::Got(f) => put_found(out, n, f),
-        Sought::Refused(e) => put_refusal(out, n, e),
+        Ok(f) => put_found(out, n, f),
+        Err(e) => put_refusal(out, n, e),
     }
 }
 
-fn put_same(out: &mut [u8], n: usize, s: Same) -> usize
+fn put_same(out: &mut [u8], n: usize, s: Result<bool, Refusal>) -> usize
     ensures { (out.new, result) ≡ wrote (out.old, n) (same_text s) }
 {
     match s {
-        Same::Is(b) => put_bool(out, n, b),
-        Same::Refused(e) => put_refusal(out, n, e),
+        Ok(b) => put_bool(out, n, b),
+        Err(e) => put_refusal(out, n, e),
     }
 }
 
@@ -121,18 +121,18 @@ fn put_members(out: &mut [u8], n: usize, members: &[u16], k: usize) -> usize
     m
 }
 
-fn put_taken(out: &mut [u8], n: usize, members: &[u16], t: Taken) -> usize
+fn put_taken(out: &mut [u8], n: usize, members: &[u16], t: Result<usize, Untaken>) -> usize
     ensures { (out.new, result) ≡ wrote (out.old, n) (taken_text members.now t) }
 {
     match t {
-        Taken::Members(k) => {
+        Ok(k) => {
             if k == 0 {
                 return put_text(out, n, b"none");
             }
             put_members(out, n, members, k)
         }
-        Taken::Refused(e) => put_refusal(out, n, e),
-        Taken::Short => n,
+        Err(Untaken::Refused(e)) => put_refusal(out, n, e),
+        Err(Untaken::Short) => n,
     }
 }
 

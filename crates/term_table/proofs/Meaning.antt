@@ -12,14 +12,13 @@ use lib.Seq.{ext_get_or}
 use lib.Dec.{eqb}
 use lib.Pow.{shr-shr, pow-add}
 use borrow.Author.Tests.{eqb-true, eqb-false, eq-eqb}
+use Rattle.std.specs.declared.result.Result.TheVariants.{Err, Ok}
 use Rattle.paper.specs.Words.{keep, Walk, one, more, returns}
 use Rattle.paper.proofs.Walks.{returns_is}
 use Rattle.paper.specs.Numbers.{Outcome, done, refused}
-use Rattle.paper.specs.declared.Verdict.{Verdict}
-use Rattle.paper.specs.declared.Verdict.TheVariants as Verdict-is
+use Rattle.paper.specs.Answered.{Verdict}
 use Rattle.paper.proofs.Lists.{no_way}
-use Rattle.term_table.specs.declared.Asked.{Asked}
-use Rattle.term_table.specs.declared.Asked.TheVariants as Asked-is
+use Rattle.paper.specs.Answered.{Answer}
 use Rattle.term_table.specs.Table.{terms, words, Square, row, in_row, marked, numbers, edges_in, is_cyclic, Closure, cyclic_terms, unflagged, added, asked}
 use Rattle.term_table.proofs.Bits.{bit}
 use Rattle.term_table.proofs.Lists.{mem_keep, mem_numbers}
@@ -51,17 +50,17 @@ listed_is t a = (
 
 pub one_added : (x y : Verdict) → added x ≡ added y → x ≡ y
 unfolding added
-one_added Verdict-is.Fine Verdict-is.Fine e = refl
-one_added Verdict-is.Fine (Verdict-is.Refused s) e = no_way (cc)
-one_added (Verdict-is.Refused r) Verdict-is.Fine e = no_way (cc)
-one_added (Verdict-is.Refused r) (Verdict-is.Refused s) e = cc
+one_added (Ok _) (Ok _) e = refl
+one_added (Ok _) (Err s) e = no_way (cc)
+one_added (Err r) (Ok _) e = no_way (cc)
+one_added (Err r) (Err s) e = cc
 
-pub one_asked : (x y : Asked) → asked x ≡ asked y → x ≡ y
+pub one_asked : (x y : Answer Bool) → asked x ≡ asked y → x ≡ y
 unfolding asked
-one_asked (Asked-is.Answer a) (Asked-is.Answer b) e = cc
-one_asked (Asked-is.Answer a) (Asked-is.Refused s) e = no_way (cc)
-one_asked (Asked-is.Refused r) (Asked-is.Answer b) e = no_way (cc)
-one_asked (Asked-is.Refused r) (Asked-is.Refused s) e = cc
+one_asked (Ok a) (Ok b) e = cc
+one_asked (Ok a) (Err s) e = no_way (cc)
+one_asked (Err r) (Ok b) e = no_way (cc)
+one_asked (Err r) (Err s) e = cc
 
 -- a word is known by its bits
 half_bit : (w k : ℕ) → bit (w / 2) k ≡ bit w (suc k)

@@ -12,12 +12,11 @@ use lib.Dec.{eqb, ltb, leb}
 use lib.Bits.{bit_and, bit_or, and_mask}
 use lib.Pow.{shl_exact}
 use borrow.Author.Tests.{lt-ltb, le-ltb, le-leb, lt-leb}
+use Rattle.std.specs.declared.result.Result.TheVariants.{Err, Ok}
 use Rattle.std.specs.Prelude.{if◌then◌else◌}
 use Rattle.paper.specs.Words.{returns}
 use Rattle.paper.specs.Numbers.{max_term, Outcome, done, refused, ◌>>=◌, demand}
 use Rattle.paper.specs.declared.Refusal.TheVariants.{TermTooHigh}
-use Rattle.paper.specs.declared.Verdict.TheVariants as Verdict-is
-use Rattle.term_table.specs.declared.Asked.TheVariants as Asked-is
 use Rattle.term_table.specs.Table.{terms, Square, row, in_row, has_term, marked, row_with, with_mark, edges_in, if_term, with_edge, with_term, has_edge, is_cyclic, left, bare, added, asked}
 use Rattle.term_table.specs.Loops.{both_of, has_some, UnmarkedTo, join_at, join_by, join_to, widen, pass, reach_to, on_diagonal}
 
@@ -69,29 +68,29 @@ module _ (t : Square) (a b : ℕ) where
   unfolding with_edge
   both_within h k = within a _ h ∙ within b _ k
 
-  pub add_from : terms ≤ a → (added (Verdict-is.Refused (TermTooHigh a)) ≡ bare (with_edge t a b)) × (t ≡ left t (with_edge t a b))
+  pub add_from : terms ≤ a → (added (Err (TermTooHigh a)) ≡ bare (with_edge t a b)) × (t ≡ left t (with_edge t a b))
   unfolding added
   add_from h = (sym (ap bare (from_over h)), sym (ap (left t) (from_over h)))
 
-  pub add_to : a < terms → terms ≤ b → (added (Verdict-is.Refused (TermTooHigh b)) ≡ bare (with_edge t a b)) × (t ≡ left t (with_edge t a b))
+  pub add_to : a < terms → terms ≤ b → (added (Err (TermTooHigh b)) ≡ bare (with_edge t a b)) × (t ≡ left t (with_edge t a b))
   unfolding added
   add_to h k = (sym (ap bare (to_over h k)), sym (ap (left t) (to_over h k)))
 
   pub add_done : a < terms → b < terms
-      → (added Verdict-is.Fine ≡ bare (with_edge t a b))
+      → (added (Ok tt) ≡ bare (with_edge t a b))
       × (set t a (set (get_or t a []) (b / 64) (bit_or (get_or (get_or t a []) (b / 64) 0) ((1 * 2 ^ (b % 64)) % 2 ^ 64))) ≡ left t (with_edge t a b))
   unfolding added with_mark
   add_done h k = (sym (ap bare (both_within h k)), ap (set t a) (write_row (get_or t a []) b) ∙ sym (ap (left t) (both_within h k)))
 
-  pub edge_from : terms ≤ a → asked (Asked-is.Refused (TermTooHigh a)) ≡ has_edge t a b
+  pub edge_from : terms ≤ a → asked (Err (TermTooHigh a)) ≡ has_edge t a b
   unfolding asked has_edge
   edge_from h = sym (over a _ h)
 
-  pub edge_to : a < terms → terms ≤ b → asked (Asked-is.Refused (TermTooHigh b)) ≡ has_edge t a b
+  pub edge_to : a < terms → terms ≤ b → asked (Err (TermTooHigh b)) ≡ has_edge t a b
   unfolding asked has_edge
   edge_to h k = sym (within a _ h ∙ over b _ k)
 
-  pub edge_told : {x : Bool} → a < terms → b < terms → x ≡ marked t a b → asked (Asked-is.Answer x) ≡ has_edge t a b
+  pub edge_told : {x : Bool} → a < terms → b < terms → x ≡ marked t a b → asked (Ok x) ≡ has_edge t a b
   unfolding asked has_edge
   edge_told h k e = ap done e ∙ sym (within a _ h ∙ within b _ k)
 
@@ -104,18 +103,18 @@ module _ (r : List ℕ) (a : ℕ) where
   unfolding with_term
   term_within h = within a _ h
 
-  pub flag_over : terms ≤ a → (added (Verdict-is.Refused (TermTooHigh a)) ≡ bare (with_term r a)) × (r ≡ left r (with_term r a))
+  pub flag_over : terms ≤ a → (added (Err (TermTooHigh a)) ≡ bare (with_term r a)) × (r ≡ left r (with_term r a))
   unfolding added
   flag_over h = (sym (ap bare (term_over h)), sym (ap (left r) (term_over h)))
 
   pub flag_done : a < terms
-      → (added Verdict-is.Fine ≡ bare (with_term r a))
+      → (added (Ok tt) ≡ bare (with_term r a))
       × (set r (a / 64) (bit_or (get_or r (a / 64) 0) ((1 * 2 ^ (a % 64)) % 2 ^ 64)) ≡ left r (with_term r a))
   unfolding added
   flag_done h = (sym (ap bare (term_within h)), write_row r a ∙ sym (ap (left r) (term_within h)))
 
 module _ (t : Square) (a : ℕ) where
-  pub cyclic_over : terms ≤ a → asked (Asked-is.Refused (TermTooHigh a)) ≡ is_cyclic t a
+  pub cyclic_over : terms ≤ a → asked (Err (TermTooHigh a)) ≡ is_cyclic t a
   unfolding asked is_cyclic
   cyclic_over h = sym (over a _ h)
 
@@ -123,7 +122,7 @@ module _ (t : Square) (a : ℕ) where
   unfolding is_cyclic
   cyclic_within h = within a _ h
 
-  pub cyclic_told : {x : Bool} → a < terms → x ≡ returns (edges_in t) a → asked (Asked-is.Answer x) ≡ is_cyclic t a
+  pub cyclic_told : {x : Bool} → a < terms → x ≡ returns (edges_in t) a → asked (Ok x) ≡ is_cyclic t a
   unfolding asked
   cyclic_told h e = ap done e ∙ sym (cyclic_within h)
 

@@ -1,14 +1,13 @@
 -- 01, "Terms": "the term table is a square of 256 rows by 256 marks", 64 marks to a word, and what is asked of it.
+use Rattle.std.specs.declared.result.Result.TheVariants.{Err, Ok}
 use Rattle.std.specs.Prelude.{◌≡◌, Bool, true, false, ◌&&◌, not, ◌↔◌, List, [], ◌∷◌, ◌++◌, map, ℕ, zero, suc, ◌+◌, ◌-◌, ◌/◌, ◌%◌, ◌^◌, ◌<◌, ◌≤◌, length, get_or, set, replicate, eqb, ltb, leb}
 use Rattle.std.specs.Int.Bits.{bit_or}
 use Rattle.paper.specs.Words.{keep, below, joined, Edges, Walk, returns}
 use Rattle.paper.specs.Numbers.{max_term, Outcome, done, refused, ◌>>=◌, demand}
 use Rattle.paper.specs.declared.Refusal.{Refusal}
 use Rattle.paper.specs.declared.Refusal.TheVariants.{TermTooHigh}
-use Rattle.paper.specs.declared.Verdict.{Verdict}
-use Rattle.paper.specs.declared.Verdict.TheVariants as Verdict-is
-use Rattle.term_table.specs.declared.Asked.{Asked}
-use Rattle.term_table.specs.declared.Asked.TheVariants as Asked-is
+use Rattle.paper.specs.Answered.{Verdict}
+use Rattle.paper.specs.Answered.{Answer}
 use Rattle.term_table.specs.declared.Listed.{Listed}
 
 -- "term numbers to 255"
@@ -103,12 +102,12 @@ unflagged t recs = keep (λ a. returns (edges_in t) a && not (in_row recs a)) nu
 
 -- ---- what the answers mean, in paper's words (its `number` and `told` give 01's)
 unfoldable pub added : Verdict → Outcome (Unit {0})
-added Verdict-is.Fine = done tt
-added (Verdict-is.Refused r) = refused r
+added (Ok _) = done tt
+added (Err r) = refused r
 
-unfoldable pub asked : Asked → Outcome Bool
-asked (Asked-is.Answer b) = done b
-asked (Asked-is.Refused r) = refused r
+unfoldable pub asked : Answer Bool → Outcome Bool
+asked (Ok b) = done b
+asked (Err r) = refused r
 
 unfoldable pub listed : List ℕ → Listed
 listed xs = record { count = length xs; terms = xs ++ replicate (terms - length xs) 0 }

@@ -7,17 +7,10 @@ ghost use Rattle.std.specs.Prelude.{◌≡◌, false, ◌+◌, ◌<◌};
 ghost use Rattle.term_table.specs.Table.{terms, in_row, has_term, marked, no_edges, with_edge, with_term, has_edge, is_cyclic, left, bare, Closure, cyclic_terms, unflagged, added, asked, listed};
 ghost use Rattle.term_table.specs.Loops.{both_of, has_some, Unmarked, join_at, join_by, join_to, widen, pass, on_diagonal, list_to};
 
-use paper::{Refusal, TERMS, Verdict};
+use paper::{Refusal, TERMS};
 
 // The words of a row, 64 marks to a word.
 pub const WORDS: usize = TERMS / 64;
-
-// What a question answers.
-#[derive(Clone, Copy)]
-pub enum Asked {
-    Answer(bool),
-    Refused(Refusal),
-}
 
 // Terms ascending: the first `count` of `terms`. The others are 0.
 #[derive(Clone, Copy)]
@@ -63,52 +56,52 @@ fn has(t: &[[u64; WORDS]; TERMS], i: usize, j: usize) -> bool
 }
 
 // Adds the edge that runs from one term to another.
-pub fn add(t: &mut [[u64; WORDS]; TERMS], from: u16, to: u16) -> Verdict
+pub fn add(t: &mut [[u64; WORDS]; TERMS], from: u16, to: u16) -> Result<(), Refusal>
     ensures result_value { added result ≡ bare (with_edge t.old from to) }
     ensures t_after { t.new ≡ left t.old (with_edge t.old from to) }
 {
     let i = from as usize;
     let j = to as usize;
     if i >= TERMS {
-        return Verdict::Refused(Refusal::TermTooHigh { asked: from as u32 });
+        return Err(Refusal::TermTooHigh { asked: from as u32 });
     }
     if j >= TERMS {
-        return Verdict::Refused(Refusal::TermTooHigh { asked: to as u32 });
+        return Err(Refusal::TermTooHigh { asked: to as u32 });
     }
     let k = j / 64;
     let w = t[i][k];
     t[i][k] = w | (1 << (j % 64));
-    Verdict::Fine
+    Ok(())
 }
 
 // Marks a term in a row, as the terms that have rec.
-pub fn flag(r: &mut [u64; WORDS], term: u16) -> Verdict
+pub fn flag(r: &mut [u64; WORDS], term: u16) -> Result<(), Refusal>
     ensures result_value { added result ≡ bare (with_term r.old term) }
     ensures r_after { r.new ≡ left r.old (with_term r.old term) }
 {
     let j = term as usize;
     if j >= TERMS {
-        return Verdict::Refused(Refusal::TermTooHigh { asked: term as u32 });
+        return Err(Refusal::TermTooHigh { asked: term as u32 });
     }
     let k = j / 64;
     let w = r[k];
     r[k] = w | (1 << (j % 64));
-    Verdict::Fine
+    Ok(())
 }
 
 // Whether an edge runs from one term to another.
-pub fn edge(t: &[[u64; WORDS]; TERMS], from: u16, to: u16) -> Asked
+pub fn edge(t: &[[u64; WORDS]; TERMS], from: u16, to: u16) -> Result<bool, Refusal>
     ensures { asked result ≡ has_edge t.now from to }
 {
     let i = from as usize;
     let j = to as usize;
     if i >= TERMS {
-        return Asked::Refused(Refusal::TermTooHigh { asked: from as u32 });
+        return Err(Refusal::TermTooHigh { asked: from as u32 });
     }
     if j >= TERMS {
-        return Asked::Refused(Refusal::TermTooHigh { asked: to as u32 });
+        return Err(Refusal::TermTooHigh { asked: to as u32 });
     }
-    Asked::Answer(has(t, i, j))
+    Ok(has(t, i, j))
 }
 
 // Two rows together.
@@ -216,15 +209,15 @@ pub fn reach(mut t: [[u64; WORDS]; TERMS]) -> [[u64; WORDS]; TERMS]
 }
 
 // Whether a walk of one or more edges returns to a term.
-pub fn cyclic(mut t: [[u64; WORDS]; TERMS], term: u16) -> Asked
+pub fn cyclic(mut t: [[u64; WORDS]; TERMS], term: u16) -> Result<bool, Refusal>
     ensures { asked result ≡ is_cyclic t term }
 {
     let a = term as usize;
     if a >= TERMS {
-        return Asked::Refused(Refusal::TermTooHigh { asked: term as u32 });
+        return Err(Refusal::TermTooHigh { asked: term as u32 });
     }
     close(&mut t);
-    Asked::Answer(has(&t, a, a))
+    Ok(has(&t, a, a))
 }
 
 // Whether term i reaches itself and is not among the others.

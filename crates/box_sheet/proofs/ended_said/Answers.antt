@@ -4,10 +4,10 @@ use Rattle.box_sheet.specs.Sheet.{ended_said}
 use Rattle.box_answers.proofs.Crossing.{done_as}
 use Rattle.box_sheet.proofs.ended_said.Goals as goal
 
-pub returns-in-To : goal.returns-in-To
+pub returns-in-Some : goal.returns-in-Some
 unfolding ended_said
-returns-in-To c = done_as _ _ _ _ _ c.done.ensures c.word_of_size.ensures refl ∙ sym (ap ended_said c.in-To.is)
+returns-in-Some c = done_as _ _ _ _ _ c.done.ensures c.word_of_size.ensures refl ∙ sym (ap ended_said c.in-Some.is)
 
-pub returns-in-Short : goal.returns-in-Short
+pub returns-in-None : goal.returns-in-None
 unfolding ended_said
-returns-in-Short c = c.crowded.ensures ∙ sym (ap ended_said c.in-Short.is)
+returns-in-None c = c.crowded.ensures ∙ sym (ap ended_said c.in-None.is)

@@ -28,5 +28,5 @@ pub shape_of-members : goal.shape_of-members
 shape_of-members c = swept_length c.sweep_listed-n.ensures (listed_within _ _ _ _) c.if-members-sites.false
 
 pub returns : goal.returns
-returns c = λ R. taken_some (sweep_of _ _) _ _ _ (test_in _ _ c.size16.ensures c.if-size16-ge-SITES.false) c.flatten_in-f.ensures _ _ _ _ _ _ c.in-At.is c.sweep_listed-n.ensures c.take_out.ensures
+returns c = λ R. taken_some (sweep_of _ _) _ _ _ (test_in _ _ c.size16.ensures c.if-size16-ge-SITES.false) c.flatten_in-f.ensures _ _ _ _ _ _ c.in-Some.is c.sweep_listed-n.ensures c.take_out.ensures
     ∙ taken_listed _ _ _ _ c.if-members-sites.false

@@ -28,5 +28,5 @@ pub shape_of-members : goal.shape_of-members
 shape_of-members c = swept_length c.sweep-n.ensures (sweep_within _ _ _) c.if-members-lt-SITES.false
 
 pub returns : goal.returns
-returns c = λ R. taken_some (sweep _) _ _ _ (test_in _ _ c.size16.ensures c.if-size16-ge-SITES.false) c.flatten_in-f.ensures _ _ _ _ _ _ c.in-At.is c.sweep-n.ensures c.take_out.ensures
+returns c = λ R. taken_some (sweep _) _ _ _ (test_in _ _ c.size16.ensures c.if-size16-ge-SITES.false) c.flatten_in-f.ensures _ _ _ _ _ _ c.in-Some.is c.sweep-n.ensures c.take_out.ensures
     ∙ taken_all _ _ _ c.if-members-lt-SITES.false

@@ -16,7 +16,7 @@ pub returns-in_default : goal.returns-in_default
 returns-in_default c = pair_first _ _ c.space-k.ensures.0 _ c.number_of-a.ensures c.in_default.is
 
 pub returns-in_default-b : goal.returns-in_default-b
-returns-in_default-b c = pair_told _ _ c.space-k.ensures.0 _ _ c.number_of-a.ensures c.number_of-b.ensures (omega (arith, c.space-k.ensures.1)) c.in-Is.is c.in_default-b.is
+returns-in_default-b c = pair_told _ _ c.space-k.ensures.0 _ _ c.number_of-a.ensures c.number_of-b.ensures (omega (arith, c.space-k.ensures.1)) c.in-Some.is c.in_default-b.is
 
 pub returns : goal.returns
-returns c = pair_told _ _ c.space-k.ensures.0 _ _ c.number_of-a.ensures c.number_of-b.ensures (omega (arith, c.space-k.ensures.1)) c.in-Is.is c.in-Is-b.is
+returns c = pair_told _ _ c.space-k.ensures.0 _ _ c.number_of-a.ensures c.number_of-b.ensures (omega (arith, c.space-k.ensures.1)) c.in-Some.is c.in-Some-b.is

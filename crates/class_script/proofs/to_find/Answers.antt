@@ -3,5 +3,5 @@ use mathlib.Core.Path.{sym, ap}
 use Rattle.class_script.specs.Script.{to_find}
 use Rattle.class_script.proofs.to_find.Goals as goal
 
-pub returns-in-Is : goal.returns-in-Is
-returns-in-Is c = sym (ap to_find c.in-Is.is)
+pub returns-in-Some : goal.returns-in-Some
+returns-in-Some c = sym (ap to_find c.in-Some.is)

@@ -8,4 +8,4 @@ pub returns-in_default : goal.returns-in_default
 returns-in_default c = entered_new (classes _ _ _) _ c.flatten_in-f.ensures _ _ c.size16-i.ensures c.more.ensures c.in_default.is
 
 pub returns : goal.returns
-returns c = entered (classes _ _ _) _ c.flatten_in-f.ensures _ c.in-At.is
+returns c = entered (classes _ _ _) _ c.flatten_in-f.ensures _ c.in-Some.is

@@ -7,7 +7,7 @@ pub returns-in_default : goal.returns-in_default
 returns-in_default c = flatten_none _ _ _ c.trail_in-t.ensures c.in_default.is
 
 pub hang-requires : goal.hang-requires
-hang-requires c = flatten_led _ _ _ c.trail_in-t.ensures _ c.in-At.is
+hang-requires c = flatten_led _ _ _ c.trail_in-t.ensures _ c.in-Some.is
 
 pub returns : goal.returns
-returns c = flatten_at _ _ _ c.trail_in-t.ensures _ _ c.in-At.is c.hang.ensures
+returns c = flatten_at _ _ _ c.trail_in-t.ensures _ _ c.in-Some.is c.hang.ensures

@@ -5,13 +5,13 @@ use borrow.Author.Rules.{rules}
 use Rattle.plan_text.proofs.line_from.Goals as goal
 
 pub overflow_add-result : goal.overflow_add-result
-overflow_add-result c = omega (arith, line_fits _ _ _ (sym c.line_end-end.ensures ∙ c.in-At.is))
+overflow_add-result c = omega (arith, line_fits _ _ _ (sym c.line_end-end.ensures ∙ c.in-Some.is))
 
 pub overflow_add-e : goal.overflow_add-e
-overflow_add-e c = omega (arith, line_fits _ _ _ (sym c.line_end-end.ensures ∙ c.in-At.is))
+overflow_add-e c = omega (arith, line_fits _ _ _ (sym c.line_end-end.ensures ∙ c.in-Some.is))
 
-pub returns-in-At : goal.returns-in-At
-returns-in-At c = next_ended _ _ _ _ _ (sym c.line_end-end.ensures ∙ c.in-At.is) c.part.ensures c.line_of.ensures
+pub returns-in-Some : goal.returns-in-Some
+returns-in-Some c = next_ended _ _ _ _ _ (sym c.line_end-end.ensures ∙ c.in-Some.is) c.part.ensures c.line_of.ensures
 
-pub returns-in-Open : goal.returns-in-Open
-returns-in-Open c = next_open _ _ c.requires (sym c.line_end-end.ensures ∙ c.in-Open.is)
+pub returns-in-None : goal.returns-in-None
+returns-in-None c = next_open _ _ c.requires (sym c.line_end-end.ensures ∙ c.in-None.is)

@@ -7,4 +7,4 @@ pub returns-in_default : goal.returns-in_default
 returns-in_default c = equate_not _ _ _ _ _ c.requires.well c.requires.x_lt_max_sites.0 c.requires.x_lt_max_sites.1 _ _ _ _ _ c.merge_in-j.ensures c.in_default.is
 
 pub returns : goal.returns
-returns c = equate_done _ _ _ _ _ c.requires.well c.requires.x_lt_max_sites.0 c.requires.x_lt_max_sites.1 _ _ _ _ _ c.merge_in-j.ensures c.in-Done.is
+returns c = equate_done _ _ _ _ _ c.requires.well c.requires.x_lt_max_sites.0 c.requires.x_lt_max_sites.1 _ _ _ _ _ c.merge_in-j.ensures c.in-Ok.is

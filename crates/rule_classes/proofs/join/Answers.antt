@@ -18,8 +18,8 @@ conflict-c-requires-clause-reps c = reps_of _ _ _ _ _ _ c.close.ensures
 pub conflict-c-requires-clause-m_le_max_sites : goal.conflict-c-requires-clause-m_le_max_sites
 conflict-c-requires-clause-m_le_max_sites c = (omega (arith, c.holder_count-m.ensures), c.requires.1.0)
 
-pub returns-in-At : goal.returns-in-At
-returns-in-At c = join_clash (held c.args.sites.now c.args.rows.now c.args.words.now c.args.kids.now) c.args.eqs.now _ _ _ c.requires (from_none _ _ _ _ _ _ _ c.clear_in.ensures c.written.ensures) _ _ c.holder_count-m.ensures c.size16.ensures _ _ _ c.close.ensures _ _ _ c.in-At.is c.conflict-c.ensures.clash_is
+pub returns-in-Some : goal.returns-in-Some
+returns-in-Some c = join_clash (held c.args.sites.now c.args.rows.now c.args.words.now c.args.kids.now) c.args.eqs.now _ _ _ c.requires (from_none _ _ _ _ _ _ _ c.clear_in.ensures c.written.ensures) _ _ c.holder_count-m.ensures c.size16.ensures _ _ _ c.close.ensures _ _ _ c.in-Some.is c.conflict-c.ensures.clash_is
 
-pub returns-in-Nothing : goal.returns-in-Nothing
-returns-in-Nothing c = join_fine (held c.args.sites.now c.args.rows.now c.args.words.now c.args.kids.now) c.args.eqs.now _ _ _ c.requires (from_none _ _ _ _ _ _ _ c.clear_in.ensures c.written.ensures) _ _ c.holder_count-m.ensures c.size16.ensures _ _ _ c.close.ensures _ (c.conflict-c.ensures.seated c.in-Nothing.is)
+pub returns-in-None : goal.returns-in-None
+returns-in-None c = join_fine (held c.args.sites.now c.args.rows.now c.args.words.now c.args.kids.now) c.args.eqs.now _ _ _ c.requires (from_none _ _ _ _ _ _ _ c.clear_in.ensures c.written.ensures) _ _ c.holder_count-m.ensures c.size16.ensures _ _ _ c.close.ensures _ (c.conflict-c.ensures.seated c.in-None.is)

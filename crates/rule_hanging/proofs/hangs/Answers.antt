@@ -13,4 +13,4 @@ pub returns-in_default : goal.returns-in_default
 returns-in_default c = λ l X h. hangs_free _ _ _ _ _ _ _ l X _ _ h c.word_of-w.ensures c.if-w-eq0.false _ c.source_of-source.ensures _ c.look-there.ensures c.in_default.is
 
 pub returns : goal.returns
-returns c = λ l X h. hangs_held _ _ _ _ _ _ _ l X _ _ h c.word_of-w.ensures c.if-w-eq0.false _ c.source_of-source.ensures _ c.look-there.ensures _ _ _ _ _ _ _ c.in-At.is (let e = c.size16-k.ensures in omega arith) c.word.ensures c.word-2.ensures c.word-3.ensures c.unpack-c.ensures c.is_child.ensures
+returns c = λ l X h. hangs_held _ _ _ _ _ _ _ l X _ _ h c.word_of-w.ensures c.if-w-eq0.false _ c.source_of-source.ensures _ c.look-there.ensures _ _ _ _ _ _ _ c.in-Some.is (let e = c.size16-k.ensures in omega arith) c.word.ensures c.word-2.ensures c.word-3.ensures c.unpack-c.ensures c.is_child.ensures

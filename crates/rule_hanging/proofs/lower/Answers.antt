@@ -11,7 +11,7 @@ pub returns-in_default : goal.returns-in_default
 returns-in_default c = λ p ns eb ey. lower_first p _ ns _ eb (sym ey ∙ c.if-not-yes.false) c.in_default.is
 
 pub returns-then-x-y : goal.returns-then-x-y
-returns-then-x-y c = λ p ns eb ey. lower_low p _ ns _ eb (sym ey ∙ c.if-not-yes.false) _ c.in-At.is (let a = c.if-x-y.true in omega arith)
+returns-then-x-y c = λ p ns eb ey. lower_low p _ ns _ eb (sym ey ∙ c.if-not-yes.false) _ c.in-Some.is (let a = c.if-x-y.true in omega arith)
 
 pub returns : goal.returns
-returns c = λ p ns eb ey. lower_high p _ ns _ eb (sym ey ∙ c.if-not-yes.false) _ c.in-At.is (let a = c.if-x-y.false in omega arith)
+returns c = λ p ns eb ey. lower_high p _ ns _ eb (sym ey ∙ c.if-not-yes.false) _ c.in-Some.is (let a = c.if-x-y.false in omega arith)

@@ -24,19 +24,19 @@ pub constrain-requires-clause-c_bound : goal.constrain-requires-clause-c_bound
 constrain-requires-clause-c_bound c = few_children c.args.c (let x = c.if-many-gt-FIELDS.false in let y = c.field_count-many.ensures.0 in omega arith)
 
 pub returns-then-same_row-clause-turn : goal.returns-then-same_row-clause-turn
-returns-then-same_row-clause-turn c = (λ eqs l W. is_same _ _ _ _ _ _ _ _ _ _ _ _ _ W _ c.args.c _ (let x = c.if-size16.false in let a = c.size16.ensures in let b = c.size16-2.ensures in let d = c.size16-3.ensures in omega arith) (let x = c.if-many-gt-FIELDS.false in let y = c.field_count-many.ensures.0 in omega arith) _ _ _ c.look-there.ensures c.in-At.is c.same_row.ensures c.if-same_row.true c.requires.item refl refl refl refl)
+returns-then-same_row-clause-turn c = (λ eqs l W. is_same _ _ _ _ _ _ _ _ _ _ _ _ _ W _ c.args.c _ (let x = c.if-size16.false in let a = c.size16.ensures in let b = c.size16-2.ensures in let d = c.size16-3.ensures in omega arith) (let x = c.if-many-gt-FIELDS.false in let y = c.field_count-many.ensures.0 in omega arith) _ _ _ c.look-there.ensures c.in-Some.is c.same_row.ensures c.if-same_row.true c.requires.item refl refl refl refl)
 
 pub returns-then-same_row-clause-inside : goal.returns-then-same_row-clause-inside
 returns-then-same_row-clause-inside c = λ I. I
 
-pub returns-in-Nothing-clause-turn : goal.returns-in-Nothing-clause-turn
-returns-in-Nothing-clause-turn c = (λ eqs l W. is_new _ _ _ _ _ _ _ _ _ _ _ _ _ W _ c.args.c _ (let x = c.if-size16.false in let a = c.size16.ensures in let b = c.size16-2.ensures in let d = c.size16-3.ensures in omega arith) (let x = c.if-many-gt-FIELDS.false in let y = c.field_count-many.ensures.0 in omega arith) _ c.look-there.ensures c.in-Nothing.is _ _ _ _ _ (c.constrain.ensures.turn eqs l W (let z = way_size _ _ _ _ _ _ _ _ _ _ _ _ _ W in let x = c.if-size16.false in let a = c.size16.ensures in let b = c.size16-2.ensures in let d = c.size16-3.ensures in omega arith)))
+pub returns-in-None-clause-turn : goal.returns-in-None-clause-turn
+returns-in-None-clause-turn c = (λ eqs l W. is_new _ _ _ _ _ _ _ _ _ _ _ _ _ W _ c.args.c _ (let x = c.if-size16.false in let a = c.size16.ensures in let b = c.size16-2.ensures in let d = c.size16-3.ensures in omega arith) (let x = c.if-many-gt-FIELDS.false in let y = c.field_count-many.ensures.0 in omega arith) _ c.look-there.ensures c.in-None.is _ _ _ _ _ (c.constrain.ensures.turn eqs l W (let z = way_size _ _ _ _ _ _ _ _ _ _ _ _ _ W in let x = c.if-size16.false in let a = c.size16.ensures in let b = c.size16-2.ensures in let d = c.size16-3.ensures in omega arith)))
 
-pub returns-in-Nothing-clause-inside : goal.returns-in-Nothing-clause-inside
-returns-in-Nothing-clause-inside c = c.constrain.ensures.inside
+pub returns-in-None-clause-inside : goal.returns-in-None-clause-inside
+returns-in-None-clause-inside c = c.constrain.ensures.inside
 
 pub returns-else-same_row-clause-turn : goal.returns-else-same_row-clause-turn
-returns-else-same_row-clause-turn c = (λ eqs l W. is_other _ _ _ _ _ _ _ _ _ _ _ _ _ W _ c.args.c _ (let x = c.if-size16.false in let a = c.size16.ensures in let b = c.size16-2.ensures in let d = c.size16-3.ensures in omega arith) (let x = c.if-many-gt-FIELDS.false in let y = c.field_count-many.ensures.0 in omega arith) _ _ _ c.look-there.ensures c.in-At.is c.same_row.ensures c.if-same_row.false c.refuse-in-At.ensures)
+returns-else-same_row-clause-turn c = (λ eqs l W. is_other _ _ _ _ _ _ _ _ _ _ _ _ _ W _ c.args.c _ (let x = c.if-size16.false in let a = c.size16.ensures in let b = c.size16-2.ensures in let d = c.size16-3.ensures in omega arith) (let x = c.if-many-gt-FIELDS.false in let y = c.field_count-many.ensures.0 in omega arith) _ _ _ c.look-there.ensures c.in-Some.is c.same_row.ensures c.if-same_row.false c.refuse-in-Some.ensures)
 
 pub returns-else-same_row-clause-inside : goal.returns-else-same_row-clause-inside
 returns-else-same_row-clause-inside c = λ I. I

@@ -99,7 +99,7 @@ pub returns-in_default-clause-rowed : goal.returns-in_default-clause-rowed
 returns-in_default-clause-rowed c = rowed_walk c.args.m.now c.args.n (held_items c.args.items.now (min c.args.count max_items)) _ _ _ _ _ _ _ _ c.walk-p.ensures.walk
 
 pub returns-in_default-found-clause-told : goal.returns-in_default-found-clause-told
-returns-in_default-found-clause-told c = told_fine _ _ _ _ _ _ _ _ _ _ _ _ (let e = c.size16.ensures in let x = c.if-size16-gt-SITES.false in omega arith) (sym c.has_room.ensures ∙ c.if-not-has_room.false) (let x = c.if-count-gt-ITEMS.false in omega arith) _ c.walk-p.ensures.walk c.in-Fine.is _ (few_items _ _ _ _ _ _ _ c.args.items.now c.args.count _ (let x = c.if-count-gt-ITEMS.false in omega arith) c.hanging-found.ensures) c.in_default-found.is refl
+returns-in_default-found-clause-told c = told_fine _ _ _ _ _ _ _ _ _ _ _ _ (let e = c.size16.ensures in let x = c.if-size16-gt-SITES.false in omega arith) (sym c.has_room.ensures ∙ c.if-not-has_room.false) (let x = c.if-count-gt-ITEMS.false in omega arith) _ c.walk-p.ensures.walk c.in-Ok.is _ (few_items _ _ _ _ _ _ _ c.args.items.now c.args.count _ (let x = c.if-count-gt-ITEMS.false in omega arith) c.hanging-found.ensures) c.in_default-found.is refl
 
 pub returns-in_default-found-clause-long : goal.returns-in_default-found-clause-long
 returns-in_default-found-clause-long c = record { tail_long = c.walk-p.auto.tail; sites_long = c.walk-p.auto.sites; rows_long = c.walk-p.auto.rows; words_long = c.walk-p.auto.words; kids_long = c.walk-p.auto.kids; eqs_long = c.walk-p.auto.eqs }
@@ -111,7 +111,7 @@ pub returns-in_default-found-clause-rowed : goal.returns-in_default-found-clause
 returns-in_default-found-clause-rowed c = rowed_walk c.args.m.now c.args.n (held_items c.args.items.now (min c.args.count max_items)) _ _ _ _ _ _ _ _ c.walk-p.ensures.walk
 
 pub returns-clause-told : goal.returns-clause-told
-returns-clause-told c = told_hanging _ _ _ _ _ _ _ _ _ _ _ _ (let e = c.size16.ensures in let x = c.if-size16-gt-SITES.false in omega arith) (sym c.has_room.ensures ∙ c.if-not-has_room.false) (let x = c.if-count-gt-ITEMS.false in omega arith) _ c.walk-p.ensures.walk c.in-Fine.is _ (few_items _ _ _ _ _ _ _ c.args.items.now c.args.count _ (let x = c.if-count-gt-ITEMS.false in omega arith) c.hanging-found.ensures) _ c.in-At.is c.refuse-2.ensures
+returns-clause-told c = told_hanging _ _ _ _ _ _ _ _ _ _ _ _ (let e = c.size16.ensures in let x = c.if-size16-gt-SITES.false in omega arith) (sym c.has_room.ensures ∙ c.if-not-has_room.false) (let x = c.if-count-gt-ITEMS.false in omega arith) _ c.walk-p.ensures.walk c.in-Ok.is _ (few_items _ _ _ _ _ _ _ c.args.items.now c.args.count _ (let x = c.if-count-gt-ITEMS.false in omega arith) c.hanging-found.ensures) _ c.in-Some.is c.refuse-2.ensures
 
 pub returns-clause-long : goal.returns-clause-long
 returns-clause-long c = record { tail_long = c.walk-p.auto.tail; sites_long = c.walk-p.auto.sites; rows_long = c.walk-p.auto.rows; words_long = c.walk-p.auto.words; kids_long = c.walk-p.auto.kids; eqs_long = c.walk-p.auto.eqs }

@@ -23,7 +23,7 @@ pub loop-i-smaller : goal.loop-i-smaller
 loop-i-smaller c = let b = c.loop-i-test.true in omega arith
 
 pub loop-i-preserved : goal.loop-i-preserved
-loop-i-preserved c = record { within = let b = c.loop-i-test.true in omega arith; walking = walking_step _ _ _ _ _ _ _ _ _ _ _ _ _ c.loop-i.invariant.walking _ (let z = items_long c.args.items.now c.args.count c.requires.n_le_max_sites.1 in let b = c.loop-i-test.true in omega arith) (item_is c.args.items.now c.args.count _ _ c.requires.n_le_max_sites.1 c.loop-i-test.true c.item_at-it.ensures) _ _ _ _ _ _ _ c.take_item-p.ensures.turn c.in-Fine.is; long = record { tail_long = c.take_item-p.auto.tail ∙ c.loop-i.invariant.long.tail_long; sites_long = c.take_item-p.auto.sites ∙ c.loop-i.invariant.long.sites_long; rows_long = c.take_item-p.auto.rows ∙ c.loop-i.invariant.long.rows_long; words_long = c.take_item-p.auto.words ∙ c.loop-i.invariant.long.words_long; kids_long = c.take_item-p.auto.kids ∙ c.loop-i.invariant.long.kids_long; eqs_long = c.take_item-p.auto.eqs ∙ c.loop-i.invariant.long.eqs_long }; inside = λ I. c.take_item-p.ensures.inside (c.loop-i.invariant.inside I) }
+loop-i-preserved c = record { within = let b = c.loop-i-test.true in omega arith; walking = walking_step _ _ _ _ _ _ _ _ _ _ _ _ _ c.loop-i.invariant.walking _ (let z = items_long c.args.items.now c.args.count c.requires.n_le_max_sites.1 in let b = c.loop-i-test.true in omega arith) (item_is c.args.items.now c.args.count _ _ c.requires.n_le_max_sites.1 c.loop-i-test.true c.item_at-it.ensures) _ _ _ _ _ _ _ c.take_item-p.ensures.turn c.in-Ok.is; long = record { tail_long = c.take_item-p.auto.tail ∙ c.loop-i.invariant.long.tail_long; sites_long = c.take_item-p.auto.sites ∙ c.loop-i.invariant.long.sites_long; rows_long = c.take_item-p.auto.rows ∙ c.loop-i.invariant.long.rows_long; words_long = c.take_item-p.auto.words ∙ c.loop-i.invariant.long.words_long; kids_long = c.take_item-p.auto.kids ∙ c.loop-i.invariant.long.kids_long; eqs_long = c.take_item-p.auto.eqs ∙ c.loop-i.invariant.long.eqs_long }; inside = λ I. c.take_item-p.ensures.inside (c.loop-i.invariant.inside I) }
 
 pub shape_of-tail : goal.shape_of-tail
 shape_of-tail c = c.loop-i.invariant.long.tail_long

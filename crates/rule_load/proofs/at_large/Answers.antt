@@ -13,4 +13,4 @@ pub returns-in_default : goal.returns-in_default
 returns-in_default c = absurd (never_scant (tried_short _ _ _ _ _ _ _ _ _ _ c.attempt-a.ensures c.in_default.is).0)
 
 pub returns : goal.returns
-returns c = tried_done _ _ _ _ _ _ _ _ _ _ c.attempt-a.ensures _ c.in-Done.is
+returns c = tried_done _ _ _ _ _ _ _ _ _ _ c.attempt-a.ensures _ c.in-Some.is

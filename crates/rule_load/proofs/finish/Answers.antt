@@ -4,8 +4,8 @@ use native.Mathlib.Omega.{arith}
 use Rattle.rule_load.proofs.Keeping.{finish_refuses, keepable, finish_keeps}
 use Rattle.rule_load.proofs.finish.Goals as goal
 
-pub returns-in-Refused : goal.returns-in-Refused
-returns-in-Refused c = finish_refuses c.args.m.now _ c.args.words.now c.args.kept c.args.place c.args.priority _ _ _ _ _ _ _ _ c.requires (c.size16.result + c.size16-2.result) (omega (arith, c.size16.ensures, c.size16-2.ensures)) _ c.settle-last.ensures _ c.in-Refused.is
+pub returns-in-Err : goal.returns-in-Err
+returns-in-Err c = finish_refuses c.args.m.now _ c.args.words.now c.args.kept c.args.place c.args.priority _ _ _ _ _ _ _ _ c.requires (c.size16.result + c.size16-2.result) (omega (arith, c.size16.ensures, c.size16-2.ensures)) _ c.settle-last.ensures _ c.in-Err.is
 
 pub keep-requires : goal.keep-requires
 keep-requires c = keepable c.args.m.now c.args.n c.args.words.now c.args.kept c.args.place c.args.priority c.args.count _ _ _ _ _ _ _ c.requires (c.size16.result + c.size16-2.result) (omega (arith, c.size16.ensures, c.size16-2.ensures)) _ c.settle-last.ensures c.in_default.is

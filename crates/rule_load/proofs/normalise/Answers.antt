@@ -21,8 +21,8 @@ slice_bounds-check-end-4 c = omega (arith, left_held c.args.m.now c.args.n c.arg
 pub slice_bounds-check-end-5 : goal.slice_bounds-check-end-5
 slice_bounds-check-end-5 c = sym (length-take-le _ _ (omega (arith, left_held c.args.m.now c.args.n c.args.tail.now c.args.sites.now c.args.rows.now c.args.shapes.now c.args.kids.now c.args.eqs.now c.args.a c.args.equal.now c.args.low.now c.args.count c.requires.left.0 c.requires.left.1, c.requires.left.1.long_sites, c.requires.left.1.long_rows)))
 
-pub returns-in-Refused : goal.returns-in-Refused
-returns-in-Refused c = told_refused _ _ c.refuse.ensures (λ is L. rounds_by _ _ _ _ _ _ _ _ _ _ _ (left_refuse c.args.m.now c.args.n c.args.tail.now c.args.sites.now c.args.rows.now c.args.shapes.now c.args.kids.now c.args.eqs.now c.args.a c.args.equal.now c.args.low.now c.args.count is L _ _ c.check-v.ensures c.in-Refused.is) c.refuse.ensures)
+pub returns-in-Err : goal.returns-in-Err
+returns-in-Err c = told_refused _ _ c.refuse.ensures (λ is L. rounds_by _ _ _ _ _ _ _ _ _ _ _ (left_refuse c.args.m.now c.args.n c.args.tail.now c.args.sites.now c.args.rows.now c.args.shapes.now c.args.kids.now c.args.eqs.now c.args.a c.args.equal.now c.args.low.now c.args.count is L _ _ c.check-v.ensures c.in-Err.is) c.refuse.ensures)
 
 pub slice_bounds-turn-end : goal.slice_bounds-turn-end
 slice_bounds-turn-end c = sym (length-take-le _ _ (left_equal c.args.m.now c.args.n c.args.tail.now c.args.sites.now c.args.rows.now c.args.shapes.now c.args.kids.now c.args.eqs.now c.args.a c.args.equal.now c.args.low.now c.args.count c.requires.left.0 c.requires.left.1))

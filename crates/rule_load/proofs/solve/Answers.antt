@@ -8,8 +8,8 @@ use Rattle.rule_load.proofs.Checking.{rounds_by, items_refuse, roomy_so, zeros_i
 use Rattle.rule_rounds.proofs.Telling.{told_refused, told_up}
 use Rattle.rule_load.proofs.solve.Goals as goal
 
-pub returns-in-Refused : goal.returns-in-Refused
-returns-in-Refused c = told_refused _ _ c.refuse.ensures (rounds_by _ _ _ _ _ _ _ _ _ _ _ (items_refuse _ _ _ _ _ _ _ _ _ c.args.count _ _ _ _ (roomy_so c.args.tail.now c.args.sites.now c.args.rows.now c.args.shapes.now (replicate (max_fields * max_items) 0) (replicate (2 * max_items) 0) c.requires.lent.0 c.requires.lent.1.0 refl refl) c.load_items-a.ensures.told refl c.in-Refused.is) c.refuse.ensures)
+pub returns-in-Err : goal.returns-in-Err
+returns-in-Err c = told_refused _ _ c.refuse.ensures (rounds_by _ _ _ _ _ _ _ _ _ _ _ (items_refuse _ _ _ _ _ _ _ _ _ c.args.count _ _ _ _ (roomy_so c.args.tail.now c.args.sites.now c.args.rows.now c.args.shapes.now (replicate (max_fields * max_items) 0) (replicate (2 * max_items) 0) c.requires.lent.0 c.requires.lent.1.0 refl refl) c.load_items-a.ensures.told refl c.in-Err.is) c.refuse.ensures)
 
 pub normalise-requires-clause-left : goal.normalise-requires-clause-left
 normalise-requires-clause-left c = (_, left_so _ _ _ _ _ _ _ _ _ _ _ _ _ _ (roomy_so c.args.tail.now c.args.sites.now c.args.rows.now c.args.shapes.now (replicate (max_fields * max_items) 0) (replicate (2 * max_items) 0) c.requires.lent.0 c.requires.lent.1.0 refl refl) c.load_items-a.ensures.told c.in_default.is (c.load_items-a.ensures.inside (zeros_inside (max_fields * max_items))) _ _ _ c.requires.lent.0 c.load_items-a.ensures.long.tail_long c.load_items-a.ensures.long.sites_long c.load_items-a.ensures.long.rows_long c.requires.lent.1.1.0 c.requires.lent.1.1.1)

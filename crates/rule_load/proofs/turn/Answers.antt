@@ -6,4 +6,4 @@ pub returns-in_default : goal.returns-in_default
 returns-in_default c = absurd (turned_laid _ _ _ _ _ _ _ c.rounds-r.ensures c.requires c.in_default.is)
 
 pub returns : goal.returns
-returns c = turned_told _ _ _ _ _ _ _ c.rounds-r.ensures c.requires _ c.in-Done.is
+returns c = turned_told _ _ _ _ _ _ _ c.rounds-r.ensures c.requires _ c.in-Some.is

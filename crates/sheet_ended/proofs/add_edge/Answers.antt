@@ -5,4 +5,4 @@ pub returns-in_default : goal.returns-in_default
 returns-in_default c = edge_none _ _ _ _ c.term-named.ensures c.in_default.is
 
 pub returns : goal.returns
-returns c = edge_some _ _ _ _ _ _ c.term-named.ensures c.in-At.is c.add.ensures.t_after
+returns c = edge_some _ _ _ _ _ _ c.term-named.ensures c.in-Some.is c.add.ensures.t_after

@@ -29,14 +29,14 @@ returns-then-is_left-clause-room_after c = leaves_left _ _ _ c.if-m-lt-SITES_ROO
 pub returns-then-is_left-clause-checks : goal.returns-then-is_left-clause-checks
 returns-then-is_left-clause-checks c = check_left _ _ _ _ _ _ c.if-m-lt-SITES_ROOM.false c.if-words-lt-KEPT_ROOM.false c.if-items-lt-ITEMS_ROOM.false _ c.begin-s.ensures _ _ _ _ _ (c.feed-f.ensures.read_in_bounds, (c.feed-f.ensures.fact, c.feed-f.ensures.pauses)) c.feed-f.auto.room _ c.is_left.ensures c.if-is_left.true
 
-pub returns-in-To-clause-room_after : goal.returns-in-To-clause-room_after
-returns-in-To-clause-room_after c = leaves_closed _ _ _ c.if-m-lt-SITES_ROOM.false c.if-words-lt-KEPT_ROOM.false c.if-items-lt-ITEMS_ROOM.false _ _ c.begin-s.ensures _ _ _ c.feed-f.ensures.room_after _ c.is_left.ensures c.if-is_left.false _ _ c.end.ensures.room_after _ (sym (ap checked_as c.in-To.is))
+pub returns-in-Some-clause-room_after : goal.returns-in-Some-clause-room_after
+returns-in-Some-clause-room_after c = leaves_closed _ _ _ c.if-m-lt-SITES_ROOM.false c.if-words-lt-KEPT_ROOM.false c.if-items-lt-ITEMS_ROOM.false _ _ c.begin-s.ensures _ _ _ c.feed-f.ensures.room_after _ c.is_left.ensures c.if-is_left.false _ _ c.end.ensures.room_after _ (sym (ap checked_as c.in-Some.is))
 
-pub returns-in-To-clause-checks : goal.returns-in-To-clause-checks
-returns-in-To-clause-checks c = check_done _ _ _ _ _ _ c.if-m-lt-SITES_ROOM.false c.if-words-lt-KEPT_ROOM.false c.if-items-lt-ITEMS_ROOM.false _ c.begin-s.ensures _ _ _ _ _ (c.feed-f.ensures.read_in_bounds, (c.feed-f.ensures.fact, c.feed-f.ensures.pauses)) c.feed-f.auto.room _ c.is_left.ensures c.if-is_left.false _ _ c.end.ensures.by_index _ c.in-To.is
+pub returns-in-Some-clause-checks : goal.returns-in-Some-clause-checks
+returns-in-Some-clause-checks c = check_done _ _ _ _ _ _ c.if-m-lt-SITES_ROOM.false c.if-words-lt-KEPT_ROOM.false c.if-items-lt-ITEMS_ROOM.false _ c.begin-s.ensures _ _ _ _ _ (c.feed-f.ensures.read_in_bounds, (c.feed-f.ensures.fact, c.feed-f.ensures.pauses)) c.feed-f.auto.room _ c.is_left.ensures c.if-is_left.false _ _ c.end.ensures.by_index _ c.in-Some.is
 
-pub returns-in-Short-clause-room_after : goal.returns-in-Short-clause-room_after
-returns-in-Short-clause-room_after c = leaves_closed _ _ _ c.if-m-lt-SITES_ROOM.false c.if-words-lt-KEPT_ROOM.false c.if-items-lt-ITEMS_ROOM.false _ _ c.begin-s.ensures _ _ _ c.feed-f.ensures.room_after _ c.is_left.ensures c.if-is_left.false _ _ c.end.ensures.room_after _ (sym (ap checked_as c.in-Short.is))
+pub returns-in-None-clause-room_after : goal.returns-in-None-clause-room_after
+returns-in-None-clause-room_after c = leaves_closed _ _ _ c.if-m-lt-SITES_ROOM.false c.if-words-lt-KEPT_ROOM.false c.if-items-lt-ITEMS_ROOM.false _ _ c.begin-s.ensures _ _ _ c.feed-f.ensures.room_after _ c.is_left.ensures c.if-is_left.false _ _ c.end.ensures.room_after _ (sym (ap checked_as c.in-None.is))
 
-pub returns-in-Short-clause-checks : goal.returns-in-Short-clause-checks
-returns-in-Short-clause-checks c = check_short _ _ _ _ _ _ c.if-m-lt-SITES_ROOM.false c.if-words-lt-KEPT_ROOM.false c.if-items-lt-ITEMS_ROOM.false _ c.begin-s.ensures _ _ _ _ _ (c.feed-f.ensures.read_in_bounds, (c.feed-f.ensures.fact, c.feed-f.ensures.pauses)) c.feed-f.auto.room _ c.is_left.ensures c.if-is_left.false _ _ c.end.ensures.by_index c.in-Short.is
+pub returns-in-None-clause-checks : goal.returns-in-None-clause-checks
+returns-in-None-clause-checks c = check_short _ _ _ _ _ _ c.if-m-lt-SITES_ROOM.false c.if-words-lt-KEPT_ROOM.false c.if-items-lt-ITEMS_ROOM.false _ c.begin-s.ensures _ _ _ _ _ (c.feed-f.ensures.read_in_bounds, (c.feed-f.ensures.fact, c.feed-f.ensures.pauses)) c.feed-f.auto.room _ c.is_left.ensures c.if-is_left.false _ _ c.end.ensures.by_index c.in-None.is

@@ -10,11 +10,11 @@ returns-then-not-outside-clause-room_after c = begins_not _ _ _ _ _ _ _ _ c.outs
 pub returns-then-not-outside-clause-acts : goal.returns-then-not-outside-clause-acts
 returns-then-not-outside-clause-acts c = λ h. begin_not c.args.r _ _ _ _ _ _ _ c.outside.ensures c.if-not-outside.true (stop_stops _ _ _ _ _ _ h.0 c.stop.ensures)
 
-pub returns-in-Refused-clause-room_after : goal.returns-in-Refused-clause-room_after
-returns-in-Refused-clause-room_after c = begins_refused _ _ _ _ _ _ _ _ c.outside.ensures c.if-not-outside.false _ c.may_begin-v.ensures _ c.in-Refused.is c.stop-in-Refused.ensures
+pub returns-in-Err-clause-room_after : goal.returns-in-Err-clause-room_after
+returns-in-Err-clause-room_after c = begins_refused _ _ _ _ _ _ _ _ c.outside.ensures c.if-not-outside.false _ c.may_begin-v.ensures _ c.in-Err.is c.stop-in-Err.ensures
 
-pub returns-in-Refused-clause-acts : goal.returns-in-Refused-clause-acts
-returns-in-Refused-clause-acts c = λ h. begin_refused c.args.r _ _ _ _ _ _ _ c.outside.ensures c.if-not-outside.false _ c.may_begin-v.ensures _ c.in-Refused.is (stop_stops _ _ _ _ _ _ h.0 c.stop-in-Refused.ensures)
+pub returns-in-Err-clause-acts : goal.returns-in-Err-clause-acts
+returns-in-Err-clause-acts c = λ h. begin_refused c.args.r _ _ _ _ _ _ _ c.outside.ensures c.if-not-outside.false _ c.may_begin-v.ensures _ c.in-Err.is (stop_stops _ _ _ _ _ _ h.0 c.stop-in-Err.ensures)
 
 pub returns-clause-room_after : goal.returns-clause-room_after
 returns-clause-room_after c = begins_fine _ _ _ _ _ _ _ _ c.outside.ensures c.if-not-outside.false _ c.may_begin-v.ensures c.in_default.is c.on.ensures refl

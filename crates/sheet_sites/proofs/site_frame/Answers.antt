@@ -11,19 +11,19 @@ pub returns-in_default-clause-acts : goal.returns-in_default-clause-acts
 returns-in_default-clause-acts c = λ h. site_not c.args.r _ _ _ _ _ _ c.site_set.ensures _ c.in_default.is (stop_stops _ _ _ _ _ _ h.0 c.stop.ensures)
 
 pub returns-in-Known-clause-by_index : goal.returns-in-Known-clause-by_index
-returns-in-Known-clause-by_index c = λ w i t. sites_known _ _ _ _ _ _ _ c.site_set.ensures _ _ c.in-In.is _ _ c.add.ensures.0 c.add.ensures.1 w i t _ c.in-Known.is c.stop-in-Known.ensures
+returns-in-Known-clause-by_index c = λ w i t. sites_known _ _ _ _ _ _ _ c.site_set.ensures _ _ c.in-Some.is _ _ c.add.ensures.0 c.add.ensures.1 w i t _ c.in-Known.is c.stop-in-Known.ensures
 
 pub returns-in-Known-clause-acts : goal.returns-in-Known-clause-acts
-returns-in-Known-clause-acts c = λ h w i t p x q T. site_known c.args.r _ _ _ _ _ _ c.site_set.ensures _ _ c.in-In.is _ _ c.add.ensures.0 c.add.ensures.1 w i t p x q T _ c.in-Known.is (stop_stops _ _ _ _ _ _ h.0 c.stop-in-Known.ensures)
+returns-in-Known-clause-acts c = λ h w i t p x q T. site_known c.args.r _ _ _ _ _ _ c.site_set.ensures _ _ c.in-Some.is _ _ c.add.ensures.0 c.add.ensures.1 w i t p x q T _ c.in-Known.is (stop_stops _ _ _ _ _ _ h.0 c.stop-in-Known.ensures)
 
 pub returns-in-Refused-clause-by_index : goal.returns-in-Refused-clause-by_index
-returns-in-Refused-clause-by_index c = λ w i t. sites_refused _ _ _ _ _ _ _ c.site_set.ensures _ _ c.in-In.is _ _ c.add.ensures.0 c.add.ensures.1 w i t _ c.in-Refused.is c.stop-in-Refused.ensures
+returns-in-Refused-clause-by_index c = λ w i t. sites_refused _ _ _ _ _ _ _ c.site_set.ensures _ _ c.in-Some.is _ _ c.add.ensures.0 c.add.ensures.1 w i t _ c.in-Refused.is c.stop-in-Refused.ensures
 
 pub returns-in-Refused-clause-acts : goal.returns-in-Refused-clause-acts
-returns-in-Refused-clause-acts c = λ h w i t p x q T. site_refused c.args.r _ _ _ _ _ _ c.site_set.ensures _ _ c.in-In.is _ _ c.add.ensures.0 c.add.ensures.1 w i t p x q T _ c.in-Refused.is (stop_stops _ _ _ _ _ _ h.0 c.stop-in-Refused.ensures)
+returns-in-Refused-clause-acts c = λ h w i t p x q T. site_refused c.args.r _ _ _ _ _ _ c.site_set.ensures _ _ c.in-Some.is _ _ c.add.ensures.0 c.add.ensures.1 w i t p x q T _ c.in-Refused.is (stop_stops _ _ _ _ _ _ h.0 c.stop-in-Refused.ensures)
 
 pub returns-in-Fresh-clause-by_index : goal.returns-in-Fresh-clause-by_index
-returns-in-Fresh-clause-by_index c = λ w i t. sites_fresh _ _ _ _ _ _ _ c.site_set.ensures _ _ c.in-In.is _ _ c.add.ensures.0 c.add.ensures.1 w i t _ _ c.in-Fresh.is c.next.ensures c.on.ensures refl
+returns-in-Fresh-clause-by_index c = λ w i t. sites_fresh _ _ _ _ _ _ _ c.site_set.ensures _ _ c.in-Some.is _ _ c.add.ensures.0 c.add.ensures.1 w i t _ _ c.in-Fresh.is c.next.ensures c.on.ensures refl
 
 pub returns-in-Fresh-clause-acts : goal.returns-in-Fresh-clause-acts
-returns-in-Fresh-clause-acts c = λ h w i t p x q T. site_fresh c.args.r _ _ _ _ _ _ c.site_set.ensures _ _ c.in-In.is _ _ c.add.ensures.0 c.add.ensures.1 w i t p x q T _ _ c.in-Fresh.is c.add.auto.m c.next.ensures (on_went _ _ _ _ _ h.1 c.on.ensures) refl
+returns-in-Fresh-clause-acts c = λ h w i t p x q T. site_fresh c.args.r _ _ _ _ _ _ c.site_set.ensures _ _ c.in-Some.is _ _ c.add.ensures.0 c.add.ensures.1 w i t p x q T _ _ c.in-Fresh.is c.add.auto.m c.next.ensures (on_went _ _ _ _ _ h.1 c.on.ensures) refl

@@ -11,7 +11,7 @@ pub returns-in_default-clause-by_index_2 : goal.returns-in_default-clause-by_ind
 returns-in_default-clause-by_index_2 c = end_not c.args.r _ _ _ _ _ _ _ c.rule_set.ensures _ c.in_default.is (stop_stops _ _ _ _ _ _ c.requires.0 c.stop.ensures)
 
 pub returns-clause-by_index : goal.returns-clause-by_index
-returns-clause-by_index c = ends_ended _ _ _ _ _ _ _ _ c.rule_set.ensures _ _ _ _ _ c.in-In.is c.report_at-to.ensures c.add_edges.ensures c.with_set-ended.ensures refl
+returns-clause-by_index c = ends_ended _ _ _ _ _ _ _ _ c.rule_set.ensures _ _ _ _ _ c.in-Some.is c.report_at-to.ensures c.add_edges.ensures c.with_set-ended.ensures refl
 
 pub returns-clause-by_index_2 : goal.returns-clause-by_index_2
-returns-clause-by_index_2 c = end_ended c.args.r _ _ _ _ _ _ _ c.rule_set.ensures _ _ _ _ _ c.in-In.is c.requires.0 c.report_at-to.ensures c.add_edges.ensures c.with_set-ended.ensures refl
+returns-clause-by_index_2 c = end_ended c.args.r _ _ _ _ _ _ _ c.rule_set.ensures _ _ _ _ _ c.in-Some.is c.requires.0 c.report_at-to.ensures c.add_edges.ensures c.with_set-ended.ensures refl

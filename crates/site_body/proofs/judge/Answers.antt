@@ -11,8 +11,8 @@ returns-then-not-is_body c = judge_none c.args.b.now c.args.count c.args.at (sym
 pub first_missing-lost-requires : goal.first_missing-lost-requires
 first_missing-lost-requires c = judge_fits c.args.b.now (λ i. omega (arith, c.type_inv.b i)) (sym c.is_body.ensures ∙ c.if-not-is_body.false) c.args.count c.args.at c.off_of.result c.many_of-many.result c.off_of.ensures.0 c.many_of-many.ensures.0
 
-pub returns-in-At : goal.returns-in-At
-returns-in-At c = judge_unknown c.args.b.now (λ i. omega (arith, c.type_inv.b i)) (sym c.is_body.ensures ∙ c.if-not-is_body.false) c.args.count c.args.at c.off_of.result c.many_of-many.result c.off_of.ensures.0 c.many_of-many.ensures.0 c.first_missing-lost.result c.in-At.s c.first_missing-lost.ensures c.in-At.is
+pub returns-in-Some : goal.returns-in-Some
+returns-in-Some c = judge_unknown c.args.b.now (λ i. omega (arith, c.type_inv.b i)) (sym c.is_body.ensures ∙ c.if-not-is_body.false) c.args.count c.args.at c.off_of.result c.many_of-many.result c.off_of.ensures.0 c.many_of-many.ensures.0 c.first_missing-lost.result c.in-Some.s c.first_missing-lost.ensures c.in-Some.is
 
 pub returns-then-many-gt-SOURCES : goal.returns-then-many-gt-SOURCES
 returns-then-many-gt-SOURCES c = judge_sources c.args.b.now (λ i. omega (arith, c.type_inv.b i)) (sym c.is_body.ensures ∙ c.if-not-is_body.false) c.args.count c.args.at c.off_of.result c.many_of-many.result c.off_of.ensures.0 c.many_of-many.ensures.0 c.first_missing-lost.result c.first_missing-lost.ensures c.in_default.is c.if-many-gt-SOURCES.true
@@ -24,7 +24,7 @@ pub returns-in_default-named : goal.returns-in_default-named
 returns-in_default-named c = judge_no_term c.args.b.now (λ i. omega (arith, c.type_inv.b i)) (sym c.is_body.ensures ∙ c.if-not-is_body.false) c.args.count c.args.at c.off_of.result c.many_of-many.result c.off_of.ensures.0 c.many_of-many.ensures.0 c.first_missing-lost.result c.first_missing-lost.ensures c.in_default.is c.if-many-gt-SOURCES.false c.term_in-named.result c.term_in-named.ensures c.in_default-named.is
 
 pub returns-then-t-ge-TERMS : goal.returns-then-t-ge-TERMS
-returns-then-t-ge-TERMS c = judge_high c.args.b.now (λ i. omega (arith, c.type_inv.b i)) (sym c.is_body.ensures ∙ c.if-not-is_body.false) c.args.count c.args.at c.off_of.result c.many_of-many.result c.off_of.ensures.0 c.many_of-many.ensures.0 c.first_missing-lost.result c.first_missing-lost.ensures c.in_default.is c.if-many-gt-SOURCES.false c.term_in-named.result c.term_in-named.ensures c.in-At-named.t c.in-At-named.is c.if-t-ge-TERMS.true
+returns-then-t-ge-TERMS c = judge_high c.args.b.now (λ i. omega (arith, c.type_inv.b i)) (sym c.is_body.ensures ∙ c.if-not-is_body.false) c.args.count c.args.at c.off_of.result c.many_of-many.result c.off_of.ensures.0 c.many_of-many.ensures.0 c.first_missing-lost.result c.first_missing-lost.ensures c.in_default.is c.if-many-gt-SOURCES.false c.term_in-named.result c.term_in-named.ensures c.in-Some-named.t c.in-Some-named.is c.if-t-ge-TERMS.true
 
 pub returns : goal.returns
-returns c = judge_term c.args.b.now (λ i. omega (arith, c.type_inv.b i)) (sym c.is_body.ensures ∙ c.if-not-is_body.false) c.args.count c.args.at c.off_of.result c.many_of-many.result c.off_of.ensures.0 c.many_of-many.ensures.0 c.first_missing-lost.result c.first_missing-lost.ensures c.in_default.is c.if-many-gt-SOURCES.false c.term_in-named.result c.term_in-named.ensures c.in-At-named.t c.in-At-named.is (omega (arith, c.if-t-ge-TERMS.false))
+returns c = judge_term c.args.b.now (λ i. omega (arith, c.type_inv.b i)) (sym c.is_body.ensures ∙ c.if-not-is_body.false) c.args.count c.args.at c.off_of.result c.many_of-many.result c.off_of.ensures.0 c.many_of-many.ensures.0 c.first_missing-lost.result c.first_missing-lost.ensures c.in_default.is c.if-many-gt-SOURCES.false c.term_in-named.result c.term_in-named.ensures c.in-Some-named.t c.in-Some-named.is (omega (arith, c.if-t-ge-TERMS.false))

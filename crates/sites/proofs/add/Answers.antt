@@ -2,17 +2,17 @@ use native.Mathlib.Omega.{arith}
 use Rattle.sites.proofs.Adds.{add_refused, findable, short, add_cut, add_known, add_over, add_full, add_fresh}
 use Rattle.sites.proofs.add.Goals as goal
 
-pub returns-in-Refused : goal.returns-in-Refused
-returns-in-Refused c = add_refused c.args.m.now c.args.count c.args.at c.args.b.now c.judge-v.result c.in-Refused.r c.judge-v.ensures c.in-Refused.is
+pub returns-in-Err : goal.returns-in-Err
+returns-in-Err c = add_refused c.args.m.now c.args.count c.args.at c.args.b.now c.judge-v.result c.in-Err.r c.judge-v.ensures c.in-Err.is
 
 pub find-known-requires : goal.find-known-requires
 find-known-requires c = findable c.args.m.now c.args.b.now (λ i. omega (arith, c.type_inv.b i)) c.args.count c.args.at (omega arith) c.judge-v.result c.judge-v.ensures c.in_default.is
 
 pub returns-then-m-n : goal.returns-then-m-n
-returns-then-m-n c = add_cut c.args.m.now c.args.b.now (λ i. omega (arith, c.type_inv.b i)) c.args.count c.args.at (omega arith) c.judge-v.result c.judge-v.ensures c.in_default.is c.find-known.result c.in-At.i c.find-known.ensures c.in-At.is c.if-m-n.true
+returns-then-m-n c = add_cut c.args.m.now c.args.b.now (λ i. omega (arith, c.type_inv.b i)) c.args.count c.args.at (omega arith) c.judge-v.result c.judge-v.ensures c.in_default.is c.find-known.result c.in-Some.i c.find-known.ensures c.in-Some.is c.if-m-n.true
 
-pub returns-in-At : goal.returns-in-At
-returns-in-At c = add_known c.args.m.now c.args.b.now (λ i. omega (arith, c.type_inv.b i)) c.args.count c.args.at (omega arith) c.judge-v.result c.judge-v.ensures c.in_default.is c.find-known.result c.in-At.i c.find-known.ensures c.in-At.is c.if-m-n.false
+pub returns-in-Some : goal.returns-in-Some
+returns-in-Some c = add_known c.args.m.now c.args.b.now (λ i. omega (arith, c.type_inv.b i)) c.args.count c.args.at (omega arith) c.judge-v.result c.judge-v.ensures c.in_default.is c.find-known.result c.in-Some.i c.find-known.ensures c.in-Some.is c.if-m-n.false
 
 pub returns-then-n-ge-SITES : goal.returns-then-n-ge-SITES
 returns-then-n-ge-SITES c = add_over c.args.m.now c.args.b.now (λ i. omega (arith, c.type_inv.b i)) c.args.count c.args.at (omega arith) c.judge-v.result c.judge-v.ensures c.in_default.is c.find-known.result c.find-known.ensures c.in_default-known.is c.if-n-ge-SITES.true

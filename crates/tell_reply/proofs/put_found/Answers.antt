@@ -8,4 +8,4 @@ pub returns-in_default : goal.returns-in_default
 returns-in_default c = told _ _ _ _ (ap found_text (sym c.in_default.is)) c.put_text.ensures
 
 pub returns : goal.returns
-returns c = told _ _ _ _ (ap found_text (sym c.in-At.is)) c.put_decimal.ensures
+returns c = told _ _ _ _ (ap found_text (sym c.in-Some.is)) c.put_decimal.ensures

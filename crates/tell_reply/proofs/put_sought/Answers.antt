@@ -4,8 +4,8 @@ use Rattle.tell_reply.specs.Replies.{sought_text}
 use Rattle.tell_reply.proofs.Wording.{told}
 use Rattle.tell_reply.proofs.put_sought.Goals as goal
 
-pub returns-in-Got : goal.returns-in-Got
-returns-in-Got c = told _ _ _ _ (ap sought_text (sym c.in-Got.is)) c.put_found.ensures
+pub returns-in-Ok : goal.returns-in-Ok
+returns-in-Ok c = told _ _ _ _ (ap sought_text (sym c.in-Ok.is)) c.put_found.ensures
 
-pub returns-in-Refused : goal.returns-in-Refused
-returns-in-Refused c = told _ _ _ _ (ap sought_text (sym c.in-Refused.is)) c.put_refusal.ensures
+pub returns-in-Err : goal.returns-in-Err
+returns-in-Err c = told _ _ _ _ (ap sought_text (sym c.in-Err.is)) c.put_refusal.ensures

@@ -3,10 +3,10 @@ use mathlib.Core.Path.{sym, ap, ◌∙◌}
 use Rattle.box_answers.specs.Border.{added_said}
 use Rattle.box_answers.proofs.calls.added_said.Goals as goal
 
-pub returns-in-Fine : goal.returns-in-Fine
+pub returns-in-Ok : goal.returns-in-Ok
 unfolding added_said
-returns-in-Fine c = c.done.ensures ∙ sym (ap added_said c.in-Fine.is)
+returns-in-Ok c = c.done.ensures ∙ sym (ap added_said c.in-Ok.is)
 
-pub returns-in-Refused : goal.returns-in-Refused
+pub returns-in-Err : goal.returns-in-Err
 unfolding added_said
-returns-in-Refused c = c.refused.ensures ∙ sym (ap added_said c.in-Refused.is)
+returns-in-Err c = c.refused.ensures ∙ sym (ap added_said c.in-Err.is)

@@ -4,10 +4,10 @@ use Rattle.box_answers.specs.Border.{joined_said}
 use Rattle.box_answers.proofs.Crossing.{done_as}
 use Rattle.box_answers.proofs.calls.joined_said.Goals as goal
 
-pub returns-in-Done : goal.returns-in-Done
+pub returns-in-Ok : goal.returns-in-Ok
 unfolding joined_said
-returns-in-Done c = done_as _ _ _ _ _ c.done.ensures c.bit.ensures refl ∙ sym (ap joined_said c.in-Done.is)
+returns-in-Ok c = done_as _ _ _ _ _ c.done.ensures c.bit.ensures refl ∙ sym (ap joined_said c.in-Ok.is)
 
-pub returns-in-Refused : goal.returns-in-Refused
+pub returns-in-Err : goal.returns-in-Err
 unfolding joined_said
-returns-in-Refused c = c.refused.ensures ∙ sym (ap joined_said c.in-Refused.is)
+returns-in-Err c = c.refused.ensures ∙ sym (ap joined_said c.in-Err.is)

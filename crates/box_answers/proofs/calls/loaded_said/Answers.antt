@@ -4,10 +4,10 @@ use Rattle.box_answers.specs.Loads.{loaded_said}
 use Rattle.box_answers.proofs.Crossing.{done_as}
 use Rattle.box_answers.proofs.calls.loaded_said.Goals as goal
 
-pub returns-in-Kept : goal.returns-in-Kept
+pub returns-in-Ok : goal.returns-in-Ok
 unfolding loaded_said
-returns-in-Kept c = done_as _ _ _ _ _ c.done.ensures c.word16.ensures refl ∙ sym (ap loaded_said c.in-Kept.is)
+returns-in-Ok c = done_as _ _ _ _ _ c.done.ensures c.word16.ensures refl ∙ sym (ap loaded_said c.in-Ok.is)
 
-pub returns-in-Refused : goal.returns-in-Refused
+pub returns-in-Err : goal.returns-in-Err
 unfolding loaded_said
-returns-in-Refused c = c.refused.ensures ∙ sym (ap loaded_said c.in-Refused.is)
+returns-in-Err c = c.refused.ensures ∙ sym (ap loaded_said c.in-Err.is)

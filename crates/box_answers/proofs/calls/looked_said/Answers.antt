@@ -3,10 +3,10 @@ use mathlib.Core.Path.{sym, ap, ◌∙◌}
 use Rattle.box_answers.specs.Border.{looked_said}
 use Rattle.box_answers.proofs.calls.looked_said.Goals as goal
 
-pub returns-in-Got : goal.returns-in-Got
+pub returns-in-Ok : goal.returns-in-Ok
 unfolding looked_said
-returns-in-Got c = c.trail_said.ensures ∙ sym (ap looked_said c.in-Got.is)
+returns-in-Ok c = c.trail_said.ensures ∙ sym (ap looked_said c.in-Ok.is)
 
-pub returns-in-Refused : goal.returns-in-Refused
+pub returns-in-Err : goal.returns-in-Err
 unfolding looked_said
-returns-in-Refused c = c.refused.ensures ∙ sym (ap looked_said c.in-Refused.is)
+returns-in-Err c = c.refused.ensures ∙ sym (ap looked_said c.in-Err.is)

@@ -4,10 +4,10 @@ use Rattle.box_answers.specs.Border.{same_said}
 use Rattle.box_answers.proofs.Crossing.{done_as}
 use Rattle.box_answers.proofs.calls.same_said.Goals as goal
 
-pub returns-in-Is : goal.returns-in-Is
+pub returns-in-Ok : goal.returns-in-Ok
 unfolding same_said
-returns-in-Is c = done_as _ _ _ _ _ c.done.ensures c.bit.ensures refl ∙ sym (ap same_said c.in-Is.is)
+returns-in-Ok c = done_as _ _ _ _ _ c.done.ensures c.bit.ensures refl ∙ sym (ap same_said c.in-Ok.is)
 
-pub returns-in-Refused : goal.returns-in-Refused
+pub returns-in-Err : goal.returns-in-Err
 unfolding same_said
-returns-in-Refused c = c.refused.ensures ∙ sym (ap same_said c.in-Refused.is)
+returns-in-Err c = c.refused.ensures ∙ sym (ap same_said c.in-Err.is)

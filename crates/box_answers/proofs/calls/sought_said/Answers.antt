@@ -4,10 +4,10 @@ use Rattle.box_answers.specs.Border.{sought_said}
 use Rattle.box_answers.proofs.Crossing.{done_as}
 use Rattle.box_answers.proofs.calls.sought_said.Goals as goal
 
-pub returns-in-Got : goal.returns-in-Got
+pub returns-in-Ok : goal.returns-in-Ok
 unfolding sought_said
-returns-in-Got c = done_as _ _ _ _ _ c.done.ensures c.found_word.ensures refl ∙ sym (ap sought_said c.in-Got.is)
+returns-in-Ok c = done_as _ _ _ _ _ c.done.ensures c.found_word.ensures refl ∙ sym (ap sought_said c.in-Ok.is)
 
-pub returns-in-Refused : goal.returns-in-Refused
+pub returns-in-Err : goal.returns-in-Err
 unfolding sought_said
-returns-in-Refused c = c.refused.ensures ∙ sym (ap sought_said c.in-Refused.is)
+returns-in-Err c = c.refused.ensures ∙ sym (ap sought_said c.in-Err.is)

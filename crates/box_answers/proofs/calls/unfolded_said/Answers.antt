@@ -3,10 +3,10 @@ use mathlib.Core.Path.{sym, ap, ◌∙◌}
 use Rattle.box_answers.specs.Border.{unfolded_said}
 use Rattle.box_answers.proofs.calls.unfolded_said.Goals as goal
 
-pub returns-in-Bytes : goal.returns-in-Bytes
+pub returns-in-Ok : goal.returns-in-Ok
 unfolding unfolded_said
-returns-in-Bytes c = c.done.ensures ∙ sym (ap unfolded_said c.in-Bytes.is)
+returns-in-Ok c = c.done.ensures ∙ sym (ap unfolded_said c.in-Ok.is)
 
-pub returns-in-Refused : goal.returns-in-Refused
+pub returns-in-Err : goal.returns-in-Err
 unfolding unfolded_said
-returns-in-Refused c = c.refused.ensures ∙ sym (ap unfolded_said c.in-Refused.is)
+returns-in-Err c = c.refused.ensures ∙ sym (ap unfolded_said c.in-Err.is)
