@@ -4,14 +4,14 @@ use Rattle.box_sheet.specs.Sheet.{checked_said}
 use Rattle.box_answers.proofs.Crossing.{done_as}
 use Rattle.box_sheet.proofs.checked_said.Goals as goal
 
-pub returns-in-Done : goal.returns-in-Done
+pub returns-in-Ok : goal.returns-in-Ok
 unfolding checked_said
-returns-in-Done c = done_as _ _ _ _ _ c.done.ensures c.word_of_size.ensures refl ∙ sym (ap checked_said c.in-Done.is)
+returns-in-Ok c = done_as _ _ _ _ _ c.done.ensures c.word_of_size.ensures refl ∙ sym (ap checked_said c.in-Ok.is)
 
-pub returns-in-NoRoom : goal.returns-in-NoRoom
+pub returns-in-Err-NoRoom : goal.returns-in-Err-NoRoom
 unfolding checked_said
-returns-in-NoRoom c = c.crowded.ensures ∙ sym (ap checked_said c.in-NoRoom.is)
+returns-in-Err-NoRoom c = c.crowded.ensures ∙ sym (ap checked_said c.in-Err-NoRoom.is)
 
-pub returns-in-NoMemory : goal.returns-in-NoMemory
+pub returns-in-Err-NoMemory : goal.returns-in-Err-NoMemory
 unfolding checked_said
-returns-in-NoMemory c = sym (ap checked_said c.in-NoMemory.is)
+returns-in-Err-NoMemory c = sym (ap checked_said c.in-Err-NoMemory.is)

@@ -17,16 +17,16 @@ pub solve-s-requires-clause-sites_in_bounds : goal.solve-s-requires-clause-sites
 solve-s-requires-clause-sites_in_bounds c = c.requires.sites_in_bounds
 
 pub finish-out-requires : goal.finish-out-requires
-finish-out-requires c = finishable c.args.m.now c.args.n c.args.words.now c.args.kept (rule_in c.args.items.now c.args.place c.args.priority c.args.count) _ (rule_written c.args.items.now c.args.place c.args.priority c.args.count) c.requires.lent.1 c.solve-s.new.tail c.solve-s.new.sites c.solve-s.new.rows c.solve-s.new.shapes c.solve-s.new.equal c.solve-s.new.low c.solve-s.result (fine_told c.in-Fine.is c.solve-s.ensures) c.in-Fine.is (let z = array_long c.solve-s.new.shapes (3 * max_items) c.solve-s.auto.shapes in omega arith) (let z = array_long c.solve-s.new.equal max_equal c.solve-s.auto.equal in omega arith) (let z = array_long c.solve-s.new.low max_equal c.solve-s.auto.low in omega arith)
+finish-out-requires c = finishable c.args.m.now c.args.n c.args.words.now c.args.kept (rule_in c.args.items.now c.args.place c.args.priority c.args.count) _ (rule_written c.args.items.now c.args.place c.args.priority c.args.count) c.requires.lent.1 c.solve-s.new.tail c.solve-s.new.sites c.solve-s.new.rows c.solve-s.new.shapes c.solve-s.new.equal c.solve-s.new.low c.solve-s.result (fine_told c.in-Ok.is c.solve-s.ensures) c.in-Ok.is (let z = array_long c.solve-s.new.shapes (3 * max_items) c.solve-s.auto.shapes in omega arith) (let z = array_long c.solve-s.new.equal max_equal c.solve-s.auto.equal in omega arith) (let z = array_long c.solve-s.new.low max_equal c.solve-s.auto.low in omega arith)
 
-pub returns-in-Short : goal.returns-in-Short
+pub returns-in-Err-Short : goal.returns-in-Err-Short
 unfolding Tries
-returns-in-Short c = (c.solve-s.ensures.short c.in-Short.is, (refl, refl))
+returns-in-Err-Short c = (c.solve-s.ensures.short c.in-Err-Short.is, (refl, refl))
 
-pub returns-in-Refused : goal.returns-in-Refused
+pub returns-in-Err-Refused : goal.returns-in-Err-Refused
 unfolding Tries
-returns-in-Refused c = rounds_refuse c.args.m.now c.args.n c.args.words.now c.args.kept (rule_in c.args.items.now c.args.place c.args.priority c.args.count) _ (rule_written c.args.items.now c.args.place c.args.priority c.args.count) c.requires.lent.1 c.solve-s.new.tail c.solve-s.new.sites c.solve-s.new.rows c.solve-s.new.shapes c.solve-s.new.equal c.solve-s.new.low c.solve-s.result (refused_told c.in-Refused.is c.solve-s.ensures) _ c.in-Refused.is
+returns-in-Err-Refused c = rounds_refuse c.args.m.now c.args.n c.args.words.now c.args.kept (rule_in c.args.items.now c.args.place c.args.priority c.args.count) _ (rule_written c.args.items.now c.args.place c.args.priority c.args.count) c.requires.lent.1 c.solve-s.new.tail c.solve-s.new.sites c.solve-s.new.rows c.solve-s.new.shapes c.solve-s.new.equal c.solve-s.new.low c.solve-s.result (refused_told c.in-Err-Refused.is c.solve-s.ensures) _ c.in-Err-Refused.is
 
-pub returns-in-Fine : goal.returns-in-Fine
+pub returns-in-Ok : goal.returns-in-Ok
 unfolding Tries
-returns-in-Fine c = finished c.args.m.now c.args.n c.args.words.now c.args.kept (rule_in c.args.items.now c.args.place c.args.priority c.args.count) _ (rule_written c.args.items.now c.args.place c.args.priority c.args.count) c.requires.lent.1 c.solve-s.new.tail c.solve-s.new.sites c.solve-s.new.rows c.solve-s.new.shapes c.solve-s.new.equal c.solve-s.new.low c.solve-s.result (fine_told c.in-Fine.is c.solve-s.ensures) c.in-Fine.is (let z = array_long c.solve-s.new.equal max_equal c.solve-s.auto.equal in omega arith) (let z = array_long c.solve-s.new.low max_equal c.solve-s.auto.low in omega arith) _ _ _ c.finish-out.ensures
+returns-in-Ok c = finished c.args.m.now c.args.n c.args.words.now c.args.kept (rule_in c.args.items.now c.args.place c.args.priority c.args.count) _ (rule_written c.args.items.now c.args.place c.args.priority c.args.count) c.requires.lent.1 c.solve-s.new.tail c.solve-s.new.sites c.solve-s.new.rows c.solve-s.new.shapes c.solve-s.new.equal c.solve-s.new.low c.solve-s.result (fine_told c.in-Ok.is c.solve-s.ensures) c.in-Ok.is (let z = array_long c.solve-s.new.equal max_equal c.solve-s.auto.equal in omega arith) (let z = array_long c.solve-s.new.low max_equal c.solve-s.auto.low in omega arith) _ _ _ c.finish-out.ensures

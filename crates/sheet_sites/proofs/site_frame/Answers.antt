@@ -10,20 +10,20 @@ returns-in_default-clause-by_index c = sites_not _ _ _ _ _ _ _ c.site_set.ensure
 pub returns-in_default-clause-acts : goal.returns-in_default-clause-acts
 returns-in_default-clause-acts c = λ h. site_not c.args.r _ _ _ _ _ _ c.site_set.ensures _ c.in_default.is (stop_stops _ _ _ _ _ _ h.0 c.stop.ensures)
 
-pub returns-in-Known-clause-by_index : goal.returns-in-Known-clause-by_index
-returns-in-Known-clause-by_index c = λ w i t. sites_known _ _ _ _ _ _ _ c.site_set.ensures _ _ c.in-Some.is _ _ c.add.ensures.0 c.add.ensures.1 w i t _ c.in-Known.is c.stop-in-Known.ensures
+pub returns-in-Ok-Known-clause-by_index : goal.returns-in-Ok-Known-clause-by_index
+returns-in-Ok-Known-clause-by_index c = λ w i t. sites_known _ _ _ _ _ _ _ c.site_set.ensures _ _ c.in-Some.is _ _ c.add.ensures.0 c.add.ensures.1 w i t _ c.in-Ok-Known.is c.stop-in-Ok-Known.ensures
 
-pub returns-in-Known-clause-acts : goal.returns-in-Known-clause-acts
-returns-in-Known-clause-acts c = λ h w i t p x q T. site_known c.args.r _ _ _ _ _ _ c.site_set.ensures _ _ c.in-Some.is _ _ c.add.ensures.0 c.add.ensures.1 w i t p x q T _ c.in-Known.is (stop_stops _ _ _ _ _ _ h.0 c.stop-in-Known.ensures)
+pub returns-in-Ok-Known-clause-acts : goal.returns-in-Ok-Known-clause-acts
+returns-in-Ok-Known-clause-acts c = λ h w i t p x q T. site_known c.args.r _ _ _ _ _ _ c.site_set.ensures _ _ c.in-Some.is _ _ c.add.ensures.0 c.add.ensures.1 w i t p x q T _ c.in-Ok-Known.is (stop_stops _ _ _ _ _ _ h.0 c.stop-in-Ok-Known.ensures)
 
-pub returns-in-Refused-clause-by_index : goal.returns-in-Refused-clause-by_index
-returns-in-Refused-clause-by_index c = λ w i t. sites_refused _ _ _ _ _ _ _ c.site_set.ensures _ _ c.in-Some.is _ _ c.add.ensures.0 c.add.ensures.1 w i t _ c.in-Refused.is c.stop-in-Refused.ensures
+pub returns-in-Err-clause-by_index : goal.returns-in-Err-clause-by_index
+returns-in-Err-clause-by_index c = λ w i t. sites_refused _ _ _ _ _ _ _ c.site_set.ensures _ _ c.in-Some.is _ _ c.add.ensures.0 c.add.ensures.1 w i t _ c.in-Err.is c.stop-in-Err.ensures
 
-pub returns-in-Refused-clause-acts : goal.returns-in-Refused-clause-acts
-returns-in-Refused-clause-acts c = λ h w i t p x q T. site_refused c.args.r _ _ _ _ _ _ c.site_set.ensures _ _ c.in-Some.is _ _ c.add.ensures.0 c.add.ensures.1 w i t p x q T _ c.in-Refused.is (stop_stops _ _ _ _ _ _ h.0 c.stop-in-Refused.ensures)
+pub returns-in-Err-clause-acts : goal.returns-in-Err-clause-acts
+returns-in-Err-clause-acts c = λ h w i t p x q T. site_refused c.args.r _ _ _ _ _ _ c.site_set.ensures _ _ c.in-Some.is _ _ c.add.ensures.0 c.add.ensures.1 w i t p x q T _ c.in-Err.is (stop_stops _ _ _ _ _ _ h.0 c.stop-in-Err.ensures)
 
-pub returns-in-Fresh-clause-by_index : goal.returns-in-Fresh-clause-by_index
-returns-in-Fresh-clause-by_index c = λ w i t. sites_fresh _ _ _ _ _ _ _ c.site_set.ensures _ _ c.in-Some.is _ _ c.add.ensures.0 c.add.ensures.1 w i t _ _ c.in-Fresh.is c.next.ensures c.on.ensures refl
+pub returns-in-Ok-Fresh-clause-by_index : goal.returns-in-Ok-Fresh-clause-by_index
+returns-in-Ok-Fresh-clause-by_index c = λ w i t. sites_fresh _ _ _ _ _ _ _ c.site_set.ensures _ _ c.in-Some.is _ _ c.add.ensures.0 c.add.ensures.1 w i t _ _ c.in-Ok-Fresh.is c.next.ensures c.on.ensures refl
 
-pub returns-in-Fresh-clause-acts : goal.returns-in-Fresh-clause-acts
-returns-in-Fresh-clause-acts c = λ h w i t p x q T. site_fresh c.args.r _ _ _ _ _ _ c.site_set.ensures _ _ c.in-Some.is _ _ c.add.ensures.0 c.add.ensures.1 w i t p x q T _ _ c.in-Fresh.is c.add.auto.m c.next.ensures (on_went _ _ _ _ _ h.1 c.on.ensures) refl
+pub returns-in-Ok-Fresh-clause-acts : goal.returns-in-Ok-Fresh-clause-acts
+returns-in-Ok-Fresh-clause-acts c = λ h w i t p x q T. site_fresh c.args.r _ _ _ _ _ _ c.site_set.ensures _ _ c.in-Some.is _ _ c.add.ensures.0 c.add.ensures.1 w i t p x q T _ _ c.in-Ok-Fresh.is c.add.auto.m c.next.ensures (on_went _ _ _ _ _ h.1 c.on.ensures) refl

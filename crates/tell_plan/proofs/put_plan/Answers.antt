@@ -3,14 +3,14 @@ use mathlib.Core.Path.{refl}
 use borrow.Author.Rules.{rules}
 use Rattle.tell_plan.proofs.put_plan.Goals as goal
 
-pub returns-in-Proposed : goal.returns-in-Proposed
-returns-in-Proposed c = plan_proposed _ _ _ _ refl _ _ _ _ c.put_head-a.ensures c.put_text-e.ensures _ c.plan-r.ensures.value _ c.plan-r.ensures.lent_proposal c.in-Proposed.is _ c.put_rules.ensures
+pub returns-in-Ok : goal.returns-in-Ok
+returns-in-Ok c = plan_proposed _ _ _ _ refl _ _ _ _ c.put_head-a.ensures c.put_text-e.ensures _ c.plan-r.ensures.value _ c.plan-r.ensures.lent_proposal c.in-Ok.is _ c.put_rules.ensures
 
-pub returns-in-Nothing : goal.returns-in-Nothing
-returns-in-Nothing c = plan_nothing _ _ _ _ refl _ _ _ _ c.put_head-a.ensures c.put_text-e.ensures _ c.plan-r.ensures.value c.in-Nothing.is _ c.put_nones.ensures
+pub returns-in-Err-Nothing : goal.returns-in-Err-Nothing
+returns-in-Err-Nothing c = plan_nothing _ _ _ _ refl _ _ _ _ c.put_head-a.ensures c.put_text-e.ensures _ c.plan-r.ensures.value c.in-Err-Nothing.is _ c.put_nones.ensures
 
-pub returns-in-TooManyRules : goal.returns-in-TooManyRules
-returns-in-TooManyRules c = plan_many _ _ _ _ refl _ _ _ _ c.put_head-a.ensures c.put_text-e.ensures _ c.plan-r.ensures.value c.in-TooManyRules.is
+pub returns-in-Err-TooManyRules : goal.returns-in-Err-TooManyRules
+returns-in-Err-TooManyRules c = plan_many _ _ _ _ refl _ _ _ _ c.put_head-a.ensures c.put_text-e.ensures _ c.plan-r.ensures.value c.in-Err-TooManyRules.is
 
-pub returns-in-NoRoom : goal.returns-in-NoRoom
-returns-in-NoRoom c = plan_no_room _ _ _ _ refl _ _ _ _ c.put_head-a.ensures c.put_text-e.ensures _ c.plan-r.ensures.value c.in-NoRoom.is
+pub returns-in-Err-NoRoom : goal.returns-in-Err-NoRoom
+returns-in-Err-NoRoom c = plan_no_room _ _ _ _ refl _ _ _ _ c.put_head-a.ensures c.put_text-e.ensures _ c.plan-r.ensures.value c.in-Err-NoRoom.is

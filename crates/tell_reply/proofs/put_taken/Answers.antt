@@ -6,13 +6,13 @@ use Rattle.tell_reply.proofs.Wording.{told, taken_none, taken_some}
 use Rattle.tell_reply.proofs.put_taken.Goals as goal
 
 pub returns-then-k-eq0 : goal.returns-then-k-eq0
-returns-then-k-eq0 c = told _ _ _ _ (sym (taken_none _ _ _ c.in-Members.is c.if-k-eq0.true)) c.put_text.ensures
+returns-then-k-eq0 c = told _ _ _ _ (sym (taken_none _ _ _ c.in-Ok.is c.if-k-eq0.true)) c.put_text.ensures
 
 pub returns-else-k-eq0 : goal.returns-else-k-eq0
-returns-else-k-eq0 c = told _ _ _ _ (sym (taken_some _ _ _ c.in-Members.is c.if-k-eq0.false)) c.put_members.ensures
+returns-else-k-eq0 c = told _ _ _ _ (sym (taken_some _ _ _ c.in-Ok.is c.if-k-eq0.false)) c.put_members.ensures
 
-pub returns-in-Refused : goal.returns-in-Refused
-returns-in-Refused c = told _ _ _ _ (ap (taken_text _) (sym c.in-Refused.is)) c.put_refusal.ensures
+pub returns-in-Err-Refused : goal.returns-in-Err-Refused
+returns-in-Err-Refused c = told _ _ _ _ (ap (taken_text _) (sym c.in-Err-Refused.is)) c.put_refusal.ensures
 
-pub returns-in-Short : goal.returns-in-Short
-returns-in-Short c = told _ _ _ _ (ap (taken_text _) (sym c.in-Short.is)) (nothing _)
+pub returns-in-Err-Short : goal.returns-in-Err-Short
+returns-in-Err-Short c = told _ _ _ _ (ap (taken_text _) (sym c.in-Err-Short.is)) (nothing _)

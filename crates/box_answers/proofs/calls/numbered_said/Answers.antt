@@ -4,14 +4,14 @@ use Rattle.box_answers.specs.Border.{numbered_said}
 use Rattle.box_answers.proofs.Crossing.{done_as}
 use Rattle.box_answers.proofs.calls.numbered_said.Goals as goal
 
-pub returns-in-Known : goal.returns-in-Known
+pub returns-in-Ok-Known : goal.returns-in-Ok-Known
 unfolding numbered_said
-returns-in-Known c = done_as _ _ _ _ _ c.done.ensures c.word16.ensures refl ∙ sym (ap numbered_said c.in-Known.is)
+returns-in-Ok-Known c = done_as _ _ _ _ _ c.done.ensures c.word16.ensures refl ∙ sym (ap numbered_said c.in-Ok-Known.is)
 
-pub returns-in-Fresh : goal.returns-in-Fresh
+pub returns-in-Ok-Fresh : goal.returns-in-Ok-Fresh
 unfolding numbered_said
-returns-in-Fresh c = done_as _ _ _ _ _ c.done-in-Fresh.ensures c.word16-in-Fresh.ensures refl ∙ sym (ap numbered_said c.in-Fresh.is)
+returns-in-Ok-Fresh c = done_as _ _ _ _ _ c.done-in-Ok-Fresh.ensures c.word16-in-Ok-Fresh.ensures refl ∙ sym (ap numbered_said c.in-Ok-Fresh.is)
 
-pub returns-in-Refused : goal.returns-in-Refused
+pub returns-in-Err : goal.returns-in-Err
 unfolding numbered_said
-returns-in-Refused c = c.refused.ensures ∙ sym (ap numbered_said c.in-Refused.is)
+returns-in-Err c = c.refused.ensures ∙ sym (ap numbered_said c.in-Err.is)

@@ -5,14 +5,14 @@ use Rattle.box_answers.specs.Border.{reported_said}
 use Rattle.box_answers.proofs.Crossing.{done_as}
 use Rattle.box_answers.proofs.calls.reported_said.Goals as goal
 
-pub returns-in-Done : goal.returns-in-Done
+pub returns-in-Ok : goal.returns-in-Ok
 unfolding reported_said
-returns-in-Done c = done_as _ _ _ _ _ c.done.ensures c.word32.ensures refl ∙ sym (ap reported_said c.in-Done.is)
+returns-in-Ok c = done_as _ _ _ _ _ c.done.ensures c.word32.ensures refl ∙ sym (ap reported_said c.in-Ok.is)
 
-pub returns-in-TooManyRules : goal.returns-in-TooManyRules
+pub returns-in-Err-TooManyRules : goal.returns-in-Err-TooManyRules
 unfolding reported_said number told
-returns-in-TooManyRules c = c.refused.ensures ∙ sym (ap reported_said c.in-TooManyRules.is)
+returns-in-Err-TooManyRules c = c.refused.ensures ∙ sym (ap reported_said c.in-Err-TooManyRules.is)
 
-pub returns-in-NoRoom : goal.returns-in-NoRoom
+pub returns-in-Err-NoRoom : goal.returns-in-Err-NoRoom
 unfolding reported_said
-returns-in-NoRoom c = c.crowded.ensures ∙ sym (ap reported_said c.in-NoRoom.is)
+returns-in-Err-NoRoom c = c.crowded.ensures ∙ sym (ap reported_said c.in-Err-NoRoom.is)

@@ -3,14 +3,14 @@ use mathlib.Core.Path.{sym, ap, ◌∙◌}
 use Rattle.box_answers.specs.Border.{taken_said}
 use Rattle.box_answers.proofs.calls.taken_said.Goals as goal
 
-pub returns-in-Members : goal.returns-in-Members
+pub returns-in-Ok : goal.returns-in-Ok
 unfolding taken_said
-returns-in-Members c = c.done.ensures ∙ sym (ap taken_said c.in-Members.is)
+returns-in-Ok c = c.done.ensures ∙ sym (ap taken_said c.in-Ok.is)
 
-pub returns-in-Refused : goal.returns-in-Refused
+pub returns-in-Err-Refused : goal.returns-in-Err-Refused
 unfolding taken_said
-returns-in-Refused c = c.refused.ensures ∙ sym (ap taken_said c.in-Refused.is)
+returns-in-Err-Refused c = c.refused.ensures ∙ sym (ap taken_said c.in-Err-Refused.is)
 
-pub returns-in-Short : goal.returns-in-Short
+pub returns-in-Err-Short : goal.returns-in-Err-Short
 unfolding taken_said
-returns-in-Short c = sym (ap taken_said c.in-Short.is)
+returns-in-Err-Short c = sym (ap taken_said c.in-Err-Short.is)
