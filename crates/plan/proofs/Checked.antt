@@ -343,7 +343,7 @@ check_first g p b i j = (λ e. into (ℕ_discrete (length p) (length g.kept)) e,
     into (no q) e = let z : (Err (WrongLength (length p))) ≡ (Err (Bad b i j)) = sym (check_wrong g p q) ∙ e in let y : ◌≡◌ {A = ℕ} 0 1 = cc in absurd (omega arith)
 
 pub check_length : (g : Set) (p : List ℕ) (n : ℕ) → (check g p ≡ Err (WrongLength n)) ↔ ((n ≡ length p) × (length p ≡ length g.kept → ⊥))
-check_length g p n = (λ e. into (ℕ_discrete (length p) (length g.kept)) e, λ w. check_wrong g p w.1 ∙ ap (Err (WrongLength (sym w.0))))
+check_length g p n = (λ e. into (ℕ_discrete (length p) (length g.kept)) e, λ w. check_wrong g p w.1 ∙ ap (λ x. Err (WrongLength x)) (sym w.0))
   where
     never_so : (o : Option Judged) → first_bad g (proposed g p) ≡ o → or_else o (Ok tt) ≡ Err (WrongLength n) → ⊥
     never_so none q e = let y : ◌≡◌ {A = ℕ} 0 1 = cc in omega arith

@@ -15,6 +15,7 @@ use Rattle.paper.specs.Numbers.{max_rules}
 use Rattle.paper.specs.Loading.{Set}
 use Rattle.paper.specs.Rules.{report}
 use Rattle.paper.specs.Priorities.{Proposable, proposed, old_priorities, Passes, Mends}
+use Rattle.plan.specs.Answered.{Planned}
 use Rattle.plan.specs.declared.Unplanned.TheVariants.{Nothing}
 use Rattle.plan.specs.declared.Hurdle.TheVariants.{Free}
 use Rattle.plan.specs.Plans.{check, Obstacle, by_mask, by_sameness, obstacle, Obstructed, obstructed, Plan, proposal, no_proposal, plan}
@@ -32,7 +33,7 @@ module _ (g : Set) (R : Ready g) (m : List ℕ) (room : length g.kept ≤ length
   unfolding proposal_after
   after_so = let t = le-ltb max_rules (length g.kept) R.few in let u = le-ltb (length m) (length g.kept) room in rw (t, u) refl
 
-  apart_answers : (Err Nothing) ≡ Ok tt → ⊥
+  apart_answers : ◌≡◌ {A = Planned} (Err Nothing) (Ok tt) → ⊥
   apart_answers e = let z : ◌≡◌ {A = ℕ} 0 1 = cc in absurd (omega arith)
 
   -- what the lent words hold of a proposal
