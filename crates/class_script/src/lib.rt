@@ -27,7 +27,7 @@ pub enum Reply {
     Found(Result<Trail, Refusal>),
     FoundMut(Result<Option<u16>, Refusal>),
     Compared(Result<bool, Refusal>),
-    Removed(Taken),
+    Removed(Result<usize, Untaken>),
     Length(u16),
     Emptiness(bool),
     Bad,
