@@ -194,15 +194,10 @@ pub fn link_of(b: &[u8]) -> Option<Link>
 pub fn parent(b: &[u8]) -> Option<u16>
     ensures { result ≡ found_as (parent (site_of b.now)) }
 {
-    match link_of(b) {
-        Some(Link::Variant {
-            source,
-            variant: _,
-            field: _,
-        }) => Some(source),
-        Some(Link::Struct { source, field: _ }) => Some(source),
-        Some(Link::Some { source }) => Some(source),
-        None => None,
+    match link_of(b)? {
+        Link::Variant { source, .. } => Some(source),
+        Link::Struct { source, .. } => Some(source),
+        Link::Some { source } => Some(source),
     }
 }
 
