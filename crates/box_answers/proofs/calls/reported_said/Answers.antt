@@ -1,3 +1,4 @@
+use Rattle.std.specs.declared.result.Result.TheVariants.{Err}
 -- `box_answers::calls::reported_said` meets its contract. Assumes nothing.
 use mathlib.Core.Path.{sym, ap, refl, ◌∙◌}
 use Rattle.paper.specs.Numbers.{number, told}
@@ -11,8 +12,8 @@ returns-in-Ok c = done_as _ _ _ _ _ c.done.ensures c.word32.ensures refl ∙ sym
 
 pub returns-in-Err-TooManyRules : goal.returns-in-Err-TooManyRules
 unfolding reported_said number told
-returns-in-Err-TooManyRules c = c.refused.ensures ∙ sym (ap reported_said c.in-Err-TooManyRules.is)
+returns-in-Err-TooManyRules c = c.refused.ensures ∙ sym (ap reported_said (c.in-Err-TooManyRules.is ∙ ap Err c.in-Err-TooManyRules.field-0-is))
 
 pub returns-in-Err-NoRoom : goal.returns-in-Err-NoRoom
 unfolding reported_said
-returns-in-Err-NoRoom c = c.crowded.ensures ∙ sym (ap reported_said c.in-Err-NoRoom.is)
+returns-in-Err-NoRoom c = c.crowded.ensures ∙ sym (ap reported_said (c.in-Err-NoRoom.is ∙ ap Err c.in-Err-NoRoom.field-0-is))
