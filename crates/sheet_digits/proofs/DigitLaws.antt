@@ -1,10 +1,12 @@
 -- Digits one after another, and stores one after another.
 use mathlib.Core.Path.{◌≡◌, refl, sym, ap, ◌∙◌}
 use mathlib.Core.List.{List, [], ◌∷◌, ◌++◌}
-use Prim.Native.Nat.{ℕ, zero, suc, ◌+◌, ◌*◌, ◌/◌, ◌%◌, ◌<◌, ◌≤◌}
+use Prim.Native.Nat.{ℕ, suc, ◌+◌, ◌*◌, ◌/◌, ◌%◌, ◌<◌, ◌≤◌}
 use native.Mathlib.Omega.{arith}
 use native.Mathlib.Numerals.{add-one}
-use lib.ListN.{length, set}
+use Rattle.std.specs.Int.{w16, w32, to_be_bytes, byte_at}
+use Rattle.std.proofs.lemmas.List.{take_more, length-take-le}
+use lib.ListN.{length, get_or, take, set}
 use lib.Seq.{sets, set_out}
 use borrow.Author.Tests.{lt-ltb, le-ltb}
 use Rattle.paper.specs.Words.{two, four}
@@ -53,13 +55,25 @@ byte_out l v i b x e g h =
     let o : set v (i + 1) (digit_of (b % 16)) ≡ v = set_out v (i + 1) (digit_of (b % 16)) (omega arith) in
     sym o ∙ byte_put l v (set v (i + 1) (digit_of (b % 16))) i b x (digit_of (b % 16)) e refl g refl
 
-pub two_put : (l v w : List ℕ) (i n : ℕ) → v ≡ sets l i (digits_of (n / 256 ∷ [])) → w ≡ sets v (i + 2) (digits_of (n % 256 ∷ [])) → w ≡ sets l i (digits_of (two n))
-unfolding two digits_of
-two_put l v w i n e f = then_sets l v w i (i + 2) (digits_of (n / 256 ∷ [])) (digits_of (n % 256 ∷ [])) e refl f
+-- the bytes of s before the k-th are written, then the k-th
+pub bytes_more : (l v w s : List ℕ) (i k : ℕ) → k < length s → v ≡ sets l i (digits_of (take k s)) → w ≡ sets v (i + 2 * k) (digits_of (get_or s k 0 ∷ [])) → w ≡ sets l i (digits_of (take (k + 1) s))
+bytes_more l v w s i k h e f =
+    let n : length (take k s) ≡ k = length-take-le k s (omega arith) in
+    let d = digits_append (take k s) (get_or s k 0 ∷ []) in
+    rw (take_more s k 0 h, d) (then_sets l v w i (i + 2 * k) (digits_of (take k s)) (digits_of (get_or s k 0 ∷ [])) e (omega (arith, length_digits (take k s))) f)
 
-pub four_put : (l v w x y : List ℕ) (i n : ℕ) → v ≡ sets l i (digits_of (n / 256 / 256 / 256 ∷ [])) → w ≡ sets v (i + 2) (digits_of (n / 256 / 256 % 256 ∷ [])) → x ≡ sets w (i + 4) (digits_of (n / 256 % 256 ∷ [])) → y ≡ sets x (i + 6) (digits_of (n % 256 ∷ [])) → y ≡ sets l i (digits_of (four n))
-unfolding four digits_of
-four_put l v w x y i n e f g h =
-    let a = then_sets l v w i (i + 2) (digits_of (n / 256 / 256 / 256 ∷ [])) (digits_of (n / 256 / 256 % 256 ∷ [])) e refl f in
-    let b = then_sets l w x i (i + 4) (digits_of (n / 256 / 256 / 256 ∷ n / 256 / 256 % 256 ∷ [])) (digits_of (n / 256 % 256 ∷ [])) a refl g in
-    then_sets l x y i (i + 6) (digits_of (n / 256 / 256 / 256 ∷ n / 256 / 256 % 256 ∷ n / 256 % 256 ∷ [])) (digits_of (n % 256 ∷ [])) b refl h
+pub two_is : (n : ℕ) → n < 65536 → to_be_bytes w16 n ≡ two n
+unfolding two
+two_is n h =
+    let a : byte_at 1 n ≡ n / 256 = omega arith in
+    let b : byte_at 0 n ≡ n % 256 = omega arith in
+    rw (a, b)
+
+pub four_is : (n : ℕ) → n < 4294967296 → to_be_bytes w32 n ≡ four n
+unfolding four
+four_is n h =
+    let a : byte_at 3 n ≡ n / 256 / 256 / 256 = omega arith in
+    let b : byte_at 2 n ≡ n / 256 / 256 % 256 = omega arith in
+    let x : byte_at 1 n ≡ n / 256 % 256 = omega arith in
+    let y : byte_at 0 n ≡ n % 256 = omega arith in
+    rw (a, b, x, y)

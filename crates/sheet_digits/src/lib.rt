@@ -2,7 +2,7 @@
 // nothing is stored.
 #![tactic(auto)]
 
-ghost use Rattle.std.specs.Prelude.{◌≡◌, List, [], ◌∷◌, ℕ, ◌+◌, ◌<◌, ◌/◌, ◌%◌, set};
+ghost use Rattle.std.specs.Prelude.{◌≡◌, List, [], ◌∷◌, ℕ, ◌+◌, ◌*◌, ◌^◌, ◌<◌, ◌/◌, ◌%◌, length, set};
 ghost use Rattle.std.proofs.lemmas.List.Edits.{sets};
 ghost use Rattle.paper.specs.Words.{two, four};
 ghost use Rattle.paper.specs.Layout.{digit_of};
@@ -58,24 +58,28 @@ pub fn put_byte(room: &mut [u8], at: u32, b: u8)
     write_byte(room, at as usize, b);
 }
 
+// Bytes, two digits each.
+pub fn write_bytes(room: &mut [u8], at: usize, bytes: &[u8])
+    requires { at + 2 * length bytes.now < 2 ^ 64 }
+    ensures { room.new ≡ sets room.old at (digits_of bytes.now) }
+{
+    for k in 0..bytes.len() {
+        write_byte(room, at + 2 * k, bytes[k]);
+    }
+}
+
 // A number of two bytes.
 pub fn put_two(room: &mut [u8], at: u32, v: u16)
     ensures { room.new ≡ sets room.old at (digits_of (two v)) }
 {
-    let p = at as usize;
-    write_byte(room, p, (v / 256) as u8);
-    write_byte(room, p + 2, (v % 256) as u8);
+    write_bytes(room, at as usize, &v.to_be_bytes());
 }
 
 // A number of four bytes.
 pub fn put_four(room: &mut [u8], at: u32, v: u32)
     ensures { room.new ≡ sets room.old at (digits_of (four v)) }
 {
-    let p = at as usize;
-    write_byte(room, p, (v / 256 / 256 / 256) as u8);
-    write_byte(room, p + 2, (v / 256 / 256 % 256) as u8);
-    write_byte(room, p + 4, (v / 256 % 256) as u8);
-    write_byte(room, p + 6, (v % 256) as u8);
+    write_bytes(room, at as usize, &v.to_be_bytes());
 }
 
 // The end of the line.

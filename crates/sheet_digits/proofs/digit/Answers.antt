@@ -1,5 +1,4 @@
 use Rattle.sheet_digits.proofs.DigitLaws.{digit_low, digit_high}
-use borrow.Author.Rules.{rules}
 use Rattle.sheet_digits.proofs.digit.Goals as goal
 
 pub returns-then-v-lt10 : goal.returns-then-v-lt10

@@ -1,6 +1,5 @@
 use lib.Seq.{set_out}
 use mathlib.Core.Path.{sym}
-use borrow.Author.Rules.{rules}
 use Rattle.sheet_digits.proofs.put.Goals as goal
 
 pub returns-else-at-room : goal.returns-else-at-room

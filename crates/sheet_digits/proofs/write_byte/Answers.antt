@@ -1,5 +1,4 @@
 use Rattle.sheet_digits.proofs.DigitLaws.{byte_put, byte_out}
-use borrow.Author.Rules.{rules}
 use Rattle.sheet_digits.proofs.write_byte.Goals as goal
 
 pub returns-then-room-at : goal.returns-then-room-at
