@@ -49,18 +49,18 @@ self_equates c x y W e = record {
 }
 
 -- what a join answers, and what it leaves
-data Answer (c : Classes) (x y : ℕ) : Classes × Answer Bool → Type 0 where
-  was_one : (e : Refusal) → Equates c.parents c.parents c.ranks c.count x y false → Answer c x y (c, Err e)
-  now_one : (d : Classes) (k : Bool) → Equates c.parents d.parents d.ranks d.count x y k → Answer c x y (d, Ok k)
+data Answered (c : Classes) (x y : ℕ) : Classes × Answer Bool → Type 0 where
+  was_one : (e : Refusal) → Equates c.parents c.parents c.ranks c.count x y false → Answered c x y (c, Err e)
+  now_one : (d : Classes) (k : Bool) → Equates c.parents d.parents d.ranks d.count x y k → Answered c x y (d, Ok k)
 
-answer : (c : Classes) (x y : ℕ) → WellMade c → x < max_sites → y < max_sites → Answer c x y (joined c x y)
+answer : (c : Classes) (x y : ℕ) → WellMade c → x < max_sites → y < max_sites → Answered c x y (joined c x y)
 unfolding unite
 answer c x y W hx hy = go (ℕ_discrete x y)
   where
     k : Bool
     k = not (eqb (enter c x).root (enter (enter c x).after y).root)
 
-    go : Dec (x ≡ y) → Answer c x y (joined c x y)
+    go : Dec (x ≡ y) → Answered c x y (joined c x y)
     go (yes e) = rw (← merge_same c x y (lt-ltb x max_sites hx) (lt-ltb y max_sites hy) e) (was_one (Itself x) (self_equates c x y W e))
     go (no n) =
         rw (← merge_done c x y (lt-ltb x max_sites hx) (lt-ltb y max_sites hy) n (enter c x) (enter (enter c x).after y) (unite c x y) refl refl refl)
@@ -71,8 +71,8 @@ pub equate_done : (p r : List ℕ) (n x y : ℕ) → Well p r n → x < max_site
     → ◌≡◌ {A = Classes × Answer Bool} (classes q s m, j) (joined (classes p r n) x y) → j ≡ Ok k → Equates p q s m x y k
 equate_done p r n x y W hx hy q s m j k e o = go (answer (classes p r n) x y W hx hy) e
   where
-    go : {w : Classes × Answer Bool} → Answer (classes p r n) x y w → ◌≡◌ {A = Classes × Answer Bool} (classes q s m, j) w → Equates p q s m x y k
-    go (was_one f E) w = let j' : Err f ≡ Ok k = sym (ap (λ (u : Classes × Answer Bool). u.1) w) ∙ o in let z : ◌≡◌ {A = ℕ} 0 1 = cc in absurd (omega arith)
+    go : {w : Classes × Answer Bool} → Answered (classes p r n) x y w → ◌≡◌ {A = Classes × Answer Bool} (classes q s m, j) w → Equates p q s m x y k
+    go (was_one f E) w = let j' : Err f ≡ Ok k = sym (ap (λ (u : Classes × Answer Bool). u.1) w) ∙ o in cc
     go (now_one d h E) w =
         let ed : classes q s m ≡ d = ap (λ (u : Classes × Answer Bool). u.0) w in
         let j' : Ok h ≡ Ok k = sym (ap (λ (u : Classes × Answer Bool). u.1) w) ∙ o in
@@ -83,11 +83,11 @@ pub equate_not : (p r : List ℕ) (n x y : ℕ) → Well p r n → x < max_sites
     → ◌≡◌ {A = Classes × Answer Bool} (classes q s m, j) (joined (classes p r n) x y) → j ≡ Err f → Equates p q s m x y false
 equate_not p r n x y W hx hy q s m j f e o = go (answer (classes p r n) x y W hx hy) e
   where
-    go : {w : Classes × Answer Bool} → Answer (classes p r n) x y w → ◌≡◌ {A = Classes × Answer Bool} (classes q s m, j) w → Equates p q s m x y false
+    go : {w : Classes × Answer Bool} → Answered (classes p r n) x y w → ◌≡◌ {A = Classes × Answer Bool} (classes q s m, j) w → Equates p q s m x y false
     go (was_one g E) w =
         let ed : classes q s m ≡ classes p r n = ap (λ (u : Classes × Answer Bool). u.0) w in
         subst⁻¹ (λ (u : Classes). Equates p u.parents u.ranks u.count x y false) ed E
-    go (now_one d h E) w = let j' : Ok h ≡ Err f = sym (ap (λ (u : Classes × Answer Bool). u.1) w) ∙ o in let z : ◌≡◌ {A = ℕ} 0 1 = cc in absurd (omega arith)
+    go (now_one d h E) w = let j' : Ok h ≡ Err f = sym (ap (λ (u : Classes × Answer Bool). u.1) w) ∙ o in cc
 
 -- ---- growths
 
@@ -220,7 +220,7 @@ module _ (eqs : List ℕ) (hs : List Holder) (I : Inside eqs) where
       c : Classes
       c = merge_each no_classes (below k (eq_at eqs))
 
-      made : Starts eqs hs c k → {w : Classes × Answer Bool} → Answer c (eq_at eqs k).0 (eq_at eqs k).1 w → Starts eqs hs w.0 (suc k)
+      made : Starts eqs hs c k → {w : Classes × Answer Bool} → Answered c (eq_at eqs k).0 (eq_at eqs k).1 w → Starts eqs hs w.0 (suc k)
       made S (was_one f E) = starts_more c c k false (omega arith) S E
       made S (now_one d h E) = starts_more c d k h (omega arith) S E
 

@@ -31,7 +31,8 @@ pub fn written(parents: &mut [u16; SITES], ranks: &mut [u8; SITES], count: &mut 
     for k in 0..m {
         let x = eqs[2 * k];
         let y = eqs[2 * k + 1];
-        classes::merge_in(parents, ranks, count, x, y);
+        // a number that is no site joins nothing
+        let _ = classes::merge_in(parents, ranks, count, x, y);
     }
 }
 
