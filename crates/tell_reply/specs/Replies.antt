@@ -14,6 +14,7 @@ use Rattle.classes.specs.declared.Trail.{Trail}
 use Rattle.classes.specs.Called.{Looked}
 use Rattle.paper.specs.Answered.{Answer}
 use Rattle.classes.specs.Called.{Taken}
+use Rattle.classes.specs.declared.Untaken.{Untaken}
 use Rattle.classes.specs.declared.Untaken.TheVariants as taken
 use Rattle.class_script.specs.declared.Reply.{Reply}
 use Rattle.class_script.specs.declared.Reply.TheVariants as reply
@@ -85,10 +86,13 @@ listed_text ms zero = unended "none"
 listed_text ms (suc k) = members_text ms (min (suc k) (length ms))
 
 -- a script lends room for every site, so that no removal finds its list short
+abbrev pub untaken_text : Untaken → List ℕ
+untaken_text (taken.Refused e) = refusal_text e
+untaken_text taken.Short = []
+
 abbrev pub taken_text : List ℕ → Taken → List ℕ
 taken_text ms (Ok k) = listed_text ms k
-taken_text ms (Err (taken.Refused e)) = refusal_text e
-taken_text ms (Err taken.Short) = []
+taken_text ms (Err u) = untaken_text u
 
 abbrev pub reply_text : List ℕ → ℕ → Reply → List ℕ
 reply_text ms line (reply.Merged j) = joined_text j

@@ -3,7 +3,7 @@
 
 ghost use Rattle.std.specs.Prelude.{◌≡◌, min, length};
 ghost use Rattle.tell_text.specs.Written.{wrote};
-ghost use Rattle.tell_reply.specs.Replies.{bool_text, refusal_text, joined_text, trail_text, looked_text, found_text, sought_text, same_text, member_text, members_text, taken_text, reply_text};
+ghost use Rattle.tell_reply.specs.Replies.{bool_text, refusal_text, joined_text, trail_text, looked_text, found_text, sought_text, same_text, member_text, members_text, untaken_text, taken_text, reply_text};
 
 use class_script::Reply;
 use classes::{Untaken, Trail};
@@ -121,6 +121,15 @@ fn put_members(out: &mut [u8], n: usize, members: &[u16], k: usize) -> usize
     m
 }
 
+fn put_untaken(out: &mut [u8], n: usize, u: Untaken) -> usize
+    ensures { (out.new, result) ≡ wrote (out.old, n) (untaken_text u) }
+{
+    match u {
+        Untaken::Refused(e) => put_refusal(out, n, e),
+        Untaken::Short => n,
+    }
+}
+
 fn put_taken(out: &mut [u8], n: usize, members: &[u16], t: Result<usize, Untaken>) -> usize
     ensures { (out.new, result) ≡ wrote (out.old, n) (taken_text members.now t) }
 {
@@ -131,8 +140,7 @@ fn put_taken(out: &mut [u8], n: usize, members: &[u16], t: Result<usize, Untaken
             }
             put_members(out, n, members, k)
         }
-        Err(Untaken::Refused(e)) => put_refusal(out, n, e),
-        Err(Untaken::Short) => n,
+        Err(u) => put_untaken(out, n, u),
     }
 }
 
