@@ -1,5 +1,4 @@
 -- Laws of what a script is answered.
 pub mod Saying
 pub mod Fitting
-pub mod Ranges
 pub mod Stopping
