@@ -1,71 +1,65 @@
 // Findings as lines of upper-case hexadecimal, in lent memory.
 #![tactic(auto)]
 
-ghost use Rattle.std.specs.Prelude.{◌≡◌, ◌+◌, ◌*◌, ◌≤◌, ◌<◌, length};
+ghost use Rattle.std.specs.Prelude.{◌≡◌};
 ghost use Rattle.paper.specs.Numbers.{number};
 ghost use Rattle.paper.specs.Layout.{hex};
 ghost use Rattle.paper.specs.Sheets.{refusal_found, term_found, stop_found};
-ghost use Rattle.sheet_findings.specs.Written.{written_at, room_said, room_after, digits_of, five_found, ended_found};
+ghost use Rattle.sheet_findings.specs.Written.{room_said, room_after, five_found, ended_found};
 
 use paper::Refusal;
-use sheet_digits::write_byte;
+use sheet_digits::write_bytes;
 
-// The digits of b into `out` from `at` on.
-fn write_digits(b: &[u8], out: &mut [u8], at: usize)
-    requires { at + 2 * length b.now ≤ length out.old }
-    ensures { out.new ≡ written_at out.old at (digits_of b.now) }
-{
-    let mut j = 0;
-    while j < b.len() {
-        write_byte(out, at + 2 * j, b[j]);
-        j += 1;
-    }
-}
+const LINE_FEED: u8 = 10;
+
+// The first byte of a finding says its kind. Bytes and no enum: the lines' layout fixes them (`refusal_found`, `term_found`, `end_found`, `stop_found`).
+const REFUSED: u8 = 17;
+
+const TERM: u8 = 20;
+
+const ENDED: u8 = 21;
+
+const STOPPED: u8 = 31;
 
 // The bytes of a finding as a line, from `at` on.
 pub fn write_line(b: &[u8], out: &mut [u8], at: usize) -> Option<usize>
     ensures { let line = hex b.now in
         (result ≡ room_said out.old at line) × (out.new ≡ room_after out.old at line) }
 {
-    if out.len() < at {
+    let digits = 2 * b.len();
+    if out.len().saturating_sub(at) <= digits {
         return None;
     }
-    let left = out.len() - at;
-    if left / 2 < b.len() {
-        return None;
-    }
-    if left - 2 * b.len() < 1 {
-        return None;
-    }
-    write_digits(b, out, at);
-    let e = at + 2 * b.len();
-    out[e] = 10;
-    Some(e + 1)
+    write_bytes(out, at, b);
+    let end = at + digits;
+    out[end] = LINE_FEED;
+    Some(end + 1)
 }
 
-// The number of a refusal.
+// The number of a refusal, as a line gives it.
+#[tactic(auto, unfolding(paper::specs::Numbers::number))]
 pub fn number_of(r: Refusal) -> u8
     ensures { result ≡ number r }
 {
     match r {
-        Refusal::Layout { line: _ } => 1,
-        Refusal::Unknown { site: _ } => 2,
-        Refusal::Itself { site: _ } => 3,
-        Refusal::Unreachable { site: _, other: _ } => 4,
-        Refusal::Hanging { site: _ } => 5,
-        Refusal::Endless { site: _ } => 6,
-        Refusal::TooManySites { asked: _, at: _ } => 20,
-        Refusal::TooManySources { asked: _, at: _ } => 21,
-        Refusal::TooManyFields { asked: _, at: _ } => 22,
-        Refusal::TooManyRules { asked: _ } => 23,
-        Refusal::TooManyItems { asked: _ } => 24,
-        Refusal::TooManyConstrained { asked: _ } => 25,
-        Refusal::TooManyEqual { asked: _ } => 26,
-        Refusal::TooManySets { asked: _ } => 27,
-        Refusal::TermTooHigh { asked: _ } => 28,
-        Refusal::UnfoldingTooLong { asked: _ } => 29,
-        Refusal::PlaceUsed { place: _ } => 8,
-        Refusal::Repeated { line: _ } => 9,
+        Refusal::Layout { .. } => 1,
+        Refusal::Unknown { .. } => 2,
+        Refusal::Itself { .. } => 3,
+        Refusal::Unreachable { .. } => 4,
+        Refusal::Hanging { .. } => 5,
+        Refusal::Endless { .. } => 6,
+        Refusal::TooManySites { .. } => 20,
+        Refusal::TooManySources { .. } => 21,
+        Refusal::TooManyFields { .. } => 22,
+        Refusal::TooManyRules { .. } => 23,
+        Refusal::TooManyItems { .. } => 24,
+        Refusal::TooManyConstrained { .. } => 25,
+        Refusal::TooManyEqual { .. } => 26,
+        Refusal::TooManySets { .. } => 27,
+        Refusal::TermTooHigh { .. } => 28,
+        Refusal::UnfoldingTooLong { .. } => 29,
+        Refusal::PlaceUsed { .. } => 8,
+        Refusal::Repeated { .. } => 9,
     }
 }
 
@@ -74,15 +68,8 @@ fn write_five(kind: u8, n: u32, number: u8, out: &mut [u8], at: usize) -> Option
     ensures { let line = hex (five_found kind n number) in
         (result ≡ room_said out.old at line) × (out.new ≡ room_after out.old at line) }
 {
-    let b = [
-        kind,
-        (n / 256 / 256 / 256) as u8,
-        (n / 256 / 256 % 256) as u8,
-        (n / 256 % 256) as u8,
-        (n % 256) as u8,
-        number,
-    ];
-    write_line(&b, out, at)
+    let [a, b, c, d] = n.to_be_bytes();
+    write_line(&[kind, a, b, c, d, number], out, at)
 }
 
 // "11 place, number (1)"
@@ -90,7 +77,7 @@ pub fn write_refusal(place: u32, r: Refusal, out: &mut [u8], at: usize) -> Optio
     ensures { let line = hex (refusal_found place r) in
         (result ≡ room_said out.old at line) × (out.new ≡ room_after out.old at line) }
 {
-    write_five(17, place, number_of(r), out, at)
+    write_five(REFUSED, place, number_of(r), out, at)
 }
 
 // "14 term"
@@ -98,8 +85,8 @@ pub fn write_term(t: u16, out: &mut [u8], at: usize) -> Option<usize>
     ensures { let line = hex (term_found t) in
         (result ≡ room_said out.old at line) × (out.new ≡ room_after out.old at line) }
 {
-    let b = [20, (t / 256) as u8, (t % 256) as u8];
-    write_line(&b, out, at)
+    let [high, low] = t.to_be_bytes();
+    write_line(&[TERM, high, low], out, at)
 }
 
 // "15 sets (2), kept rules (2)"
@@ -107,14 +94,9 @@ pub fn write_end(sets: u16, kept: u16, out: &mut [u8], at: usize) -> Option<usiz
     ensures { let line = hex (ended_found sets kept) in
         (result ≡ room_said out.old at line) × (out.new ≡ room_after out.old at line) }
 {
-    let b = [
-        21,
-        (sets / 256) as u8,
-        (sets % 256) as u8,
-        (kept / 256) as u8,
-        (kept % 256) as u8,
-    ];
-    write_line(&b, out, at)
+    let [a, b] = sets.to_be_bytes();
+    let [c, d] = kept.to_be_bytes();
+    write_line(&[ENDED, a, b, c, d], out, at)
 }
 
 // "a last frame 1F line (4, from 1), number"
@@ -122,5 +104,5 @@ pub fn write_stop(line: u32, r: Refusal, out: &mut [u8], at: usize) -> Option<us
     ensures { let line = hex (stop_found line r) in
         (result ≡ room_said out.old at line) × (out.new ≡ room_after out.old at line) }
 {
-    write_five(31, line, number_of(r), out, at)
+    write_five(STOPPED, line, number_of(r), out, at)
 }
