@@ -1,10 +1,10 @@
 -- One answer fits: `Puts` of `rule_lists::put`. It stands here for `get_or_below`.
 use mathlib.Core.Path.{◌≡◌, sym, ap, ◌∙◌}
 use mathlib.Core.List.{List}
-use Prim.Native.Nat.{ℕ, ◌≤◌, ◌<◌}
+use Prim.Native.Nat.{ℕ, ◌<◌}
 use native.Mathlib.Omega.{arith}
 use native.Mathlib.Decide.{dec_lt}
-use lib.ListN.{length, get_or}
+use lib.ListN.{get_or}
 use lib.Seq.{ext_get_or}
 use Rattle.rule_lists.specs.Entries.{entries, Puts}
 use Rattle.rule_rows.proofs.Agreeing.{get_or_below}

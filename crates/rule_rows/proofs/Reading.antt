@@ -7,18 +7,17 @@ use Prim.Native.Nat.{ℕ, zero, suc, ◌+◌, ◌*◌, ◌/◌, ◌%◌, ◌≤�
 use native.Mathlib.Omega.{arith}
 use native.Mathlib.Numerals.{add-one}
 use native.Mathlib.Decide.{ℕ_discrete}
-use lib.ListN.{length, get_or, drop, get_or-eq_default}
+use lib.ListN.{length, get_or, drop}
 use lib.Seq.{drop-cons, drop-length}
 use lib.Dec.{eqb, ltb, leb}
-use borrow.Author.Count.{below_more}
-use borrow.Author.Tests.{eqb-true, ltb-true, ltb-false, leb-true, leb-false, eq-eqb, ne_eqb, le-leb, lt-leb}
+use borrow.Author.Tests.{eqb-true, leb-true, leb-false, eq-eqb, ne_eqb, le-leb, lt-leb}
 use Rattle.paper.specs.declared.Constraint.{Constraint}
 use Rattle.paper.specs.declared.Constraint.TheVariants.{Some}
 use Rattle.std.specs.Prelude.{if◌then◌else◌}
 use Rattle.paper.specs.Words.{or_else, first}
 use Rattle.paper.specs.Numbers.{max_sites, max_fields}
 use Rattle.paper.specs.Sites.{same_constraint, child_count}
-use Rattle.paper.proofs.Lists.{no_way, and_both}
+use Rattle.paper.proofs.Lists.{and_both}
 use Rattle.rule_words.specs.Packing.{unpack}
 use Rattle.rule_words.specs.Stored.{constraint_at}
 use Rattle.rule_words.proofs.PackLaws.{same_words, other_head, other_second, other_third, as_other}
@@ -115,9 +114,6 @@ pub kid_inside : (kids : List ℕ) (i f : ℕ) → ((k : ℕ) → get_or kids k 
 unfolding kid_in
 kid_inside kids i f h = h (max_fields * i + f)
 
-pub kid_higher : (kids : List ℕ) (i f k s : ℕ) → k ≡ kid_in kids i f → s < k → s < kid_in kids i f
-kid_higher kids i f k s e h = rw e at h
-
 -- ---- a number that is no site
 
 abbrev pub or_first : Option ℕ → Option ℕ → Option ℕ
@@ -143,16 +139,6 @@ unfolding stray first
 stray_none = refl
 
 -- ---- where all numbers are low
-
-pub low_step : (xs : List ℕ) (i top r : ℕ) → ((k : ℕ) → k < i → get_or xs k 0 ≤ top) → top ≤ r → get_or xs i 0 ≤ r → (k : ℕ) → k < i + 1 → get_or xs k 0 ≤ r
-low_step xs i top r h l m = below_more (λ k. get_or xs k 0 ≤ r) i (λ k q. let z = h k q in omega arith) m
-
-pub low_all : (xs : List ℕ) (i r : ℕ) → length xs ≤ i → ((k : ℕ) → k < i → get_or xs k 0 ≤ r) → (k : ℕ) → get_or xs k 0 ≤ r
-low_all xs i r l h k = go (ltb k i) refl
-  where
-    go : (t : Bool) → ltb k i ≡ t → get_or xs k 0 ≤ r
-    go true e = h k (ltb-true k i e)
-    go false e = let z = ltb-false k i e in let w = get_or-eq_default xs 0 (let v : length xs ≤ k = omega arith in v) in omega arith
 
 pub low_clean : (xs : List ℕ) (r : ℕ) → ((k : ℕ) → get_or xs k 0 ≤ r) → r < max_sites → stray xs ≡ none
 low_clean [] r h l = stray_none

@@ -1,15 +1,15 @@
 -- The holders and the equalities that the lent lists tell, and the class check of them.
 use Rattle.std.specs.declared.result.Result.TheVariants.{Err, Ok}
-use Rattle.std.specs.Prelude.{◌≡◌, ℕ, ◌+◌, ◌*◌, ◌/◌, ◌<◌, min, get_or, length, leb}
+use Rattle.std.specs.Prelude.{ℕ, ◌+◌, ◌*◌, ◌/◌, ◌<◌, min, get_or, length, leb}
 use Rattle.std.proofs.Math.Option.{Option, none, some}
-use mathlib.Core.List.{List, [], ◌∷◌, ◌++◌, foldl}
+use mathlib.Core.List.{List, [], ◌++◌, foldl}
 use Rattle.paper.specs.declared.Constraint.{Constraint}
 use Rattle.paper.specs.declared.Refusal.TheVariants.{Unknown}
 use Rattle.paper.specs.Words.{first, below}
 use Rattle.paper.specs.Numbers.{max_sites, max_fields, Outcome, done, refused, ◌>>=◌}
 use Rattle.paper.specs.Sites.{child_count}
 use Rattle.paper.specs.Classes.{Classes, merge}
-use Rattle.paper.specs.Loading.{Labels, Holder, closure_of, conflict, check_4, steps, endless, no_endless}
+use Rattle.paper.specs.Loading.{Holder, closure_of, conflict, check_4, steps, endless, no_endless}
 use Rattle.rule_words.specs.Stored.{constraint_at}
 use Rattle.paper.specs.Answered.{Verdict}
 

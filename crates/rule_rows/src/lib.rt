@@ -12,7 +12,6 @@ ghost use Rattle.rule_rows.specs.Holding.{shape_in, kid_count, kid_in, stray};
 use paper::{FIELDS, SITES};
 use rule_lists::at;
 use rule_words::word;
-use widths::size16;
 
 // The first number that is no site.
 const NEVER: u16 = SITES as u16;
@@ -31,7 +30,7 @@ fn few(n: u64) -> u16
 pub fn fields(words: &[u64], i: u16) -> u16
     ensures { result ≡ kid_count words.now i }
 {
-    let k = 3 * size16(i);
+    let k = 3 * usize::from(i);
     let a = word(words, k);
     let b = word(words, k + 1);
     let c = word(words, k + 2);
@@ -57,15 +56,15 @@ pub fn fields(words: &[u64], i: u16) -> u16
 pub fn kid(kids: &[u16], i: u16, f: u16) -> u16
     ensures { result ≡ kid_in kids.now i f }
 {
-    at(kids, FIELDS * size16(i) + size16(f))
+    at(kids, FIELDS * usize::from(i) + usize::from(f))
 }
 
 // Whether rows i and j are under equal constraints.
 pub fn alike(words: &[u64], i: u16, j: u16) -> bool
     ensures { result ≡ same_constraint (shape_in words.now i) (shape_in words.now j) }
 {
-    let a = 3 * size16(i);
-    let b = 3 * size16(j);
+    let a = 3 * usize::from(i);
+    let b = 3 * usize::from(j);
     if word(words, a) != word(words, b) {
         return false;
     }
@@ -79,10 +78,8 @@ pub fn alike(words: &[u64], i: u16, j: u16) -> bool
 pub fn higher(words: &[u64], kids: &[u16], i: u16, s: u16) -> bool
     ensures { result ≡ true → (f : ℕ) → f < kid_count words.now i → s < kid_in kids.now i f }
 {
-    let m = fields(words, i);
-    for f in 0..m {
-        let k = kid(kids, i, f);
-        if k <= s {
+    for f in 0..fields(words, i) {
+        if kid(kids, i, f) <= s {
             return false;
         }
     }
@@ -99,19 +96,13 @@ pub fn holder_count(sites: &[u16]) -> u16
     if n < SITES { n as u16 } else { NEVER }
 }
 
-fn greater(x: u16, y: u16) -> u16
-    ensures { (x ≤ result) × (y ≤ result) }
-{
-    if x < y { y } else { x }
-}
-
 // No number is above it. The loop looks at all of them, so that many are looked at at once.
 pub fn highest(xs: &[u16]) -> u16
     ensures { (k : ℕ) → get_or xs.now k 0 ≤ result }
 {
-    let mut top: u16 = 0;
-    for k in 0..xs.len() {
-        top = greater(top, xs[k]);
+    let mut top = 0;
+    for x in xs {
+        top = top.max(*x);
     }
     top
 }
@@ -123,10 +114,9 @@ pub fn first_stray(xs: &[u16]) -> u16
     if highest(xs) < NEVER {
         return 0;
     }
-    for k in 0..xs.len() {
-        let x = xs[k];
-        if NEVER <= x {
-            return x;
+    for x in xs {
+        if NEVER <= *x {
+            return *x;
         }
     }
     0

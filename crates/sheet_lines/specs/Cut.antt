@@ -12,7 +12,7 @@ use Rattle.paper.specs.Answered.{Maybe}
 use Rattle.sheet_lines.specs.declared.Held.{Held}
 use Rattle.sheet_lines.specs.declared.Cut.{Cut}
 use Rattle.sheet_lines.specs.Fed.{max_held, line_feed, held_of, step_held}
-use Rattle.sheet_lines.specs.Ends.{line_end, Free, Ending, ends_at, open_free}
+use Rattle.sheet_lines.specs.Ends.{line_end, Free, ends_at, open_free}
 use Rattle.sheet_lines.specs.Held.{Holds, held_in, held_more, held_more_is}
 
 -- s from a to b; nothing where that is not there

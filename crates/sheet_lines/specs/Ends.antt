@@ -1,10 +1,10 @@
 -- The lines of a piece: where one ends, and what feeding one does.
 use Rattle.std.specs.declared.option.Option.TheVariants.{None, Some}
-use Rattle.std.specs.Prelude.{◌≡◌, refl, Bool, true, false, List, [], ◌∷◌, ◌++◌, ℕ, zero, suc, ◌+◌, ◌-◌, ◌≤◌, ◌<◌, length, take, drop, eqb}
-use Rattle.std.proofs.Common.{sym, ap, ◌∙◌, append_assoc, append-nil, arith, length-drop, drop-drop, eqb-true}
+use Rattle.std.specs.Prelude.{◌≡◌, refl, Bool, true, false, List, [], ◌∷◌, ◌++◌, ℕ, suc, ◌+◌, ◌-◌, ◌≤◌, ◌<◌, length, take, drop, eqb}
+use Rattle.std.proofs.Common.{sym, ap, ◌∙◌, append_assoc, append-nil, arith, eqb-true}
 use Rattle.paper.specs.Sheets.{Reader, step}
 use Rattle.paper.specs.Answered.{Maybe}
-use Rattle.sheet_lines.specs.Fed.{Reading, going, Fed, line_feed, held_of, held_on, held_held, step_held, after_line, fed, behind, fed_all}
+use Rattle.sheet_lines.specs.Fed.{going, line_feed, held_of, held_on, held_held, step_held, after_line, fed, behind, fed_all}
 
 -- the first LF of s, whose first byte has the number i
 unfoldable pub line_end : ℕ → List ℕ → Maybe ℕ

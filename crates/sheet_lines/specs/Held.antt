@@ -1,5 +1,5 @@
 -- What is held of a line, in an array.
-use Rattle.std.specs.Prelude.{◌≡◌, refl, List, [], ◌∷◌, ◌++◌, Bool, true, false, ℕ, zero, suc, ◌+◌, ◌-◌, ◌≤◌, min, length, take, drop, get_or, set, replicate, leb}
+use Rattle.std.specs.Prelude.{◌≡◌, refl, List, [], ◌∷◌, ◌++◌, Bool, true, false, ℕ, zero, suc, ◌+◌, ◌-◌, ◌≤◌, min, length, take, get_or, set, replicate, leb}
 use Rattle.std.proofs.Common.{sym, ap, ◌∙◌, append-nil, arith, length-take, length-set, take_all, leb-true, leb-false}
 use Rattle.std.proofs.lemmas.List.{length-replicate}
 use Rattle.std.proofs.Math.Seq.{paste, paste-zero, paste-suc}
@@ -50,7 +50,7 @@ take_past n [] s h = let e : n - 0 ≡ n = omega arith in rw e
 take_past zero (x ∷ l) s h = absurd (omega arith)
 take_past (suc n) (x ∷ l) s h = let e : suc n - suc (length l) ≡ n - length l = omega arith in rw e (ap (λ t. x ∷ t) (take_past n l s (omega arith)))
 
-stored_is : (d : List ℕ) (at : ℕ) (s : List ℕ) (k : ℕ) → at + k ≤ length d → k ≤ length s → stored d at s k ≡ paste d at s k
+pub stored_is : (d : List ℕ) (at : ℕ) (s : List ℕ) (k : ℕ) → at + k ≤ length d → k ≤ length s → stored d at s k ≡ paste d at s k
 unfolding stored
 stored_is d at s zero h l = paste-zero d at s
 stored_is d at s (suc k) h l = rw (stored_is d at s k (omega arith) (omega arith)) (paste-suc d at s k 0 (omega arith) (omega arith))

@@ -1,10 +1,10 @@
 -- A sheet in pieces of any size: what is written with each piece and at the end is, one after the other, the findings.
-use Rattle.std.specs.Prelude.{◌≡◌, refl, Bool, true, false, List, [], ◌∷◌, ◌++◌, map, ℕ, zero, suc, ◌+◌, ◌≤◌, ◌<◌, min, length, take, eqb, leb}
-use Rattle.std.proofs.Common.{sym, ap, ◌∙◌, append_assoc, append-nil, arith, length-take, leb-true}
+use Rattle.std.specs.Prelude.{◌≡◌, refl, Bool, true, false, List, [], ◌∷◌, ◌++◌, map, ℕ, suc, ◌≤◌, length, eqb, leb}
+use Rattle.std.proofs.Common.{ap, ◌∙◌, append_assoc, arith, length-take, leb-true}
 use Rattle.paper.specs.Words.{joined}
-use Rattle.paper.specs.Numbers.{Outcome, done, refused, demand, last_line}
+use Rattle.paper.specs.Numbers.{Outcome, done, refused, last_line}
 use Rattle.paper.specs.Layout.{hex}
-use Rattle.paper.specs.Sheets.{Reader, Stepped, step, findings, act_on}
+use Rattle.paper.specs.Sheets.{Reader, Stepped, step, findings}
 use Rattle.sheet_lines.specs.Fed.{Reading, going, stopped, Fed, begun, max_held, line_feed, held_on, after_line, fed, behind, fed_all, ended, closed, findings_fed}
 
 -- ---- pieces

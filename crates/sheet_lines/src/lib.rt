@@ -23,12 +23,10 @@ pub struct Held {
 pub fn line_end(s: &[u8], from: usize) -> Option<usize>
     ensures { result ≡ line_end from (drop from s.now) }
 {
-    let mut i = from;
-    while i < s.len() {
+    for i in from..s.len() {
         if s[i] == LINE_FEED {
             return Some(i);
         }
-        i += 1;
     }
     None
 }
@@ -43,12 +41,6 @@ pub fn nothing() -> Held
     }
 }
 
-fn least(a: usize, b: usize) -> usize
-    ensures { result ≡ min a b }
-{
-    if a <= b { a } else { b }
-}
-
 // More of the line that is held.
 pub fn hold(h: Held, s: &[u8]) -> Held
     ensures { (result ≡ held_more h s.now) × Holds result (held_in h ++ s.now) }
@@ -61,12 +53,8 @@ pub fn hold(h: Held, s: &[u8]) -> Held
         };
     }
     let n = h.length;
-    let k = least(s.len(), HELD - n);
-    let mut j = 0;
-    while j < k {
-        bytes[n + j] = s[j];
-        j += 1;
-    }
+    let k = s.len().min(HELD - n);
+    bytes[n..n + k].copy_from_slice(&s[..k]);
     Held {
         length: n + k,
         bytes: bytes,
@@ -79,13 +67,7 @@ pub fn hold(h: Held, s: &[u8]) -> Held
 pub fn part(s: &[u8], a: usize, b: usize) -> &[u8]
     ensures { result.now ≡ part_of s.now a b }
 {
-    if b < a {
-        return &s[..0];
-    }
-    if s.len() < b {
-        return &s[..0];
-    }
-    &s[a..b]
+    s.get(a..b).unwrap_or(&[])
 }
 
 // What was held of a line, with its rest. Where nothing was held nothing is copied: the line lies in the piece.

@@ -9,7 +9,6 @@ ghost use Rattle.paper.specs.Sites.{sources, term_of, parent};
 ghost use Rattle.site_body.specs.Body.{off_of, many_of, words, kind, is_body, site_of, found_as, link_of, missing, admits_body, verdict_as};
 
 use paper::{Refusal, SOURCES, TERMS};
-use widths::size8;
 
 const KINDS: usize = 14;
 
@@ -41,10 +40,7 @@ pub enum Link {
 fn byte_at(b: &[u8], at: usize) -> u8
     ensures { result ≡ get_or b.now at 0 }
 {
-    if b.len() <= at {
-        return 0;
-    }
-    b[at]
+    b.get(at).copied().unwrap_or(0)
 }
 
 // "high byte first"
@@ -54,25 +50,25 @@ pub fn word_at(b: &[u8], at: usize) -> u16
     if b.len() <= at {
         return 0;
     }
-    (size8(b[at]) * 256 + size8(byte_at(b, at + 1))) as u16
+    (usize::from(b[at]) * 256 + usize::from(byte_at(b, at + 1))) as u16
 }
 
 // Where the sources begin, by the kind alone.
 pub fn off_of(b: &[u8]) -> usize
     ensures { (result ≡ off_of b.now) × (result < 20) }
 {
-    let k = size8(byte_at(b, 0));
+    let k = usize::from(byte_at(b, 0));
     if KINDS <= k {
         return 0;
     }
-    size8(OFFS[k])
+    usize::from(OFFS[k])
 }
 
 // How many sources there are, by the kind and the byte that counts them.
 pub fn many_of(b: &[u8]) -> usize
     ensures { (result ≡ many_of b.now) × (result < 256) }
 {
-    let k = size8(byte_at(b, 0));
+    let k = usize::from(byte_at(b, 0));
     if KINDS <= k {
         return 0;
     }
@@ -84,18 +80,18 @@ pub fn many_of(b: &[u8]) -> usize
         return 1;
     }
     let off = off_of(b);
-    size8(byte_at(b, off - 1))
+    usize::from(byte_at(b, off - 1))
 }
 
 // Are these bytes the body of a site?
 pub fn is_body(b: &[u8]) -> bool
     ensures { result ≡ is_body b.now }
 {
-    let k = size8(byte_at(b, 0));
+    let k = usize::from(byte_at(b, 0));
     if KINDS <= k {
         return false;
     }
-    if b.len() != off_of(b) + 2 * many_of(b) + size8(TAILS[k]) {
+    if b.len() != off_of(b) + 2 * many_of(b) + usize::from(TAILS[k]) {
         return false;
     }
     if k == 0 {
@@ -206,15 +202,11 @@ fn first_missing(b: &[u8], from: usize, many: usize, count: u16) -> Option<u16>
     requires { from + 2 * many ≤ length b.now }
     ensures { result ≡ found_as (missing count (words many (drop from b.now))) }
 {
-    let mut at = from;
-    let mut left = many;
-    while 0 < left {
-        let s = word_at(b, at);
+    for k in 0..many {
+        let s = word_at(b, from + 2 * k);
         if count <= s {
             return Some(s);
         }
-        at += 2;
-        left -= 1;
     }
     None
 }

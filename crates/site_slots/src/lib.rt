@@ -5,15 +5,13 @@
 ghost use Rattle.std.specs.Prelude.{◌≡◌, ℕ, ◌+◌, ◌-◌, ◌*◌, ◌≤◌, ◌<◌, length, ◌∷◌};
 ghost use Rattle.site_slots.specs.Seeking.{slot, quad, four_at, Finds, Same, Tells, Skips, Passed, Reach, Onward, Seeks};
 
-use widths::{half8, size16};
-
 pub const SLOT: usize = 32;
 
 // Four bytes as one number, as they stand in memory.
 pub fn quad(a: u8, b: u8, c: u8, d: u8) -> u32
     ensures { result ≡ quad a b c d }
 {
-    half8(a) + 256 * half8(b) + 65536 * half8(c) + 16777216 * half8(d)
+    u32::from(a) + 256 * u32::from(b) + 65536 * u32::from(c) + 16777216 * u32::from(d)
 }
 
 // For the machine this is one read.
@@ -76,15 +74,15 @@ fn by_eight(m: &[u8], off: usize, from: usize, to: usize, key: u32) -> usize
     requires { (from < 65536) × (to < 65536) × (off < 256) × ((i : ℕ) → i < to → i * slot + off + 4 ≤ length m.now) }
     ensures { Onward m.now off from to key result }
 {
-    let mut i = from;
-    while i + 8 <= to {
+    let blocks = to.saturating_sub(from) / 8;
+    for block in 0..blocks {
+        let i = from + 8 * block;
         let p = of_eight(m, i * SLOT + off, key);
-        i += p;
         if p < 8 {
-            return i;
+            return i + p;
         }
     }
-    i
+    from + 8 * blocks
 }
 
 // The first slot, of those from `from` on and below `to`, that has the key's four bytes at its byte `off`; `to` where none has, or where `to` is below
@@ -93,13 +91,11 @@ pub fn seek(m: &[u8], off: u8, from: u16, to: u16, key: u32) -> u16
     ensures { Seeks m.now off from to key result }
 {
     let place = off as usize;
-    let n = reach(m, place, size16(to));
-    let mut i = by_eight(m, place, size16(from), n, key);
-    while i < n {
+    let n = reach(m, place, usize::from(to));
+    for i in by_eight(m, place, usize::from(from), n, key)..n {
         if four(m, i * SLOT + place) == key {
             return i as u16;
         }
-        i += 1;
     }
     to
 }
@@ -108,14 +104,7 @@ fn same_from(m: &[u8], at: usize, b: &[u8]) -> bool
     requires { at + length b.now ≤ length m.now }
     ensures { Same m.now at b.now result }
 {
-    let mut j = 0;
-    while j < b.len() {
-        if m[at + j] != b[j] {
-            return false;
-        }
-        j += 1;
-    }
-    true
+    m[at..].starts_with(b)
 }
 
 // Is b in slot i?
@@ -123,8 +112,8 @@ fn holds(m: &[u8], i: u16, b: &[u8]) -> bool
     requires { (i * slot + slot ≤ length m.now) × (length b.now < slot) }
     ensures { Tells m.now i b.now result }
 {
-    let at = size16(i) * SLOT;
-    if half8(m[at]) != b.len() as u32 {
+    let at = usize::from(i) * SLOT;
+    if u32::from(m[at]) != b.len() as u32 {
         return false;
     }
     same_from(m, at + 1, b)
@@ -135,7 +124,7 @@ fn whole_slots(m: &[u8], count: u16) -> u16
     ensures { (result ≤ count) × (result * slot ≤ length m.now) × (result < count → length m.now < result * slot + slot) }
 {
     let n = m.len() / SLOT;
-    if n < size16(count) {
+    if n < usize::from(count) {
         return n as u16;
     }
     count
@@ -158,14 +147,12 @@ fn one_by_one(m: &[u8], from: u16, n: u16, b: &[u8]) -> u16
     requires { (from ≤ n) × (n * slot ≤ length m.now) × (length b.now < slot) }
     ensures { Skips m.now from n b.now result }
 {
-    let mut i = from;
-    while i < n {
+    for i in from..n {
         if holds(m, i, b) {
             return i;
         }
-        i += 1;
     }
-    i
+    n
 }
 
 // The first slot from `from` on and below n that may hold b. The last four bytes tell most slots apart; a body of less than three is too short for that.

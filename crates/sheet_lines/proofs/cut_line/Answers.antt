@@ -1,5 +1,4 @@
 use Rattle.sheet_lines.specs.Cut.{cut_at_end, cut_at_none}
-use borrow.Author.Rules.{rules}
 use Rattle.sheet_lines.proofs.cut_line.Goals as goal
 
 pub returns-in-Some : goal.returns-in-Some

@@ -1,5 +1,4 @@
 use Rattle.sheet_lines.specs.Cut.{rest_none, rest_some}
-use borrow.Author.Rules.{rules}
 use Rattle.sheet_lines.proofs.with_rest.Goals as goal
 
 pub returns-then-h-eq0 : goal.returns-then-h-eq0

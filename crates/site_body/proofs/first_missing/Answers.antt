@@ -1,29 +1,23 @@
-use borrow.Author.Rules.{rules}
-use Prim.Native.Nat.{◌+◌, ◌*◌, ◌≤◌}
-use mathlib.Core.Path.{◌≡◌, refl, sym, ap, ◌∙◌}
-use lib.ListN.{length, drop}
-use native.Mathlib.Omega.{arith}
-use Rattle.site_body.specs.Body.{found_as, missing, words}
+use Rattle.std.proofs.Common.{◌≡◌, ◌+◌, ◌-◌, ◌*◌, sym, ap, ◌∙◌, arith}
+use Rattle.site_body.specs.Body.{found_as}
 use Rattle.site_body.proofs.Turns.{missing_here, missing_next, missing_none}
 use Rattle.site_body.proofs.first_missing.Goals as goal
 
-pub loop-left-init : goal.loop-left-init
-loop-left-init c = (c.requires, refl)
-
 pub returns-then-count-s : goal.returns-then-count-s
-returns-then-count-s c = ap found_as (sym (missing_here c.args.b.now c.args.count c.loop-left.left c.loop-left.at c.word_at-s.result c.loop-left-test.true c.loop-left.invariant.0 c.word_at-s.ensures c.if-count-s.true) ∙ c.loop-left.invariant.1)
+returns-then-count-s c =
+    let m = c.args.many in
+    let k = c.loop-k.k in
+    let f = c.args.from in
+    ap found_as (sym (missing_here c.args.b.now c.args.count (m - k) (f + 2 * k) _ (omega arith) (omega arith) c.word_at-s.ensures c.if-count-s.true) ∙ c.loop-k.invariant)
 
-pub overflow_add-at : goal.overflow_add-at
-overflow_add-at c = omega (arith, c.type_inv)
-
-pub overflow_sub-left : goal.overflow_sub-left
-overflow_sub-left c = omega arith
-
-pub loop-left-smaller : goal.loop-left-smaller
-loop-left-smaller c = omega arith
-
-pub loop-left-preserved : goal.loop-left-preserved
-loop-left-preserved c = (omega arith, sym (missing_next c.args.b.now c.args.count c.loop-left.left c.loop-left.at c.word_at-s.result c.loop-left-test.true c.loop-left.invariant.0 c.word_at-s.ensures c.if-count-s.false) ∙ c.loop-left.invariant.1)
+pub loop-k-preserved : goal.loop-k-preserved
+loop-k-preserved c =
+    let m = c.args.many in
+    let k = c.loop-k.k in
+    let f = c.args.from in
+    let one : m - k - 1 ≡ m - (k + 1) = omega arith in
+    let two : f + 2 * k + 2 ≡ f + 2 * (k + 1) = omega arith in
+    rw (← one, ← two) (sym (missing_next c.args.b.now c.args.count (m - k) (f + 2 * k) _ (omega arith) (omega arith) c.word_at-s.ensures c.if-count-s.false) ∙ c.loop-k.invariant)
 
 pub returns : goal.returns
-returns c = ap found_as (sym (missing_none c.args.b.now c.args.count c.loop-left.left c.loop-left.at c.loop-left-test.false) ∙ c.loop-left.invariant.1)
+returns c = ap found_as (sym (missing_none c.args.b.now c.args.count (c.args.many - c.loop-k.k) (c.args.from + 2 * c.loop-k.k) (omega arith)) ∙ c.loop-k.invariant)

@@ -1,8 +1,6 @@
 use mathlib.Core.Path.{sym, ◌∙◌}
 use native.Mathlib.Omega.{arith}
-use borrow.Author.Tests.{not-true, not-false}
 use Rattle.site_body.proofs.Bodies.{judge_none, judge_fits, judge_unknown, judge_sources, judge_no_term, judge_high, judge_term}
-use borrow.Author.Rules.{rules}
 use Rattle.site_body.proofs.judge.Goals as goal
 
 pub returns-then-not-is_body : goal.returns-then-not-is_body

@@ -1,8 +1,6 @@
 use mathlib.Core.Path.{sym, ◌∙◌}
-use borrow.Author.Tests.{not-true, not-false}
 use Rattle.site_body.proofs.Bodies.{link_none, link_variant, link_struct, link_some, link_other}
 use native.Mathlib.Omega.{arith}
-use borrow.Author.Rules.{rules}
 use Rattle.site_body.proofs.link_of.Goals as goal
 
 pub returns-then-not-is_body : goal.returns-then-not-is_body

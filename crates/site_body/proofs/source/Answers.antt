@@ -1,8 +1,6 @@
 use mathlib.Core.Path.{sym, ◌∙◌}
 use native.Mathlib.Omega.{arith}
-use borrow.Author.Tests.{not-true, not-false}
 use Rattle.site_body.proofs.Bodies.{source_first, source_past, source_over, source_some}
-use borrow.Author.Rules.{rules}
 use Rattle.site_body.proofs.source.Goals as goal
 
 pub returns-then-j-eq0 : goal.returns-then-j-eq0

@@ -1,8 +1,6 @@
 use mathlib.Core.Path.{sym, ◌∙◌}
 use native.Mathlib.Omega.{arith}
-use borrow.Author.Tests.{not-true, not-false}
 use Rattle.site_body.proofs.Bodies.{count_none, count_some}
-use borrow.Author.Rules.{rules}
 use Rattle.site_body.proofs.source_count.Goals as goal
 
 pub returns-then-not-is_body : goal.returns-then-not-is_body

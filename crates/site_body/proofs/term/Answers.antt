@@ -1,7 +1,5 @@
 use mathlib.Core.Path.{sym, ◌∙◌}
-use borrow.Author.Tests.{not-true, not-false}
 use Rattle.site_body.proofs.Bodies.{term_none}
-use borrow.Author.Rules.{rules}
 use Rattle.site_body.proofs.term.Goals as goal
 
 pub returns-then-not-is_body : goal.returns-then-not-is_body

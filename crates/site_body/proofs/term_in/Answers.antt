@@ -1,7 +1,6 @@
 use mathlib.Core.Path.{sym, ◌∙◌}
 use Rattle.site_body.proofs.Bodies.{term_four, term_five, term_other}
 use native.Mathlib.Omega.{arith}
-use borrow.Author.Rules.{rules}
 use Rattle.site_body.proofs.term_in.Goals as goal
 
 pub returns-then-k-eq4 : goal.returns-then-k-eq4

@@ -1,6 +1,5 @@
 use mathlib.Core.Path.{refl}
 use Rattle.site_slots.proofs.Holding.{skip_to}
-use borrow.Author.Rules.{rules}
 use Rattle.site_slots.proofs.candidate.Goals as goal
 
 pub returns : goal.returns

@@ -1,6 +1,5 @@
 use native.Mathlib.Omega.{arith}
 use Rattle.site_slots.proofs.Holding.{ending_short, ending_long}
-use borrow.Author.Rules.{rules}
 use Rattle.site_slots.proofs.ending.Goals as goal
 
 pub returns-then-n-eq3 : goal.returns-then-n-eq3

@@ -1,8 +1,5 @@
 use Prim.Native.Nat.{ℕ, ◌-◌, ◌≤◌, ◌<◌}
-use native.Mathlib.Omega.{arith}
-use borrow.Author.Rules.{rules}
 use Rattle.site_slots.specs.Seeking.{Held}
-use Rattle.site_slots.proofs.Holding.{find_long, find_here, find_next, find_past}
 use Rattle.site_slots.proofs.find.Given as goal
 
 abbrev pub invariant-loop-i : goal.invariant-loop-i

@@ -1,5 +1,4 @@
 use Rattle.site_slots.specs.Seeking.{four_at}
-use borrow.Author.Rules.{rules}
 use Rattle.site_slots.proofs.four.Goals as goal
 
 pub returns : goal.returns

@@ -1,11 +1,5 @@
-use Prim.Native.Nat.{◌-◌}
-use native.Mathlib.Omega.{arith}
 use Rattle.site_slots.specs.Seeking.{Skips}
-use Rattle.site_slots.proofs.Holding.{skip_none, skip_more}
 use Rattle.site_slots.proofs.one_by_one.Given as goal
 
 abbrev pub invariant-loop-i : goal.invariant-loop-i
 invariant-loop-i l = Skips l.m l.from l.n l.b l.i
-
-abbrev pub decreases-loop-i : goal.decreases-loop-i
-decreases-loop-i l = l.n - l.i

@@ -1,4 +1,3 @@
-use borrow.Author.Rules.{rules}
 use native.Mathlib.Omega.{arith}
 use Rattle.site_slots.specs.Seeking.{quad}
 use Rattle.site_slots.proofs.quad.Goals as goal
