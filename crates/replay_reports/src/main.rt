@@ -12,7 +12,6 @@ use paper::{CONSTRAINED, EQUALS, Overlap, RULES};
 use report::{REPORT_ROOM, Unreported};
 use rule_words::STRIDE;
 use std::io::{self, Read};
-use widths::word8;
 
 // So much of the input is read.
 const TEXT: u64 = 65536;
@@ -53,13 +52,13 @@ fn digit(x: u8) -> u64 {
         return 16;
     }
     if x < 58 {
-        return word8(x - 48);
+        return u64::from(x - 48);
     }
     if x < 65 {
         return 16;
     }
     if x < 71 {
-        return word8(x - 55);
+        return u64::from(x - 55);
     }
     16
 }

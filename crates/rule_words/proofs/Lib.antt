@@ -2,4 +2,3 @@ pub mod PackLaws
 pub mod CountLaws
 pub mod StoreLaws
 pub mod TurnLaws
-pub mod ReadLaws

@@ -1,10 +1,10 @@
 -- Packing loses nothing, and two stored constraints are one exactly when their words are.
 use mathlib.Core.Path.{◌≡◌, refl, sym, ap, ◌∙◌}
 use mathlib.Core.Bool.{Bool, true, false, ◌&&◌}
-use Prim.Native.Nat.{ℕ, zero, suc, ◌+◌, ◌*◌, ◌/◌, ◌%◌, ◌<◌, ◌≤◌}
+use Prim.Native.Nat.{ℕ, ◌+◌, ◌/◌, ◌%◌, ◌<◌}
 use native.Mathlib.Omega.{arith}
 use lib.Dec.{eqb, ltb}
-use borrow.Author.Tests.{eqb-true, eqb-false, ltb-true, eq-eqb, ne_eqb, lt-ltb, le-ltb}
+use borrow.Author.Tests.{eqb-true, eqb-false, ltb-true, ne_eqb}
 use Rattle.paper.specs.declared.Constraint.{Constraint}
 use Rattle.paper.specs.declared.Constraint.TheVariants.{Variant, Struct, ConstBool, ConstInt, ConstPrim, Some}
 use Rattle.std.specs.Prelude.{if◌then◌else◌}
@@ -100,45 +100,9 @@ narrow_same Some h = refl
 
 -- ---- what words are read as, test by test
 module _ (a b c : ℕ) where
-  pub as_int : a / 65536 ≡ 3 → ConstInt (a % 65536) b c ≡ narrow (unpack a b c)
-  unfolding unpack
-  as_int k = rw k
-
   pub as_other : (a / 65536 ≡ 3 → ⊥) → (c ≡ 0 → ⊥) → unpack a b c ≡ Variant a b c
   unfolding unpack
   as_other k z = simp (ne_eqb _ _ k, ne_eqb _ _ z, and_false)
-
-  pub as_struct : c ≡ 0 → a / 65536 ≡ 1 → Struct (a % 65536) (b % 256) ≡ narrow (unpack a b c)
-  unfolding unpack
-  as_struct z k = rw (z, k)
-
-  pub as_bool : c ≡ 0 → a / 65536 ≡ 2 → b < 2 → ConstBool (a % 65536) (eqb b 1) ≡ narrow (unpack a b c)
-  unfolding unpack
-  as_bool z k l = rw (z, k, lt-ltb b 2 l)
-
-  pub as_not_bool : c ≡ 0 → a / 65536 ≡ 2 → 2 ≤ b → unpack a b c ≡ Variant a b c
-  unfolding unpack
-  as_not_bool z k l = rw (z, k, le-ltb b 2 l)
-
-  pub as_not_prim : (a / 65536 ≡ 3 → ⊥) → (a / 65536 ≡ 1 → ⊥) → (a / 65536 ≡ 2 → ⊥) → (b ≡ 0 → ⊥) → unpack a b c ≡ Variant a b c
-  unfolding unpack
-  as_not_prim k l m z = simp (ne_eqb _ _ k, ne_eqb _ _ l, ne_eqb _ _ m, ne_eqb _ _ z, and_false)
-
-  pub as_prim : c ≡ 0 → b ≡ 0 → a / 65536 ≡ 4 → ConstPrim (a % 65536) ≡ narrow (unpack a b c)
-  unfolding unpack
-  as_prim z y k = rw (z, y, k)
-
-  pub as_no_kind : (a / 65536 ≡ 3 → ⊥) → (a / 65536 ≡ 1 → ⊥) → (a / 65536 ≡ 2 → ⊥) → (a / 65536 ≡ 4 → ⊥) → (a / 65536 ≡ 5 → ⊥) → unpack a b c ≡ Variant a b c
-  unfolding unpack
-  as_no_kind k l m n o = simp (ne_eqb _ _ k, ne_eqb _ _ l, ne_eqb _ _ m, ne_eqb _ _ n, ne_eqb _ _ o)
-
-  pub as_not_some : a / 65536 ≡ 5 → (a % 65536 ≡ 0 → ⊥) → unpack a b c ≡ Variant a b c
-  unfolding unpack
-  as_not_some k z = rw (k, ne_eqb (a % 65536) 0 z)
-
-  pub as_some : c ≡ 0 → b ≡ 0 → a / 65536 ≡ 5 → a % 65536 ≡ 0 → Some ≡ narrow (unpack a b c)
-  unfolding unpack
-  as_some z y k o = rw (z, y, k, o)
 
 -- ---- two constraints are one exactly when their words are
 

@@ -1,19 +1,14 @@
 -- What is written is read back, and the other rules stay.
-use mathlib.Core.Path.{◌≡◌, refl, sym, ap, ◌∙◌}
-use mathlib.Core.Bool.{Bool, true, false, ◌&&◌}
-use mathlib.Core.List.{List, [], ◌∷◌}
-use Prim.Native.Nat.{ℕ, zero, suc, ◌+◌, ◌*◌, ◌%◌, ◌≤◌, ◌<◌, min}
+use mathlib.Core.Path.{◌≡◌, refl, ap, ◌∙◌}
+use mathlib.Core.Bool.{Bool, true, false}
+use mathlib.Core.List.{List}
+use Prim.Native.Nat.{ℕ, zero, suc, ◌+◌, ◌*◌, ◌%◌, ◌≤◌, ◌<◌}
 use native.Mathlib.Omega.{arith}
 use native.Mathlib.Decide.{ℕ_discrete, dec_lt}
-use native.Mathlib.Numerals.{add-one}
 use lib.ListN.{length, get_or, set, length-set}
 use lib.Seq.{get_or-set_same, get_or-set_other}
-use lib.Dec.{leb}
-use borrow.Author.Tests.{le-leb, lt-leb, leb-true}
-use Rattle.paper.specs.declared.Constraint.{Constraint}
-use Rattle.std.specs.Prelude.{if◌then◌else◌}
+use borrow.Author.Tests.{leb-true}
 use Rattle.paper.specs.Numbers.{max_constrained, max_equal}
-use Rattle.paper.specs.Loading.{Kept}
 use Rattle.paper.specs.Rules.{rank}
 use Rattle.paper.proofs.Lists.{and_both}
 use Rattle.rule_words.specs.Packing.{unpack}

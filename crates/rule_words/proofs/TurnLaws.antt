@@ -1,45 +1,25 @@
 -- Writing, store by store and turn by turn.
-use mathlib.Core.Path.{◌≡◌, refl, sym, ap, ◌∙◌}
-use mathlib.Core.Bool.{Bool, true, false, ◌&&◌}
+use mathlib.Core.Path.{◌≡◌, sym, ◌∙◌}
+use mathlib.Core.Bool.{true, false}
 use mathlib.Core.List.{List}
-use Prim.Native.Nat.{ℕ, zero, suc, ◌+◌, ◌*◌, ◌≤◌, ◌<◌}
+use Prim.Native.Nat.{ℕ, ◌+◌, ◌*◌, ◌≤◌, ◌<◌}
 use native.Mathlib.Omega.{arith}
 use native.Mathlib.Numerals.{add-one}
-use lib.ListN.{length, get_or, set}
+use lib.ListN.{length, get_or}
 use lib.Dec.{leb}
 use borrow.Author.Tests.{le-leb, lt-leb}
-use Rattle.std.specs.Prelude.{if◌then◌else◌}
 use Rattle.paper.specs.Numbers.{max_constrained, max_equal}
 use Rattle.paper.specs.Rules.{rank}
 use Rattle.paper.proofs.Lists.{and_false}
 use Rattle.rule_words.specs.Stored.{constrained_word, equal_word, stride, base, put_two, put_four, put_constrained, put_equal, put_rule, fits_in, written}
 
-pub two_put : (ws v w : List ℕ) (p a b : ℕ) → v ≡ set ws p a → w ≡ set v (p + 1) b → w ≡ put_two ws p a b
-unfolding put_two
-two_put ws v w p a b e f = f ∙ rw e
-
-pub four_put : (ws v w x y : List ℕ) (p a b c d : ℕ) → v ≡ set ws p a → w ≡ set v (p + 1) b → x ≡ set w (p + 2) c → y ≡ set x (p + 3) d → y ≡ put_four ws p a b c d
-unfolding put_four
-four_put ws v w x y p a b c d e f g h = h ∙ rw (g, f, e)
-
-pub constrained_none : (ws : List ℕ) (b : ℕ) (ss sh : List ℕ) → ws ≡ put_constrained ws b ss sh 0
-unfolding put_constrained
-constrained_none ws b ss sh = refl
-
 pub constrained_turn : (ws v w : List ℕ) (b k : ℕ) (ss sh : List ℕ) (s x y z p : ℕ) → v ≡ put_constrained ws b ss sh k → s ≡ get_or ss k 0 → x ≡ get_or sh (3 * k) 0 → y ≡ get_or sh (3 * k + 1) 0 → z ≡ get_or sh (3 * k + 2) 0 → p ≡ constrained_word b k → w ≡ put_four v p s x y z → w ≡ put_constrained ws b ss sh (k + 1)
 unfolding put_constrained
 constrained_turn ws v w b k ss sh s x y z p e f g h i l j = j ∙ rw (add-one, l, e, f, g, h, i)
 
-pub equal_none : (ws : List ℕ) (b : ℕ) (es lo : List ℕ) → ws ≡ put_equal ws b es lo 0
-unfolding put_equal
-equal_none ws b es lo = refl
-
 pub equal_turn : (ws v w : List ℕ) (b k : ℕ) (es lo : List ℕ) (s l p : ℕ) → v ≡ put_equal ws b es lo k → s ≡ get_or es k 0 → l ≡ get_or lo k 0 → p ≡ equal_word b k → w ≡ put_two v p s l → w ≡ put_equal ws b es lo (k + 1)
 unfolding put_equal
 equal_turn ws v w b k es lo s l p e f g i h = h ∙ rw (add-one, i, e, f, g)
-
-pub upto : (f : ℕ → List ℕ) (w : List ℕ) (k n : ℕ) → k ≤ n → n ≤ k → w ≡ f k → w ≡ f n
-upto f w k n h l e = let z : k ≡ n = omega arith in e ∙ ap f z
 
 -- ---- the whole
 
@@ -52,7 +32,7 @@ unfolding written put_rule
 whole_of ws i p q ss sh es lo e = rw e
 
 module _ (ws : List ℕ) (i p q : ℕ) (ss sh es lo : List ℕ) where
-  abbrev Refused : Type 0
+  abbrev pub Refused : Type 0
   Refused = (false ≡ fits_in ws i ss es) × (ws ≡ written ws i p q ss sh es lo)
 
   refused : fits_in ws i ss es ≡ false → Refused

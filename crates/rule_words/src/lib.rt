@@ -9,7 +9,6 @@ ghost use Rattle.rule_words.specs.Packing.{head, second, third, unpack, narrow};
 ghost use Rattle.rule_words.specs.Stored.{constrained_word, equal_word, count_at, constrained_count, equal_count, rank_at, place_at, constrained_at, equal_at, base, put_two, put_four, put_constrained, put_equal, fits_in, written};
 
 use paper::{CONSTRAINED, Constraint, EQUALS};
-use widths::{size64, word8, word16};
 
 // The words of a kept rule, from its first on: place, rank of the priority, how many constrained and how many equal sites; then the constrained sites,
 // then the equal sites.
@@ -60,16 +59,17 @@ pub fn pack(c: Constraint) -> Packed
             ty,
             variant,
             fields,
-        } => three_words(word16(ty), word16(variant), word8(fields)),
-        Constraint::Struct { ty, fields } => three_words(65536 + word16(ty), word8(fields), 0),
+        } => three_words(u64::from(ty), u64::from(variant), u64::from(fields)),
+        Constraint::Struct { ty, fields } => three_words(
+            65536 + u64::from(ty),
+            u64::from(fields),
+            0,
+        ),
         Constraint::ConstBool { ty, val } => {
-            if val {
-                return three_words(131072 + word16(ty), 1, 0);
-            }
-            three_words(131072 + word16(ty), 0, 0)
+            three_words(131072 + u64::from(ty), u64::from(val), 0)
         }
-        Constraint::ConstInt { ty, high, low } => three_words(196608 + word16(ty), high, low),
-        Constraint::ConstPrim { val } => three_words(262144 + word16(val), 0, 0),
+        Constraint::ConstInt { ty, high, low } => three_words(196608 + u64::from(ty), high, low),
+        Constraint::ConstPrim { val } => three_words(262144 + u64::from(val), 0, 0),
         Constraint::Some => three_words(327680, 0, 0),
     }
 }
@@ -85,88 +85,54 @@ fn variant(a: u64, b: u64, c: u64) -> Constraint
 }
 
 // The constraint of three words; each number is cut to its width, which changes nothing where the words were packed.
+#[tactic(auto, unfolding(crate::specs::Packing::unpack))]
 pub fn unpack(a: u64, b: u64, c: u64) -> Constraint
     ensures { result ≡ narrow (unpack a b c) }
 {
-    let kind = a / 65536;
-    let low = (a % 65536) as u16;
-    if kind == 3 {
-        return Constraint::ConstInt {
-            ty: low,
+    let ty = (a % 65536) as u16;
+    match (a / 65536, b, c) {
+        (1, _, 0) => Constraint::Struct {
+            ty,
+            fields: (b % 256) as u8,
+        },
+        (2, 0 | 1, 0) => Constraint::ConstBool { ty, val: b == 1 },
+        (3, _, _) => Constraint::ConstInt {
+            ty,
             high: b,
             low: c,
-        };
+        },
+        (4, 0, 0) => Constraint::ConstPrim { val: ty },
+        (5, 0, 0) if ty == 0 => Constraint::Some,
+        _ => variant(a, b, c),
     }
-    if c != 0 {
-        return variant(a, b, c);
-    }
-    if kind == 1 {
-        return Constraint::Struct {
-            ty: low,
-            fields: (b % 256) as u8,
-        };
-    }
-    if kind == 2 {
-        if b < 2 {
-            return Constraint::ConstBool {
-                ty: low,
-                val: b == 1,
-            };
-        }
-        return variant(a, b, c);
-    }
-    if b != 0 {
-        return variant(a, b, c);
-    }
-    if kind == 4 {
-        return Constraint::ConstPrim { val: low };
-    }
-    if kind != 5 {
-        return variant(a, b, c);
-    }
-    if low != 0 {
-        return variant(a, b, c);
-    }
-    Constraint::Some
 }
 
 // The word at k; past the end there are zeros.
 pub fn word(words: &[u64], k: usize) -> u64
     ensures { result ≡ get_or words.now k 0 }
 {
-    if k < words.len() {
-        return words[k];
-    }
-    0
+    words.get(k).copied().unwrap_or(0)
 }
 
-// The word that lies off words past the first of a part of the rule at b, however far that is; past the end there are zeros.
-fn word_past(words: &[u64], b: usize, first: usize, off: usize) -> u64
-    ensures { result ≡ get_or words.now (b + first + off) 0 }
+// The first word of part k of the rule at b, where the parts start `first` words on and take `size` each, however far that is; past the end there are
+// zeros.
+fn part(words: &[u64], b: usize, first: usize, size: usize, k: usize) -> u64
+    ensures { result ≡ get_or words.now (b + first + size * k) 0 }
 {
-    let n = words.len();
-    if n <= b {
-        return 0;
-    }
-    if n - b <= first {
-        return 0;
-    }
-    if n - b - first <= off {
-        return 0;
-    }
-    words[b + first + off]
+    word(
+        words,
+        b.saturating_add(first)
+            .saturating_add(size.saturating_mul(k)),
+    )
 }
 
 // A count above its limit is the limit.
+#[tactic(auto, unfolding(crate::specs::Stored::count_at))]
 fn count(words: &[u64], b: usize, off: usize, most: usize) -> usize
     ensures value { result ≡ count_at words.now (b + off) most }
     ensures upper_bound { result ≤ most }
 {
-    let n = size64(word_past(words, b, off, 0));
-    if n < most {
-        return n;
-    }
-    most
+    (word(words, b.saturating_add(off)) as usize).min(most)
 }
 
 // How many constrained sites the rule at b has.
@@ -189,55 +155,47 @@ pub fn equals(words: &[u64], b: usize) -> usize
 pub fn rank(words: &[u64], b: usize) -> u64
     ensures { result ≡ rank_at words.now b }
 {
-    word_past(words, b, RANK, 0)
+    word(words, b.saturating_add(RANK))
 }
 
-// The constrained site k of the rule at b. Here and below, where the words are too few for k such parts they end before it.
+// The constrained site k of the rule at b.
+#[tactic(auto, unfolding(crate::specs::Stored::constrained_at))]
 pub fn site_at(words: &[u64], b: usize, k: usize) -> u64
     ensures { result ≡ (constrained_at words.now b k).0 }
 {
-    if words.len() / SITE_WORDS <= k {
-        return 0;
-    }
-    word_past(words, b, FIRST_CONSTRAINED, SITE_WORDS * k)
+    part(words, b, FIRST_CONSTRAINED, SITE_WORDS, k)
 }
 
 // Its constraint.
+#[tactic(auto, unfolding(crate::specs::Stored::constrained_at, crate::specs::Stored::constraint_at))]
 pub fn constraint_at(words: &[u64], b: usize, k: usize) -> Constraint
     ensures { result ≡ narrow (constrained_at words.now b k).1 }
 {
-    if words.len() / SITE_WORDS <= k {
-        return unpack(0, 0, 0);
-    }
-    let p = SITE_WORDS * k;
     unpack(
-        word_past(words, b, FIRST_CONSTRAINED, p + 1),
-        word_past(words, b, FIRST_CONSTRAINED, p + 2),
-        word_past(words, b, FIRST_CONSTRAINED, p + 3),
+        part(words, b, FIRST_CONSTRAINED + 1, SITE_WORDS, k),
+        part(words, b, FIRST_CONSTRAINED + 2, SITE_WORDS, k),
+        part(words, b, FIRST_CONSTRAINED + 3, SITE_WORDS, k),
     )
 }
 
 // The equal site k of the rule at b.
+#[tactic(auto, unfolding(crate::specs::Stored::equal_at))]
 pub fn equal_at(words: &[u64], b: usize, k: usize) -> u64
     ensures { result ≡ (equal_at words.now b k).0 }
 {
-    if words.len() / EQUAL_WORDS <= k {
-        return 0;
-    }
-    word_past(words, b, FIRST_EQUAL, EQUAL_WORDS * k)
+    part(words, b, FIRST_EQUAL, EQUAL_WORDS, k)
 }
 
 // The lowest member of its class.
+#[tactic(auto, unfolding(crate::specs::Stored::equal_at))]
 pub fn lowest_at(words: &[u64], b: usize, k: usize) -> u64
     ensures { result ≡ (equal_at words.now b k).1 }
 {
-    if words.len() / EQUAL_WORDS <= k {
-        return 0;
-    }
-    word_past(words, b, FIRST_EQUAL, EQUAL_WORDS * k + 1)
+    part(words, b, FIRST_EQUAL + 1, EQUAL_WORDS, k)
 }
 
 // Where the words of rule i start.
+#[tactic(auto, unfolding(crate::specs::Stored::base))]
 pub fn start(i: u32) -> usize
     ensures value { result ≡ base i }
     ensures result_bound { result + 1000000 < 18446744073709551616 }
@@ -246,6 +204,7 @@ pub fn start(i: u32) -> usize
 }
 
 // The place of the rule whose words start at b.
+#[tactic(auto, unfolding(crate::specs::Stored::place_at))]
 pub fn place(words: &[u64], b: usize) -> u32
     ensures { result ≡ place_at words.now b }
 {
@@ -253,13 +212,11 @@ pub fn place(words: &[u64], b: usize) -> u32
 }
 
 // The priority as an unsigned number that keeps the order.
+#[tactic(auto, unfolding(paper::specs::Rules::rank))]
 pub fn ranked(priority: u64) -> u64
     ensures { result ≡ rank priority }
 {
-    if priority < 9223372036854775808 {
-        return priority + 9223372036854775808;
-    }
-    priority - 9223372036854775808
+    priority.wrapping_add(9223372036854775808)
 }
 
 // Stores v at k; past the end there is nothing to store it in.
@@ -271,6 +228,9 @@ fn put(words: &mut [u64], k: usize, v: u64)
     }
 }
 
+// The words of an equal site, and below those of a constrained one: a line for each word, as the definitions `put_two` and `put_four` have it; a loop
+// over an array of them would be no plainer.
+#[tactic(auto, unfolding(crate::specs::Stored::put_two))]
 fn put_two(words: &mut [u64], p: usize, a: u64, b: u64)
     requires { p + 1000 < 18446744073709551616 }
     ensures { words.new ≡ put_two words.old p a b }
@@ -279,6 +239,7 @@ fn put_two(words: &mut [u64], p: usize, a: u64, b: u64)
     put(words, p + 1, b);
 }
 
+#[tactic(auto, unfolding(crate::specs::Stored::put_four))]
 fn put_four(words: &mut [u64], p: usize, a: u64, b: u64, c: u64, d: u64)
     requires { p + 1000 < 18446744073709551616 }
     ensures { words.new ≡ put_four words.old p a b c d }
@@ -293,14 +254,11 @@ fn put_four(words: &mut [u64], p: usize, a: u64, b: u64, c: u64, d: u64)
 fn site(sites: &[u16], k: usize) -> u64
     ensures { result ≡ get_or sites.now k 0 }
 {
-    if k < sites.len() {
-        return word16(sites[k]);
-    }
-    0
+    sites.get(k).copied().map_or(0, u64::from)
 }
 
 // Where the words of the constrained site k of the rule at b start.
-fn constrained_start(b: usize, k: usize) -> usize
+pub fn constrained_start(b: usize, k: usize) -> usize
     requires { (b + 1000000 < 18446744073709551616) × (k ≤ max_constrained) }
     ensures { (result ≡ constrained_word b k) × (result + 1000 < 18446744073709551616) }
 {
@@ -320,14 +278,12 @@ fn put_constrained(words: &mut [u64], b: usize, sites: &[u16], shapes: &[u64], n
     requires { (b + 1000000 < 18446744073709551616) × (n ≤ max_constrained) }
     ensures { words.new ≡ put_constrained words.old b sites.now shapes.now n }
 {
-    let mut k: usize = 0;
-    while k < n {
+    for k in 0..n {
         let s = site(sites, k);
         let one = word(shapes, 3 * k);
         let two = word(shapes, 3 * k + 1);
         let three = word(shapes, 3 * k + 2);
         put_four(words, constrained_start(b, k), s, one, two, three);
-        k += 1;
     }
 }
 
@@ -336,12 +292,10 @@ fn put_equal(words: &mut [u64], b: usize, equal: &[u16], low: &[u16], n: usize)
     requires { (b + 1000000 < 18446744073709551616) × (n ≤ max_equal) }
     ensures { words.new ≡ put_equal words.old b equal.now low.now n }
 {
-    let mut k: usize = 0;
-    while k < n {
+    for k in 0..n {
         let s = site(equal, k);
         let l = site(low, k);
         put_two(words, equal_start(b, k), s, l);
-        k += 1;
     }
 }
 
@@ -363,19 +317,18 @@ pub fn write(
 {
     let n = sites.len();
     let m = equal.len();
-    if n > CONSTRAINED {
-        return false;
-    }
-    if m > EQUALS {
-        return false;
-    }
     let b = start(i);
-    if b + STRIDE > words.len() {
+    if n > CONSTRAINED || m > EQUALS || b + STRIDE > words.len() {
         return false;
     }
-    let p = place as u64;
-    let q = ranked(priority);
-    put_four(words, b, p, q, n as u64, m as u64);
+    put_four(
+        words,
+        b,
+        u64::from(place),
+        ranked(priority),
+        n as u64,
+        m as u64,
+    );
     put_constrained(words, b, sites, shapes, n);
     put_equal(words, b, equal, low, m);
     true

@@ -1,2 +1,0 @@
-use borrow.Author.Rules.{rules}
-use Rattle.rule_words.proofs.pack.Goals as goal
