@@ -8,13 +8,12 @@ use classes::{Untaken, Trail};
 use paper::{Overlap, Refusal};
 use report::Unreported;
 use sites::Numbered;
-use widths::{word16, word32};
 
 fn trail_said(t: Trail) -> Said
     ensures { result ≡ looked_said (Ok t) }
 {
     let f = t.found;
-    done(found_word(f), word16(t.links))
+    done(found_word(f), u64::from(t.links))
 }
 
 pub fn looked_said(l: Result<Trail, Refusal>) -> Said
@@ -71,8 +70,8 @@ pub fn numbered_said(n: Result<Numbered, Refusal>) -> Said
     ensures { result ≡ numbered_said n }
 {
     match n {
-        Ok(Numbered::Known(i)) => done(word16(i), 0),
-        Ok(Numbered::Fresh(i)) => done(word16(i), 1),
+        Ok(Numbered::Known(i)) => done(u64::from(i), 0),
+        Ok(Numbered::Fresh(i)) => done(u64::from(i), 1),
         Err(r) => refused(r),
     }
 }
@@ -109,7 +108,7 @@ pub fn reported_said(r: Result<u32, Unreported>) -> Said
     ensures { result ≡ reported_said r }
 {
     match r {
-        Ok(n) => done(word32(n), 0),
+        Ok(n) => done(u64::from(n), 0),
         Err(Unreported::TooManyRules(n)) => refused(Refusal::TooManyRules { asked: n }),
         Err(Unreported::NoRoom) => crowded(),
     }
@@ -119,7 +118,7 @@ pub fn loaded_said(l: Result<u16, Refusal>) -> Said
     ensures { result ≡ loaded_said l }
 {
     match l {
-        Ok(n) => done(word16(n), 0),
+        Ok(n) => done(u64::from(n), 0),
         Err(r) => refused(r),
     }
 }

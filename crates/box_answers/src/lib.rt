@@ -8,7 +8,6 @@ ghost use Rattle.box_answers.specs.Border.{short, answer_words, said, has_room, 
 ghost use Rattle.box_answers.specs.Telling.{one_told, two_told};
 
 use paper::Refusal;
-use widths::{word16, word32};
 
 pub mod calls;
 
@@ -34,24 +33,24 @@ fn told_one(r: Refusal) -> u64
     ensures { result ≡ one_told r }
 {
     match r {
-        Refusal::Layout { line } => word32(line),
-        Refusal::Unknown { site } => word16(site),
-        Refusal::Itself { site } => word16(site),
-        Refusal::Unreachable { site, other: _ } => word16(site),
-        Refusal::Hanging { site } => word16(site),
-        Refusal::Endless { site } => word16(site),
-        Refusal::TooManySites { asked, at: _ } => word32(asked),
-        Refusal::TooManySources { asked, at: _ } => word32(asked),
-        Refusal::TooManyFields { asked, at: _ } => word32(asked),
-        Refusal::TooManyRules { asked } => word32(asked),
-        Refusal::TooManyItems { asked } => word32(asked),
-        Refusal::TooManyConstrained { asked } => word32(asked),
-        Refusal::TooManyEqual { asked } => word32(asked),
-        Refusal::TooManySets { asked } => word32(asked),
-        Refusal::TermTooHigh { asked } => word32(asked),
-        Refusal::UnfoldingTooLong { asked } => word32(asked),
-        Refusal::PlaceUsed { place } => word32(place),
-        Refusal::Repeated { line } => word32(line),
+        Refusal::Layout { line } => u64::from(line),
+        Refusal::Unknown { site } => u64::from(site),
+        Refusal::Itself { site } => u64::from(site),
+        Refusal::Unreachable { site, other: _ } => u64::from(site),
+        Refusal::Hanging { site } => u64::from(site),
+        Refusal::Endless { site } => u64::from(site),
+        Refusal::TooManySites { asked, at: _ } => u64::from(asked),
+        Refusal::TooManySources { asked, at: _ } => u64::from(asked),
+        Refusal::TooManyFields { asked, at: _ } => u64::from(asked),
+        Refusal::TooManyRules { asked } => u64::from(asked),
+        Refusal::TooManyItems { asked } => u64::from(asked),
+        Refusal::TooManyConstrained { asked } => u64::from(asked),
+        Refusal::TooManyEqual { asked } => u64::from(asked),
+        Refusal::TooManySets { asked } => u64::from(asked),
+        Refusal::TermTooHigh { asked } => u64::from(asked),
+        Refusal::UnfoldingTooLong { asked } => u64::from(asked),
+        Refusal::PlaceUsed { place } => u64::from(place),
+        Refusal::Repeated { line } => u64::from(line),
     }
 }
 
@@ -63,12 +62,12 @@ fn told_two(r: Refusal) -> u64
         Refusal::Layout { line: _ } => 0,
         Refusal::Unknown { site: _ } => 0,
         Refusal::Itself { site: _ } => 0,
-        Refusal::Unreachable { site: _, other } => word16(other),
+        Refusal::Unreachable { site: _, other } => u64::from(other),
         Refusal::Hanging { site: _ } => 0,
         Refusal::Endless { site: _ } => 0,
-        Refusal::TooManySites { asked: _, at } => word32(at),
-        Refusal::TooManySources { asked: _, at } => word32(at),
-        Refusal::TooManyFields { asked: _, at } => word32(at),
+        Refusal::TooManySites { asked: _, at } => u64::from(at),
+        Refusal::TooManySources { asked: _, at } => u64::from(at),
+        Refusal::TooManyFields { asked: _, at } => u64::from(at),
         Refusal::TooManyRules { asked: _ } => 0,
         Refusal::TooManyItems { asked: _ } => 0,
         Refusal::TooManyConstrained { asked: _ } => 0,
@@ -130,7 +129,7 @@ pub fn found_word(f: Option<u16>) -> u64
     ensures { result ≡ found_word f }
 {
     match f {
-        Some(s) => word16(s),
+        Some(s) => u64::from(s),
         None => NONE,
     }
 }

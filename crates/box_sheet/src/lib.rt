@@ -20,7 +20,6 @@ use sheet_read::{Unchecked, KEPT_ROOM, SITES_ROOM};
 use sheet_reader::STEP_ROOM;
 use sheet_state::{keeps, put_state, state_in};
 use term_table::WORDS;
-use widths::word_of_size;
 
 // Whether the memory is enough for any set.
 fn lends(slots: &[u8], words: &[u64], items: &[u64]) -> bool
@@ -49,7 +48,7 @@ fn ended_said(r: Option<usize>) -> Said
     ensures { result ≡ ended_said r }
 {
     match r {
-        Some(n) => done(word_of_size(n), 0),
+        Some(n) => done(n as u64, 0),
         None => crowded(),
     }
 }
@@ -58,7 +57,7 @@ fn checked_said(c: Result<usize, Unchecked>) -> Said
     ensures { result ≡ checked_said c }
 {
     match c {
-        Ok(n) => done(word_of_size(n), 0),
+        Ok(n) => done(n as u64, 0),
         Err(Unchecked::NoRoom) => crowded(),
         Err(Unchecked::NoMemory) => Said {
             number: SHORT,
@@ -136,7 +135,7 @@ pub fn feed_piece(
     let next = f.state;
     put_state(state, held, next);
     let read = counted(next.stopped, f.read, piece.len());
-    say(answer, done(word_of_size(read), word_of_size(f.to)))
+    say(answer, done(read as u64, f.to as u64))
 }
 
 // The sheet ends here: how many bytes of findings stand first in the room.

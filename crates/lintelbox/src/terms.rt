@@ -7,7 +7,6 @@ use box_answers::calls::added_said;
 use box_answers::{ANSWER, SHORT, done, say};
 use paper::TERMS;
 use term_table::WORDS;
-use widths::word16;
 
 // No edges, and no term with rec.
 #[unsafe(no_mangle)]
@@ -89,5 +88,5 @@ pub extern "C" fn lintel_cyclic_terms(
     let l = term_table::findings(table, recs);
     let all = l.terms;
     put_terms(found, &all);
-    say(answer, done(word16(l.count), 0))
+    say(answer, done(u64::from(l.count), 0))
 }

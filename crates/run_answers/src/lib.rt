@@ -18,7 +18,6 @@ use sheet_lines::{line_end, part};
 use sheet_reader::{Event, OpenSet, Stands};
 use tell_text::{put, put_text};
 use term_table::WORDS;
-use widths::size16;
 
 #[derive(Clone, Copy)]
 pub enum How {
@@ -367,7 +366,7 @@ fn is_stop(found: &[u8]) -> bool
 fn terms_of(terms: &[u16], n: u16) -> &[u16]
     ensures { result.now ≡ part_of terms.now 0 n }
 {
-    let k = size16(n);
+    let k = usize::from(n);
     if k <= terms.len() {
         return &terms[..k];
     }

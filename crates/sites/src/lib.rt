@@ -11,7 +11,6 @@ ghost use Rattle.sites.specs.Slots.{slot, slot_body, sites_in, Findable, added_i
 
 use paper::{Refusal, SITES, UNFOLDING};
 use site_body::{is_body, judge, many_of, off_of, word_at};
-use widths::size8;
 
 pub const SLOT: usize = site_slots::SLOT;
 
@@ -31,7 +30,7 @@ pub fn body<'a>(m: &'a [u8], i: u16) -> &'a [u8]
     if m.len() < at + SLOT {
         return &m[..0];
     }
-    let n = size8(m[at]);
+    let n = usize::from(m[at]);
     if SLOT <= n {
         return &m[..0];
     }

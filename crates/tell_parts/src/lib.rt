@@ -7,14 +7,13 @@ ghost use Rattle.tell_text.specs.Decimal.{decimal};
 ghost use Rattle.tell_parts.specs.Parts.{two_at, four_at, separator, rest, places, plural, part, filled};
 
 use tell_text::{put, put_decimal, put_text};
-use widths::word8;
 
 // Past the end of the frame bytes are 0.
 pub fn byte_at(f: &[u8], i: usize) -> u64
     ensures { (result ≡ get_or f.now i 0) × (result < 256) }
 {
     if i < f.len() {
-        return word8(f[i]);
+        return u64::from(f[i]);
     }
     0
 }

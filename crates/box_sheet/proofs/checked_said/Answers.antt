@@ -7,7 +7,7 @@ use Rattle.box_sheet.proofs.checked_said.Goals as goal
 
 pub returns-in-Ok : goal.returns-in-Ok
 unfolding checked_said
-returns-in-Ok c = done_as _ _ _ _ _ c.done.ensures c.word_of_size.ensures refl ∙ sym (ap checked_said c.in-Ok.is)
+returns-in-Ok c = done_as _ _ _ _ _ c.done.ensures refl refl ∙ sym (ap checked_said c.in-Ok.is)
 
 pub returns-in-Err-NoRoom : goal.returns-in-Err-NoRoom
 unfolding checked_said

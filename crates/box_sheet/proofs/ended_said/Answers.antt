@@ -6,7 +6,7 @@ use Rattle.box_sheet.proofs.ended_said.Goals as goal
 
 pub returns-in-Some : goal.returns-in-Some
 unfolding ended_said
-returns-in-Some c = done_as _ _ _ _ _ c.done.ensures c.word_of_size.ensures refl ∙ sym (ap ended_said c.in-Some.is)
+returns-in-Some c = done_as _ _ _ _ _ c.done.ensures refl refl ∙ sym (ap ended_said c.in-Some.is)
 
 pub returns-in-None : goal.returns-in-None
 unfolding ended_said

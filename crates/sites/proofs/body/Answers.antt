@@ -9,7 +9,7 @@ pub returns-then-m-at : goal.returns-then-m-at
 returns-then-m-at c = sym (slot_cut c.args.m.now c.args.i c.if-m-at.true)
 
 pub returns-then-n-ge-SLOT : goal.returns-then-n-ge-SLOT
-returns-then-n-ge-SLOT c = sym (slot_over c.args.m.now c.args.i (omega (arith, c.if-m-at.false)) (omega (arith, c.if-n-ge-SLOT.true, c.size8-n.ensures)))
+returns-then-n-ge-SLOT c = sym (slot_over c.args.m.now c.args.i (omega (arith, c.if-m-at.false)) (omega (arith, c.if-n-ge-SLOT.true, c.from-n.ensures)))
 
 pub returns : goal.returns
-returns c = slot_part c.args.m.now c.args.i c.size8-n.result (c.args.i * 32) refl (omega (arith, c.if-m-at.false)) c.size8-n.ensures (omega (arith, c.if-n-ge-SLOT.false))
+returns c = slot_part c.args.m.now c.args.i c.from-n.result (c.args.i * 32) refl (omega (arith, c.if-m-at.false)) c.from-n.ensures (omega (arith, c.if-n-ge-SLOT.false))

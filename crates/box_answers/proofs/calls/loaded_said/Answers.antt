@@ -6,7 +6,7 @@ use Rattle.box_answers.proofs.calls.loaded_said.Goals as goal
 
 pub returns-in-Ok : goal.returns-in-Ok
 unfolding loaded_said
-returns-in-Ok c = done_as _ _ _ _ _ c.done.ensures c.word16.ensures refl ∙ sym (ap loaded_said c.in-Ok.is)
+returns-in-Ok c = done_as _ _ _ _ _ c.done.ensures c.from.ensures refl ∙ sym (ap loaded_said c.in-Ok.is)
 
 pub returns-in-Err : goal.returns-in-Err
 unfolding loaded_said

@@ -7,11 +7,11 @@ use Rattle.box_answers.proofs.calls.numbered_said.Goals as goal
 
 pub returns-in-Ok-Known : goal.returns-in-Ok-Known
 unfolding numbered_said
-returns-in-Ok-Known c = done_as _ _ _ _ _ c.done.ensures c.word16.ensures refl ∙ sym (ap numbered_said (c.in-Ok-Known.is ∙ ap Ok c.in-Ok-Known.field-0-is))
+returns-in-Ok-Known c = done_as _ _ _ _ _ c.done.ensures c.from.ensures refl ∙ sym (ap numbered_said (c.in-Ok-Known.is ∙ ap Ok c.in-Ok-Known.field-0-is))
 
 pub returns-in-Ok-Fresh : goal.returns-in-Ok-Fresh
 unfolding numbered_said
-returns-in-Ok-Fresh c = done_as _ _ _ _ _ c.done-in-Ok-Fresh.ensures c.word16-in-Ok-Fresh.ensures refl ∙ sym (ap numbered_said (c.in-Ok-Fresh.is ∙ ap Ok c.in-Ok-Fresh.field-0-is))
+returns-in-Ok-Fresh c = done_as _ _ _ _ _ c.done-in-Ok-Fresh.ensures c.from-in-Ok-Fresh.ensures refl ∙ sym (ap numbered_said (c.in-Ok-Fresh.is ∙ ap Ok c.in-Ok-Fresh.field-0-is))
 
 pub returns-in-Err : goal.returns-in-Err
 unfolding numbered_said

@@ -8,7 +8,7 @@ use Rattle.box_answers.proofs.calls.reported_said.Goals as goal
 
 pub returns-in-Ok : goal.returns-in-Ok
 unfolding reported_said
-returns-in-Ok c = done_as _ _ _ _ _ c.done.ensures c.word32.ensures refl ∙ sym (ap reported_said c.in-Ok.is)
+returns-in-Ok c = done_as _ _ _ _ _ c.done.ensures c.from.ensures refl ∙ sym (ap reported_said c.in-Ok.is)
 
 pub returns-in-Err-TooManyRules : goal.returns-in-Err-TooManyRules
 unfolding reported_said number told

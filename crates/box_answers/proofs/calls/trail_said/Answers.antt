@@ -5,4 +5,4 @@ use Rattle.box_answers.proofs.calls.trail_said.Goals as goal
 
 pub returns : goal.returns
 unfolding looked_said
-returns c = done_as _ _ _ _ _ c.done.ensures c.found_word.ensures c.word16.ensures
+returns c = done_as _ _ _ _ _ c.done.ensures c.found_word.ensures c.from.ensures

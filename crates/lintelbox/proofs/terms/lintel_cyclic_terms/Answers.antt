@@ -20,7 +20,7 @@ pub returns-then-answer-lt-ANSWER-clause-found_after : goal.returns-then-answer-
 returns-then-answer-lt-ANSWER-clause-found_after c = stayed _ _ _ (second_no _ _ (enough _ _ c.if-found-lt-TERMS.false) (less _ _ c.if-answer-lt-ANSWER.true))
 
 pub returns-clause-result_after : goal.returns-clause-result_after
-returns-clause-result_after c = past _ _ _ _ _ (enough _ _ c.if-found-lt-TERMS.false) (via _ _ _ _ _ c.say.ensures (done_as _ _ _ _ _ c.done.ensures (c.word16.ensures ∙ ap (λ (l : Listed). l.count) c.findings-l.ensures ∙ listed_count _) refl))
+returns-clause-result_after c = past _ _ _ _ _ (enough _ _ c.if-found-lt-TERMS.false) (via _ _ _ _ _ c.say.ensures (done_as _ _ _ _ _ c.done.ensures (c.from.ensures ∙ ap (λ (l : Listed). l.count) c.findings-l.ensures ∙ listed_count _) refl))
 
 pub returns-clause-found_after : goal.returns-clause-found_after
 returns-clause-found_after c = went _ _ _ _ (both_yes _ _ (enough _ _ c.if-found-lt-TERMS.false) (enough _ _ c.if-answer-lt-ANSWER.false)) (c.put_terms.ensures ∙ ap (λ (l : Listed). l.terms ++ drop terms c.args.found.now) c.findings-l.ensures)
