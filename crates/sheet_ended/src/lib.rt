@@ -65,7 +65,8 @@ fn add_edge(t: &mut [[u64; WORDS]; TERMS], term: u16, b: &[u8])
     let Some(to) = named else {
         return;
     };
-    add(t, term, to);
+    // A term that is too high has no row, and gives no edge.
+    let _ = add(t, term, to);
 }
 
 // "An edge runs from a set's term to each term in its Extractor or Constructor sites": those of the first n sites of m.
@@ -88,7 +89,8 @@ fn rec_marks(r: [u64; WORDS], term: u16, flags: u8) -> [u64; WORDS]
         return r;
     }
     let mut out = r;
-    flag(&mut out, term);
+    // A term that is too high has no mark.
+    let _ = flag(&mut out, term);
     out
 }
 
@@ -106,7 +108,7 @@ pub fn with_set(e: EndedSets, term: u16, flags: u8, rules: u32) -> EndedSets
         return e;
     }
     let mut used = e.used;
-    flag(&mut used, term);
+    let _ = flag(&mut used, term);
     let before = e.recs;
     let recs = rec_marks(before, term, flags);
     EndedSets {
