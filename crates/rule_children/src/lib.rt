@@ -12,7 +12,6 @@ ghost use Rattle.rule_children.specs.Tail.{word_of, children_as, refused_as, sit
 
 use paper::{Constraint, FIELDS, Refusal, SITES};
 use site_body::Link;
-use widths::{size16, word8, word16};
 
 // No site: a number that no site has.
 const NONE: u16 = 65535;
@@ -70,19 +69,19 @@ pub fn arity(c: Constraint) -> usize
 fn variant_word(s: u16, v: u16, f: u8) -> u64
     ensures { Spelt (match_variant s v f) result }
 {
-    8 + 256 * (word8(f) + 256 * (word16(v) + 65536 * word16(s)))
+    8 + 256 * (u64::from(f) + 256 * (u64::from(v) + 65536 * u64::from(s)))
 }
 
 fn struct_word(s: u16, f: u8) -> u64
     ensures { Spelt (extract_struct s f) result }
 {
-    10 + 256 * (word8(f) + 256 * word16(s))
+    10 + 256 * (u64::from(f) + 256 * u64::from(s))
 }
 
 fn some_word(s: u16) -> u64
     ensures { Spelt (match_some s) result }
 {
-    12 + 256 * word16(s)
+    12 + 256 * u64::from(s)
 }
 
 // Child f of the site s under c as a word: the kind lowest, then the field, the variant and the source, as the kind has them.
@@ -165,7 +164,7 @@ pub fn word_of(m: &[u8], n: u16, tail: &[u64], x: u16) -> u64
     if x < n {
         return word_in(m, x);
     }
-    let j = size16(x - n);
+    let j = usize::from(x - n);
     if tail.len() <= j {
         return 0;
     }
@@ -254,7 +253,7 @@ fn seek_word(tail: &[u64], from: u16, to: u16, first: u64, count: usize) -> u16
 {
     let mut j = from;
     while j < to {
-        let y = size16(j);
+        let y = usize::from(j);
         if tail.len() <= y {
             return to;
         }
@@ -322,7 +321,7 @@ fn place(
 {
     let count = arity(c);
     let mut numbers = [0u16; FIELDS];
-    let mut j = size16(k);
+    let mut j = usize::from(k);
     let mut f = 0;
     while f < count {
         let old = of[f];
@@ -355,7 +354,7 @@ fn grow(m: &[u8], n: u16, tail: &mut [u64], k: u16, at: u32, s: u16, c: Constrai
         × (tail.new ≡ after_grown n tail.old k o)
         × (holds m.now n tail.new o) }
 {
-    let total = size16(n) + size16(k);
+    let total = usize::from(n) + usize::from(k);
     let seen = scan(m, n, tail, k, s, c);
     let room = left_of(total);
     let missing = seen.missing;
@@ -388,7 +387,7 @@ pub fn add_children(
         × (tail.new ≡ after_grown n tail.old k o)
         × (holds m.now n tail.new o) }
 {
-    let total = size16(n) + size16(k);
+    let total = usize::from(n) + usize::from(k);
     if tail.len() < needed(k) {
         return refuse(Refusal::TooManySites {
             asked: total as u32,
@@ -414,7 +413,7 @@ pub fn add_children(
             numbers: [0; FIELDS],
         };
     }
-    if total <= size16(s) {
+    if total <= usize::from(s) {
         return refuse(Refusal::Unknown { site: s });
     }
     grow(m, n, tail, k, at, s, c)
@@ -424,7 +423,7 @@ pub fn add_children(
 fn needed(k: u16) -> usize
     ensures { result ≡ min max_sites (k + max_fields) }
 {
-    let room = size16(k) + FIELDS;
+    let room = usize::from(k) + FIELDS;
     if SITES < room {
         return SITES;
     }

@@ -8,13 +8,12 @@ ghost use Rattle.rule_laid.specs.Laid.{GoodRow, Faults, Entry, Entries, Known};
 use paper::{FIELDS, ITEMS};
 use rule_lists::at;
 use rule_words::word;
-use widths::size16;
 
 // Is the row no row of an item, or its constraint none that the code's types hold, or one of too many fields?
 fn bad_row(words: &[u64], row: u16) -> bool
     ensures { Faults result (GoodRow words.now row) }
 {
-    let i = size16(row);
+    let i = usize::from(row);
     if ITEMS <= i {
         return true;
     }
@@ -26,16 +25,10 @@ fn bad_row(words: &[u64], row: u16) -> bool
         return true;
     }
     let w = rule_words::pack(c);
-    if w.head != a {
+    if w.head != a || w.second != b {
         return true;
     }
-    if w.second != b {
-        return true;
-    }
-    if w.third != d {
-        return true;
-    }
-    false
+    w.third != d
 }
 
 // Is constrained site i not above the one before it, or not known, or its row bad?
@@ -43,31 +36,20 @@ fn bad_entry(sites: &[u16], rows: &[u16], words: &[u64], total: usize, i: usize)
     ensures { Faults result (Entry sites.now rows.now words.now total i) }
 {
     let s = at(sites, i);
-    if total <= size16(s) {
+    if total <= usize::from(s) || bad_row(words, at(rows, i)) {
         return true;
     }
-    if bad_row(words, at(rows, i)) {
-        return true;
-    }
-    if i == 0 {
-        return false;
-    }
-    if s <= at(sites, i - 1) {
-        return true;
-    }
-    false
+    0 < i && s <= at(sites, i - 1)
 }
 
 // Is one of the first `held` constrained sites so?
 pub fn any_bad(sites: &[u16], rows: &[u16], words: &[u64], total: usize, held: usize) -> bool
     ensures { Faults result (Entries sites.now rows.now words.now total held) }
 {
-    let mut i = 0;
-    while i < held {
+    for i in 0..held {
         if bad_entry(sites, rows, words, total, i) {
             return true;
         }
-        i += 1;
     }
     false
 }
@@ -76,12 +58,5 @@ pub fn any_bad(sites: &[u16], rows: &[u16], words: &[u64], total: usize, held: u
 pub fn any_unknown(xs: &[u16], total: usize) -> bool
     ensures { Faults result (Known xs.now total (length xs.now)) }
 {
-    let mut i = 0;
-    while i < xs.len() {
-        if total <= size16(xs[i]) {
-            return true;
-        }
-        i += 1;
-    }
-    false
+    xs.iter().any(|x| total <= usize::from(*x))
 }

@@ -5,7 +5,7 @@ use Rattle.rule_children.proofs.place.Goals as goal
 use Rattle.rule_children.proofs.place.Goals.{then-old, else-old}
 
 pub loop-f-init : goal.loop-f-init
-loop-f-init c = (place_start (table c.args.m.now c.args.n c.args.tail.now c.args.k) c.args.n c.args.k c.args.s c.args.c _ c.args.tail.now c.requires _ c.size16-j.ensures, whole_start c.args.m.now c.args.n c.args.tail.now c.args.k c.args.s c.args.c _ c.size16-j.ensures)
+loop-f-init c = (place_start (table c.args.m.now c.args.n c.args.tail.now c.args.k) c.args.n c.args.k c.args.s c.args.c _ c.args.tail.now c.requires _ c.from-j.ensures, whole_start c.args.m.now c.args.n c.args.tail.now c.args.k c.args.s c.args.c _ c.from-j.ensures)
 
 pub offset_bounds-of-f : goal.offset_bounds-of-f
 offset_bounds-of-f c = omega (arith, c.arity-count.ensures.0, c.requires.few, c.loop-f-test.true)
