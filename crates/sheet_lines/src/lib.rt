@@ -64,6 +64,7 @@ pub fn hold(h: Held, s: &[u8]) -> Held
 // ---- a line cut out of a piece
 
 // s from a to b; nothing where that is not there
+#[tactic(auto, unfolding(crate::specs::Cut::part_of))]
 pub fn part(s: &[u8], a: usize, b: usize) -> &[u8]
     ensures { result.now ≡ part_of s.now a b }
 {
