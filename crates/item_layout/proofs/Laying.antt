@@ -1,13 +1,12 @@
 -- Words as laid out: the test says what the definition says, and of items that were held nothing changes.
-use mathlib.Core.Path.{◌≡◌, refl, sym, ap, ◌∙◌}
+use mathlib.Core.Path.{◌≡◌, refl, ap, ◌∙◌}
 use mathlib.Core.Bool.{Bool, true, false, ◌&&◌}
 use mathlib.Core.Logic.{◌↔◌}
 use mathlib.Core.List.{List, [], ◌∷◌}
-use Prim.Native.Nat.{ℕ, zero, suc, ◌+◌, ◌-◌, ◌*◌, ◌/◌, ◌%◌, ◌≤◌, ◌<◌}
+use Prim.Native.Nat.{ℕ, zero, suc, ◌+◌, ◌-◌, ◌/◌, ◌%◌, ◌≤◌, ◌<◌}
 use native.Mathlib.Omega.{arith}
-use lib.ListN.{get_or}
 use lib.Dec.{eqb, ltb}
-use borrow.Author.Tests.{eq-eqb, ne_eqb, eqb-true, eqb-false, lt-ltb, le-ltb, ltb-true}
+use borrow.Author.Tests.{eqb-true, eqb-false, lt-ltb, le-ltb, ltb-true}
 use Rattle.paper.specs.declared.Constraint.{Constraint}
 use Rattle.paper.specs.declared.Constraint.TheVariants.{Variant, Struct, ConstBool, ConstInt, ConstPrim, Some}
 use Rattle.paper.specs.declared.Item.{Item}
@@ -17,7 +16,7 @@ use Rattle.paper.specs.Words.{same_list}
 use Rattle.paper.proofs.Laws.{same_list_true, same_list_refl}
 use Rattle.rule_words.specs.Packing.{head, second, third, unpack, narrow, InRange}
 use Rattle.item_words.specs.Items.{Ranged, item_of}
-use Rattle.item_layout.specs.Layout.{packed, LaidOut, laid, laid_out, stray_from, stray, First, shaped, paired}
+use Rattle.item_layout.specs.Layout.{packed, LaidOut, laid, laid_out, stray_from, stray, First}
 use Rattle.rule_words.proofs.PackLaws.{unpack_pack, narrow_same}
 
 -- ---- what an item packs to is read as it, and what is read is in range
@@ -110,75 +109,6 @@ first_stray ws n = stray_is ws 0 n
 -- ---- what was held is as laid out, and is read as it was: on such words nothing changes
 pub held_laid : (i : Item) (a b c d : ℕ) → Ranged i → packed i ≡ (a ∷ b ∷ c ∷ d ∷ []) → (laid a b c d ≡ true) × (item_of a b c d ≡ i)
 held_laid i a b c d r e = (laid_true a b c d (i, r, e), read_back i a b c d r e)
-
--- ---- the code's tests
-pub other_first : (x y : ℕ) (xs ys : List ℕ) → (x ≡ y → ⊥) → false ≡ same_list (x ∷ xs) (y ∷ ys)
-unfolding same_list
-other_first x y xs ys n = rw (same_list, ne_eqb x y n)
-
-pub same_first : (x y : ℕ) (xs ys : List ℕ) (r : Bool) → x ≡ y → r ≡ same_list xs ys → r ≡ same_list (x ∷ xs) (y ∷ ys)
-unfolding same_list
-same_first x y xs ys r e p = rw (same_list, eq-eqb x y e) p
-
-pub same_last : (x y : ℕ) → eqb x y ≡ same_list (x ∷ []) (y ∷ [])
-unfolding same_list
-same_last x y = go (eqb x y)
-  where
-    go : (t : Bool) → t ≡ elim t as (λ _. Bool) [ true ↦ same_list [] [] | false ↦ false ]
-    go true = refl
-    go false = refl
-
--- the three words of a constraint k, which is what they are read as
-module _ (b c d : ℕ) (k : Constraint) (e : k ≡ narrow (unpack b c d)) (h : ℕ) (eh : h ≡ head k) where
-  pub head_other : (h ≡ b → ⊥) → false ≡ shaped b c d
-  unfolding shaped
-  head_other n = rw (← e, ← eh) (other_first h b _ _ n)
-
-  module _ (p : h ≡ b) (s : ℕ) (es : s ≡ second k) where
-    pub second_other : (s ≡ c → ⊥) → false ≡ shaped b c d
-    unfolding shaped
-    second_other n = rw (← e, ← eh, ← es) (same_first h b _ _ false p (other_first s c _ _ n))
-
-    pub third_tells : (t : ℕ) → t ≡ third k → s ≡ c → eqb t d ≡ shaped b c d
-    unfolding shaped
-    third_tells t et q = rw (← e, ← eh, ← es, ← et) (same_first h b _ _ (eqb t d) p (same_first s c _ _ (eqb t d) q (same_last t d)))
-
--- the four words of an equality
-module _ (a b c d : ℕ) where
-  pub one_other : (a ≡ 65536 + a % 65536 → ⊥) → false ≡ paired a b c d
-  unfolding paired
-  one_other n = other_first (65536 + a % 65536) a _ _ (λ e. n (sym e))
-
-  module _ (p : a ≡ 65536 + a % 65536) where
-    pub other_other : (b ≡ b % 65536 → ⊥) → false ≡ paired a b c d
-    unfolding paired
-    other_other n = same_first (65536 + a % 65536) a _ _ false (sym p) (other_first (b % 65536) b _ _ (λ e. n (sym e)))
-
-    module _ (q : b ≡ b % 65536) where
-      pub zero_other : (c ≡ 0 → ⊥) → false ≡ paired a b c d
-      unfolding paired
-      zero_other n = same_first (65536 + a % 65536) a _ _ false (sym p) (same_first (b % 65536) b _ _ false (sym q) (other_first 0 c _ _ (λ e. n (sym e))))
-
-      pub last_tells : c ≡ 0 → eqb d 0 ≡ paired a b c d
-      unfolding paired
-      last_tells z = same_first (65536 + a % 65536) a _ _ (eqb d 0) (sym p) (same_first (b % 65536) b _ _ (eqb d 0) (sym q) (same_first 0 c _ _ (eqb d 0) (sym z) (turned ∙ same_last 0 d)))
-        where
-          turned : eqb d 0 ≡ eqb 0 d
-          turned = go (eqb d 0) refl
-            where
-              go : (t : Bool) → eqb d 0 ≡ t → t ≡ eqb 0 d
-              go true e = sym (eq-eqb 0 d (sym (eqb-true d 0 e)))
-              go false e = sym (ne_eqb 0 d (λ x. eqb-false d 0 e (sym x)))
-
-pub laid_is : (ws : List ℕ) (k a b c d : ℕ) (r : Bool) → a ≡ get_or ws (4 * k) 0 → b ≡ get_or ws (4 * k + 1) 0 → c ≡ get_or ws (4 * k + 2) 0 → d ≡ get_or ws (4 * k + 3) 0 →
-    a < 65536 → r ≡ shaped b c d → r ≡ laid_out ws k
-unfolding laid_out laid item_of shaped
-laid_is ws k a b c d r ea eb ec ed h e = rw (← ea, ← eb, ← ec, ← ed, lt-ltb a 65536 h) (same_first a a _ _ r refl e)
-
-pub laid_equal : (ws : List ℕ) (k a b c d : ℕ) (r : Bool) → a ≡ get_or ws (4 * k) 0 → b ≡ get_or ws (4 * k + 1) 0 → c ≡ get_or ws (4 * k + 2) 0 → d ≡ get_or ws (4 * k + 3) 0 →
-    65536 ≤ a → r ≡ paired a b c d → r ≡ laid_out ws k
-unfolding laid_out laid item_of paired
-laid_equal ws k a b c d r ea eb ec ed h e = rw (← ea, ← eb, ← ec, ← ed, le-ltb a 65536 h) e
 
 -- ---- turns of the walk
 module _ (ws : List ℕ) (n : ℕ) where

@@ -5,47 +5,31 @@
 ghost use Rattle.std.specs.Prelude.{◌≡◌};
 ghost use Rattle.item_layout.specs.Layout.{shaped, paired, laid_out, stray};
 
-use item_words::ITEM;
+use item_words::{EQUAL, ITEM};
 use rule_words::{pack, unpack, word};
 
-// What an equality has in its first word besides its first site; a site, a type, a name or a variant is less.
-const EQUAL: u64 = 65536;
-
 // Are these the three words of a constraint? What they are read as is packed again and compared.
+#[tactic(auto, unfolding(crate::specs::Layout::shaped, paper::specs::Words::same_list))]
 fn shaped(b: u64, c: u64, d: u64) -> bool
     ensures { result ≡ shaped b c d }
 {
     let p = pack(unpack(b, c, d));
-    if p.head != b {
-        return false;
-    }
-    if p.second != c {
-        return false;
-    }
-    p.third == d
+    p.head == b && p.second == c && p.third == d
 }
 
 // Are these the four words of an equality? Its sites have two bytes each, and the last two words are zeros.
+#[tactic(auto, unfolding(crate::specs::Layout::paired, paper::specs::Words::same_list))]
 fn paired(a: u64, b: u64, c: u64, d: u64) -> bool
     ensures { result ≡ paired a b c d }
 {
-    if a != EQUAL + a % EQUAL {
-        return false;
-    }
-    if b != b % EQUAL {
-        return false;
-    }
-    if c != 0 {
-        return false;
-    }
-    d == 0
+    a == EQUAL + a % EQUAL && b < EQUAL && c == 0 && d == 0
 }
 
 // Do the words of item k stand for an item, each number within its width and nothing besides?
 pub fn laid_out(words: &[u64], k: u8) -> bool
     ensures { result ≡ laid_out words.now k }
 {
-    let at = ITEM * (k as usize);
+    let at = ITEM * usize::from(k);
     let a = word(words, at);
     let b = word(words, at + 1);
     let c = word(words, at + 2);
@@ -60,13 +44,10 @@ pub fn laid_out(words: &[u64], k: u8) -> bool
 pub fn stray(words: &[u64], many: u8) -> u8
     ensures { result ≡ stray words.now many }
 {
-    let mut k: u8 = 0;
-    while k < many {
-        let fine = laid_out(words, k);
-        if !fine {
+    for k in 0..many {
+        if !laid_out(words, k) {
             return k;
         }
-        k += 1;
     }
     many
 }

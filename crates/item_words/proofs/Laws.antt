@@ -192,32 +192,6 @@ pub rule_written : (ws : List ℕ) (p q n : ℕ) → written (rule_in ws p q n) 
 unfolding rule_in
 rule_written ws p q n = rw (held_few ws n)
 
--- ---- what the types say
-module _ (x : Constraint) (t v n : ℕ) where
-  pub in_variant : x ≡ Variant t v n → t < 65536 → v < 65536 → n < 256 → InRange x
-  in_variant e a b c = rw e (a, (b, c))
-
-  pub in_struct : x ≡ Struct t n → t < 65536 → n < 256 → InRange x
-  in_struct e a b = rw e (a, b)
-
-  pub in_int : x ≡ ConstInt t v n → t < 65536 → InRange x
-  in_int e a = rw e a
-
-  pub in_prim : x ≡ ConstPrim t → t < 65536 → InRange x
-  in_prim e a = rw e a
-
-  pub in_bool : (b : Bool) → x ≡ ConstBool t b → t < 65536 → InRange x
-  in_bool b e a = rw e a
-
-  pub in_some : x ≡ Some → InRange x
-  in_some e = rw e tt
-
-pub is_held : (ws out : List ℕ) (k at : ℕ) (i : Item) (s : ℕ) (c : Constraint) (a b d e : ℕ) → i ≡ Is s c → a ≡ s → a < 65536 → InRange c → b ≡ head c → d ≡ second c → e ≡ third c → at ≡ 4 * k → out ≡ put_words ws at a b d e → (out ≡ put_item ws k i) × Ranged i
-is_held ws out k at i s c a b d e q p h r eb ed ee z o = rw q (o ∙ rw (z, p, eb, ed, ee), (rw p at h, r))
-
-pub equal_held : (ws out : List ℕ) (k at : ℕ) (i : Item) (x y a b : ℕ) → i ≡ Equal x y → a ≡ x → a < 65536 → b ≡ y → b < 65536 → at ≡ 4 * k → out ≡ put_words ws at (65536 + a) b 0 0 → (out ≡ put_item ws k i) × Ranged i
-equal_held ws out k at i x y a b q p h r l z o = rw q (o ∙ rw (z, p, r), (rw p at h, rw r at l))
-
 -- ---- what is read is in range
 narrow_ranged : (a b c : ℕ) → InRange (narrow (unpack a b c))
 unfolding unpack

@@ -6,7 +6,7 @@ ghost use Rattle.rule_words.specs.Stored.{put_four};
 ghost use Rattle.rule_words.specs.Packing.{InRange};
 ghost use Rattle.item_words.specs.Items.{Ranged, put_words, put_item, item_at};
 
-use paper::{Constraint, ITEMS, Item};
+use paper::{ITEMS, Item};
 use rule_words::{pack, unpack, word};
 
 // Words that an item takes: its first site, and the three words of its constraint or its second site.
@@ -16,61 +16,20 @@ pub const ITEM: usize = 4;
 pub const ITEMS_ROOM: usize = ITEM * ITEMS;
 
 // What an equality has in its first word besides its first site.
-const EQUAL: u64 = 65536;
-
-fn wide(x: u16) -> u64
-    ensures { (result ≡ x) × (result < 65536) }
-{
-    x as u64
-}
-
-fn wide8(x: u8) -> u64
-    ensures { (result ≡ x) × (result < 256) }
-{
-    x as u64
-}
-
-// Does nothing: it tells what the types of a constraint's numbers say of them.
-fn range_of(c: Constraint) -> u64
-    ensures { InRange c }
-{
-    match c {
-        Constraint::Variant {
-            ty,
-            variant,
-            fields,
-        } => {
-            let v = wide(variant);
-            let f = wide8(fields);
-            wide(ty)
-        }
-        Constraint::Struct { ty, fields } => {
-            let f = wide8(fields);
-            wide(ty)
-        }
-        Constraint::ConstBool { ty, val: _ } => wide(ty),
-        Constraint::ConstInt {
-            ty,
-            high: _,
-            low: _,
-        } => wide(ty),
-        Constraint::ConstPrim { val } => wide(val),
-        Constraint::Some => 0,
-    }
-}
+pub const EQUAL: u64 = 65536;
 
 // Four words at `at`; where they are not all there, none is written.
+#[tactic(auto, unfolding(crate::specs::Items::put_words, rule_words::specs::Stored::put_four))]
 fn put(words: &mut [u64], at: usize, a: u64, b: u64, c: u64, d: u64)
     requires { at < 100000 }
     ensures { words.new ≡ put_words words.old at a b c d }
 {
-    if words.len() < at + ITEM {
-        return;
+    if at + ITEM <= words.len() {
+        words[at] = a;
+        words[at + 1] = b;
+        words[at + 2] = c;
+        words[at + 3] = d;
     }
-    words[at] = a;
-    words[at + 1] = b;
-    words[at + 2] = c;
-    words[at + 3] = d;
 }
 
 // Item k of the rule.
@@ -78,24 +37,24 @@ pub fn hold_item(words: &mut [u64], k: u8, item: Item)
     ensures words_after { words.new ≡ put_item words.old k item }
     ensures ranged { Ranged item }
 {
-    let at = ITEM * (k as usize);
+    let at = ITEM * usize::from(k);
     match item {
         Item::Is { site, constraint } => {
             let p = pack(constraint);
-            range_of(constraint);
-            put(words, at, wide(site), p.head, p.second, p.third);
+            put(words, at, u64::from(site), p.head, p.second, p.third);
         }
         Item::Equal { one, other } => {
-            put(words, at, EQUAL + wide(one), wide(other), 0, 0);
+            put(words, at, EQUAL + u64::from(one), u64::from(other), 0, 0);
         }
     }
 }
 
 // Item k as it was held.
+#[tactic(auto, unfolding(crate::specs::Items::item_at, crate::specs::Items::item_of))]
 pub fn item_at(words: &[u64], k: u8) -> Item
     ensures { result ≡ item_at words.now k }
 {
-    let at = ITEM * (k as usize);
+    let at = ITEM * usize::from(k);
     let a = word(words, at);
     if a < EQUAL {
         return Item::Is {

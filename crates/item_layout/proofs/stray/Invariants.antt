@@ -1,10 +1,7 @@
 use mathlib.Core.Path.{◌≡◌}
-use Prim.Native.Nat.{◌-◌, ◌≤◌}
+use Prim.Native.Nat.{◌-◌}
 use Rattle.item_layout.specs.Layout.{stray_from, stray}
 use Rattle.item_layout.proofs.stray.Given as goal
 
 abbrev pub invariant-loop-k : goal.invariant-loop-k
-invariant-loop-k l = (l.k ≤ l.many) × (stray_from l.words l.k (l.many - l.k) ≡ stray l.words l.many)
-
-abbrev pub decreases-loop-k : goal.decreases-loop-k
-decreases-loop-k l = l.many - l.k
+invariant-loop-k l = stray_from l.words l.k (l.many - l.k) ≡ stray l.words l.many
