@@ -44,9 +44,9 @@ module _ (e : EndedSets) (t at : ℕ) (b : Bool) (q : b ≡ has_term e.used t) w
     unfolding may_begin
     begins_many n z l = rw (← q, x, le-ltb e.sets max_sets l, z)
 
-    pub begins_high : e.sets < max_sets → max_term + 1 ≤ t → Err (TermTooHigh t) ≡ verdict_as (may_begin e t at)
+    pub begins_high : (n : ℕ) → n ≡ t → e.sets < max_sets → max_term + 1 ≤ t → Err (TermTooHigh n) ≡ verdict_as (may_begin e t at)
     unfolding may_begin
-    begins_high l h = rw (← q, x, lt-ltb e.sets max_sets l, lt-leb t max_term (omega arith))
+    begins_high n z l h = rw (← q, x, lt-ltb e.sets max_sets l, lt-leb t max_term (omega arith), z)
 
     pub begins_fine : e.sets < max_sets → t < max_term + 1 → (Ok tt) ≡ verdict_as (may_begin e t at)
     unfolding may_begin
@@ -218,30 +218,23 @@ module _ (t : Square) (e : EndedSets) (room : List ℕ) (at : ℕ) where
   unfolding said_at written_after
   no_room h = (rw (lt-leb (at + end_room) (length room) h), rw (lt-leb (at + end_room) (length room) h))
 
-  pub all_found : (l : Listed) (mid out : List ℕ) (end : ℕ) (w : Maybe ℕ) → at + end_room ≤ length room → l ≡ listed (unflagged t e.recs) → end ≡ at + 7 * l.count → mid ≡ written_at room at (terms_text (take l.count l.terms)) → w ≡ room_said mid end (hex (ended_found e.sets e.kept)) → out ≡ room_after mid end (hex (ended_found e.sets e.kept)) → (w ≡ said_at room at (found_text t e)) × (out ≡ written_after room at (found_text t e))
+  pub all_found : (l : Listed) (n : ℕ) (mid out : List ℕ) (end : ℕ) (w : Maybe ℕ) → at + end_room ≤ length room → l ≡ listed (unflagged t e.recs) → n ≡ l.count → end ≡ at + 7 * length (take n l.terms) → mid ≡ written_at room at (terms_text (take n l.terms)) → w ≡ room_said mid end (hex (ended_found e.sets e.kept)) → out ≡ room_after mid end (hex (ended_found e.sets e.kept)) → (w ≡ said_at room at (found_text t e)) × (out ≡ written_after room at (found_text t e))
   unfolding said_at written_after found_text
-  all_found l mid out end w h q z i r o =
+  all_found l n mid out end w h q k z i r o =
       let xs = unflagged t e.recs in
       let u = terms_text xs in
       let x = hex (ended_found e.sets e.kept) in
       let lx : length x ≡ 11 = end_long e.sets e.kept in
-      let c = listed_count l xs q in
       let f = few_found t e.recs in
+      let d : take n l.terms ≡ xs = rw k (listed_terms l xs q) in
       let lu : length u ≡ 7 * length xs = length_terms xs in
-      let m : mid ≡ written_at room at u = i ∙ ap (λ ts. written_at room at (terms_text ts)) (listed_terms l xs q) in
+      let m : mid ≡ written_at room at u = i ∙ ap (λ ts. written_at room at (terms_text ts)) d in
       let lm : length mid ≡ length room = ap length m ∙ written_length room at u (omega arith) in
-      let y : end ≡ at + length u = omega arith in
+      let y : end ≡ at + length u = omega (arith, ap length d) in
       let s : w ≡ Some (end + length x) = said_to mid end x w r (omega arith) in
       let v : out ≡ written_at mid end x = after_is mid out end x o (omega arith) in
-      let n : end + length x ≡ at + length (u ++ x) = rw (length-append u x) (omega arith) in
-      (rw (le-leb (at + end_room) (length room) h) (s ∙ ap Some n), rw (le-leb (at + end_room) (length room) h) (v ∙ (rw (m, y) (written_then room at u x (omega arith)))))
+      let b : end + length x ≡ at + length (u ++ x) = rw (length-append u x) (omega arith) in
+      (rw (le-leb (at + end_room) (length room) h) (s ∙ ap Some b), rw (le-leb (at + end_room) (length room) h) (v ∙ (rw (m, y) (written_then room at u x (omega arith)))))
 
-pub listing_done : (ts m : List ℕ) (at k n e : ℕ) (out : List ℕ) → k ≤ n → n ≤ k → Listing ts m at k e out → (e ≡ at + 7 * n) × (out ≡ written_at m at (terms_text (take n ts)))
-listing_done ts m at k n e out l h L = let z : k ≡ n = omega arith in let a = L.ends in (omega arith, L.into ∙ rw z)
-
-pub terms_fit : (l : Listed) (t : Square) (r : List ℕ) (room at : ℕ) → l ≡ listed (unflagged t r) → at + end_room ≤ room → (l.count ≤ length l.terms) × (at + 7 * l.count ≤ room)
-terms_fit l t r room at e h =
-    let c = listed_count l _ e in
-    let f = few_found t r in
-    let g = listed_long l _ e in
-    (omega arith, omega arith)
+pub terms_fit : (l : Listed) (t : Square) (r : List ℕ) → l ≡ listed (unflagged t r) → l.count ≤ terms
+terms_fit l t r e = let c = listed_count l _ e in let f = few_found t r in omega arith

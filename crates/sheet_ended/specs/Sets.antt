@@ -1,6 +1,7 @@
 -- The sets that were ended, as the code holds them, and what is asked of them.
 use Rattle.std.specs.declared.result.Result.TheVariants.{Err, Ok}
 use Rattle.std.specs.declared.option.Option.TheVariants.{None, Some}
+use Rattle.std.specs.Option.{unwrap_or}
 use Rattle.std.specs.Prelude.{Bool, ◌&&◌, not, List, ◌++◌, map, ℕ, suc, ◌+◌, ◌*◌, ◌/◌, length, eqb, ltb, leb}
 use Rattle.paper.specs.Answered.{Verdict}
 use Rattle.paper.specs.declared.Refusal.TheVariants.{Repeated, TooManySets, TermTooHigh}
@@ -58,8 +59,7 @@ unfoldable pub terms_text : List ℕ → List ℕ
 terms_text ts = joined (map (λ t. hex (term_found t)) ts)
 
 abbrev pub to_or : Maybe ℕ → ℕ → ℕ
-to_or (Some e) at = e
-to_or None at = at
+to_or w at = unwrap_or w at
 
 abbrev pub end_room : ℕ
 end_room = 7 * (max_term + 1) + 11

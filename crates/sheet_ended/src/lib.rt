@@ -41,18 +41,18 @@ pub fn no_sets() -> EndedSets
 pub fn may_begin(e: EndedSets, term: u16, line: u32) -> Result<(), Refusal>
     ensures { result ≡ verdict_as (may_begin e term line) }
 {
-    let used = e.used;
-    if has_term(&used, term) {
-        return Err(Refusal::Repeated { line: line });
+    if has_term(&e.used, term) {
+        return Err(Refusal::Repeated { line });
     }
-    let sets = e.sets;
-    if SETS <= sets as usize {
+    if SETS <= usize::from(e.sets) {
         return Err(Refusal::TooManySets {
-            asked: sets as u32 + 1,
+            asked: u32::from(e.sets) + 1,
         });
     }
-    if TERMS <= term as usize {
-        return Err(Refusal::TermTooHigh { asked: term as u32 });
+    if TERMS <= usize::from(term) {
+        return Err(Refusal::TermTooHigh {
+            asked: u32::from(term),
+        });
     }
     Ok(())
 }
@@ -61,61 +61,47 @@ pub fn may_begin(e: EndedSets, term: u16, line: u32) -> Result<(), Refusal>
 fn add_edge(t: &mut [[u64; WORDS]; TERMS], term: u16, b: &[u8])
     ensures { t.new ≡ with_edges t.old (edge_from term (site_of b.now)) }
 {
-    let named = site_body::term(b);
-    let Some(to) = named else {
-        return;
-    };
-    // A term that is too high has no row, and gives no edge.
-    let _ = add(t, term, to);
+    if let Some(to) = site_body::term(b) {
+        // A term that is too high has no row, and gives no edge.
+        let _ = add(t, term, to);
+    }
 }
 
 // "An edge runs from a set's term to each term in its Extractor or Constructor sites": those of the first n sites of m.
 pub fn add_edges(t: &mut [[u64; WORDS]; TERMS], term: u16, m: &[u8], n: u16)
     ensures { t.new ≡ with_edges t.old (edges_from term (sites_in m.now n)) }
 {
-    let mut i: u16 = 0;
-    while i < n {
-        let b = sites::body(m, i);
-        add_edge(t, term, b);
-        i += 1;
+    for i in 0..n {
+        add_edge(t, term, sites::body(m, i));
     }
 }
 
 // The marks of the terms that have rec, with this one if its flags say so.
-fn rec_marks(r: [u64; WORDS], term: u16, flags: u8) -> [u64; WORDS]
+fn rec_marks(mut r: [u64; WORDS], term: u16, flags: u8) -> [u64; WORDS]
     ensures { result ≡ recs_with r term flags }
 {
     if flags / 2 != 1 {
         return r;
     }
-    let mut out = r;
     // A term that is too high has no mark.
-    let _ = flag(&mut out, term);
-    out
+    let _ = flag(&mut r, term);
+    r
 }
 
 // One set more, of this term with these flags and so many kept rules. What passes the numbers of a sheet is not counted.
 pub fn with_set(e: EndedSets, term: u16, flags: u8, rules: u32) -> EndedSets
     ensures { result ≡ with_set e term flags rules }
 {
-    if SETS <= e.sets as usize {
-        return e;
-    }
-    if RULES < rules as usize {
-        return e;
-    }
-    if SETS * RULES < e.kept as usize {
+    if SETS <= usize::from(e.sets) || RULES < rules as usize || SETS * RULES < usize::from(e.kept) {
         return e;
     }
     let mut used = e.used;
     let _ = flag(&mut used, term);
-    let before = e.recs;
-    let recs = rec_marks(before, term, flags);
     EndedSets {
         sets: e.sets + 1,
         kept: e.kept + rules as u16,
-        used: used,
-        recs: recs,
+        used,
+        recs: rec_marks(e.recs, term, flags),
     }
 }
 
@@ -123,42 +109,35 @@ pub fn with_set(e: EndedSets, term: u16, flags: u8, rules: u32) -> EndedSets
 pub fn to_or(w: Option<usize>, at: usize) -> usize
     ensures { result ≡ to_or w at }
 {
-    match w {
-        Some(e) => e,
-        None => at,
-    }
+    w.unwrap_or(at)
 }
 
 // "14 term", one after the other.
-fn write_terms(terms: &[u16], n: usize, room: &mut [u8], at: usize) -> usize
-    requires { (n ≤ length terms.now) × (at + 7 * n ≤ length room.old) }
-    ensures { (result ≡ at + 7 * n) × (room.new ≡ written_at room.old at (terms_text (take n terms.now))) }
+fn write_terms(terms: &[u16], room: &mut [u8], at: usize) -> usize
+    requires { at + 7 * length terms.now ≤ length room.old }
+    ensures { (result ≡ at + 7 * length terms.now) × (room.new ≡ written_at room.old at (terms_text terms.now)) }
 {
-    let mut k = 0;
-    let mut e = at;
-    while k < n {
-        let w = write_term(terms[k], room, e);
-        e = to_or(w, e);
-        k += 1;
+    let mut end = at;
+    for term in terms {
+        end = write_term(*term, room, end).unwrap_or(end);
     }
-    e
+    end
 }
 
 // "at the end the 14s ascending, then 15", from `at` on; less room than END_ROOM is left as it was.
-pub fn write_found(t: &[[u64; WORDS]; TERMS], e: EndedSets, room: &mut [u8], at: usize) -> Option<usize>
+pub fn write_found(
+    t: &[[u64; WORDS]; TERMS],
+    e: EndedSets,
+    room: &mut [u8],
+    at: usize,
+) -> Option<usize>
     ensures value { result ≡ said_at room.old at (found_text t.now e) }
     ensures room_after { room.new ≡ written_after room.old at (found_text t.now e) }
 {
-    if room.len() < END_ROOM {
+    if room.len().saturating_sub(at) < END_ROOM {
         return None;
     }
-    if room.len() - END_ROOM < at {
-        return None;
-    }
-    let recs = e.recs;
-    let list = term_table::findings(t, &recs);
-    let n = list.count as usize;
-    let terms = list.terms;
-    let end = write_terms(&terms, n, room, at);
+    let list = term_table::findings(t, &e.recs);
+    let end = write_terms(&list.terms[..usize::from(list.count)], room, at);
     write_end(e.sets, e.kept, room, end)
 }
