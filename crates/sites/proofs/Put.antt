@@ -43,8 +43,6 @@ pub put_nil : (m : List ℕ) (at : ℕ) → put m at [] ≡ m
 unfolding put
 put_nil m at = let e : at + length {A = ℕ} [] ≡ at = omega arith in rw (e, append-nil (take at m), take-append-drop at m)
 
--- the rest of a list from a place on, as a part has it
-
 -- ---- where writing ends
 pub end_to : (room at : ℕ) (u : List ℕ) (e : ℕ) → Some e ≡ end_at room at u → (e ≡ at + length u) × (at + length u ≤ room)
 end_to room at u e h = go (leb (at + length u) room) refl h
@@ -63,16 +61,13 @@ end_full room at u h = go (leb (at + length u) room) refl h
 pub writes_fits : (out : List ℕ) (at : ℕ) (u : List ℕ) (e : ℕ) (out' : List ℕ) → Writes out at u (Some e) out' → (e ≡ at + length u) × (at + length u ≤ length out) × (out' ≡ put out at u)
 writes_fits out at u e out' w = let v = end_to (length out) at u e w.is in (v.0, v.1, w.bytes v.1)
 
--- nothing is written; bytes are written; they do not fit
+-- nothing is written; bytes do not fit
 pub writes_none : (out : List ℕ) (at : ℕ) → at ≤ length out → Writes out at [] (Some at) out
 writes_none out at h =
     let n : at + length {A = ℕ} [] ≡ at = omega arith in
     record { is = rw (n, le-leb at (length out) h); bytes = λ _. sym (put_nil out at) }
 
-pub writes_put : (out : List ℕ) (at : ℕ) (u out' : List ℕ) → at + length u ≤ length out → out' ≡ put out at u → Writes out at u (Some (at + length u)) out'
-writes_put out at u out' h e = record { is = rw (le-leb (at + length u) (length out) h); bytes = λ _. e }
-
-pub writes_short : (out : List ℕ) (at : ℕ) (u out' : List ℕ) → length out < at + length u → Writes out at u None out'
+writes_short : (out : List ℕ) (at : ℕ) (u out' : List ℕ) → length out < at + length u → Writes out at u None out'
 writes_short out at u out' h = record { is = rw (lt-leb (at + length u) (length out) h); bytes = λ l. absurd (omega arith) }
 
 -- one thing after another; the first does not fit

@@ -132,13 +132,6 @@ past_other a b n h = omega arith
 in_both : (a b n : ℕ) → n ≤ a → n ≤ b → n ≤ min a b
 in_both a b n h k = omega arith
 
--- the first byte past the lower of the two
-pub over_limit : (room : ℕ) → max_unfolding ≤ room → UnfoldingTooLong (max_unfolding + 1) ≡ UnfoldingTooLong (suc (min max_unfolding room))
-over_limit room h = let e : max_unfolding + 1 ≡ suc (min max_unfolding room) = omega arith in ap UnfoldingTooLong e
-
-pub over_room : (room : ℕ) → room < max_unfolding → UnfoldingTooLong (room + 1) ≡ UnfoldingTooLong (suc (min max_unfolding room))
-over_room room h = let e : room + 1 ≡ suc (min max_unfolding room) = omega arith in ap UnfoldingTooLong e
-
 module _ (m : List ℕ) (n s : ℕ) (room : List ℕ) where
   abbrev answer : Outcome (List ℕ)
   answer = unfold_answer (sites_in m n) (length room) s

@@ -26,7 +26,7 @@ pub enum Numbered {
 pub fn body<'a>(m: &'a [u8], i: u16) -> &'a [u8]
     ensures { result.now ≡ slot_body m.now i }
 {
-    let at = i as usize * SLOT;
+    let at = usize::from(i) * SLOT;
     if m.len() < at + SLOT {
         return &m[..0];
     }
@@ -43,21 +43,14 @@ fn find(m: &[u8], count: u16, b: &[u8]) -> Option<u16>
     ensures { result ≡ found_as (number_of (sites_in m.now count) (site_of b.now)) }
 {
     let i = site_slots::find(m, count, b);
-    if i < count {
-        return Some(i);
-    }
-    None
+    if i < count { Some(i) } else { None }
 }
 
 fn put_at(m: &mut [u8], at: usize, s: &[u8])
     requires { at + length s.now ≤ length m.old }
     ensures { m.new ≡ put m.old at s.now }
 {
-    let mut j = 0;
-    while j < s.len() {
-        m[at + j] = s[j];
-        j += 1;
-    }
+    m[at..at + s.len()].copy_from_slice(s);
 }
 
 // Writes the body b into slot n.
@@ -65,7 +58,7 @@ fn store(m: &mut [u8], n: u16, b: &[u8])
     requires { (n * slot + slot ≤ length m.old) × (length b.now < slot) }
     ensures { m.new ≡ put m.old (n * slot) (length b.now ∷ b.now) }
 {
-    let at = n as usize * SLOT;
+    let at = usize::from(n) * SLOT;
     m[at] = b.len() as u8;
     put_at(m, at + 1, b);
 }
@@ -75,30 +68,20 @@ pub fn add(m: &mut [u8], count: u16, b: &[u8], at: u32) -> Result<Numbered, Refu
     ensures { let added = added_in m.old count at b.now in
         (result ≡ numbered_as count added) × (m.new ≡ after_add m.old count added) }
 {
-    let v = judge(b, count, at);
-    if let Err(r) = v {
-        return Err(r);
-    }
-    let n = count as usize;
-    let known = find(m, count, b);
-    if let Some(i) = known {
+    judge(b, count, at)?;
+    let n = usize::from(count);
+    if let Some(i) = find(m, count, b) {
         if m.len() < n * SLOT {
             return Err(Refusal::TooManySites {
-                asked: n as u32,
+                asked: u32::from(count),
                 at,
             });
         }
         return Ok(Numbered::Known(i));
     }
-    if SITES <= n {
+    if SITES <= n || m.len() < (n + 1) * SLOT {
         return Err(Refusal::TooManySites {
-            asked: n as u32 + 1,
-            at,
-        });
-    }
-    if m.len() < (n + 1) * SLOT {
-        return Err(Refusal::TooManySites {
-            asked: n as u32 + 1,
+            asked: u32::from(count) + 1,
             at,
         });
     }
@@ -131,14 +114,8 @@ fn unfold_site(m: &[u8], s: u16, out: &mut [u8], at: usize) -> Option<usize>
     }
     let off = off_of(b);
     let many = many_of(b);
-    let h = write(out, at, &b[..off]);
-    let Some(e) = h else {
-        return None;
-    };
-    let w = unfold_sources(m, s, b, off, many, out, e);
-    let Some(f) = w else {
-        return None;
-    };
+    let e = write(out, at, &b[..off])?;
+    let f = unfold_sources(m, s, b, off, many, out, e)?;
     write(out, f, &b[off + 2 * many..])
 }
 
@@ -164,10 +141,7 @@ fn unfold_sources(
     if s <= t {
         return unfold_sources(m, s, b, from + 2, left - 1, out, at);
     }
-    let w = unfold_site(m, t, out, at);
-    let Some(e) = w else {
-        return None;
-    };
+    let e = unfold_site(m, t, out, at)?;
     unfold_sources(m, s, b, from + 2, left - 1, out, e)
 }
 
@@ -175,13 +149,8 @@ fn unfold_sources(
 fn too_long(room: usize) -> Refusal
     ensures { result ≡ UnfoldingTooLong (suc (min max_unfolding room)) }
 {
-    if UNFOLDING <= room {
-        return Refusal::UnfoldingTooLong {
-            asked: UNFOLDING as u32 + 1,
-        };
-    }
     Refusal::UnfoldingTooLong {
-        asked: room as u32 + 1,
+        asked: UNFOLDING.min(room) as u32 + 1,
     }
 }
 
@@ -195,8 +164,7 @@ pub fn unfold(m: &[u8], count: u16, s: u16, room: &mut [u8]) -> Result<usize, Re
     }
     let over = too_long(room.len());
     let mut aside = [0u8; UNFOLDING];
-    let w = unfold_site(m, s, &mut aside, 0);
-    let Some(e) = w else {
+    let Some(e) = unfold_site(m, s, &mut aside, 0) else {
         return Err(over);
     };
     if room.len() < e {
