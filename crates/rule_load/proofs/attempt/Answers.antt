@@ -1,12 +1,13 @@
-use Rattle.std.specs.declared.result.Result.TheVariants.{Err}
 -- `rule_load::attempt` meets its contract. Assumes nothing.
 use mathlib.Core.Path.{refl, ap, ◌∙◌}
 use Prim.Native.Nat.{◌*◌}
 use native.Mathlib.Omega.{arith}
+use Rattle.std.specs.declared.result.Result.TheVariants.{Err}
 use Rattle.paper.specs.Numbers.{max_items, max_equal}
 use Rattle.item_words.specs.Items.{rule_in}
 use Rattle.item_words.proofs.Laws.{rule_written}
 use Rattle.rule_load.specs.Parts.{Tries}
+use Rattle.rule_rounds.specs.declared.Halt.{Halt}
 use Rattle.rule_rounds.proofs.Telling.{fine_told}
 use Rattle.rule_load.proofs.Keeping.{refused_told, rounds_refuse, finishable, finished, array_long}
 use Rattle.rule_load.proofs.attempt.Goals as goal
@@ -22,11 +23,11 @@ finish-out-requires c = finishable c.args.m.now c.args.n c.args.words.now c.args
 
 pub returns-in-Err-Short : goal.returns-in-Err-Short
 unfolding Tries
-returns-in-Err-Short c = (c.solve-s.ensures.short (c.in-Err-Short.is ∙ ap Err c.in-Err-Short.field-0-is), (refl, refl))
+returns-in-Err-Short c = (c.solve-s.ensures.short (c.in-Err-Short.is ∙ ap (λ (h : Halt). Err h) (rw c.in-Err-Short.is at c.in-Err-Short.field-0-is)), (refl, refl))
 
 pub returns-in-Err-Refused : goal.returns-in-Err-Refused
 unfolding Tries
-returns-in-Err-Refused c = rounds_refuse c.args.m.now c.args.n c.args.words.now c.args.kept (rule_in c.args.items.now c.args.place c.args.priority c.args.count) _ (rule_written c.args.items.now c.args.place c.args.priority c.args.count) c.requires.lent.1 c.solve-s.new.tail c.solve-s.new.sites c.solve-s.new.rows c.solve-s.new.shapes c.solve-s.new.equal c.solve-s.new.low c.solve-s.result (refused_told (c.in-Err-Refused.is ∙ ap Err c.in-Err-Refused.field-0-is) c.solve-s.ensures) _ (c.in-Err-Refused.is ∙ ap Err c.in-Err-Refused.field-0-is)
+returns-in-Err-Refused c = rounds_refuse c.args.m.now c.args.n c.args.words.now c.args.kept (rule_in c.args.items.now c.args.place c.args.priority c.args.count) _ (rule_written c.args.items.now c.args.place c.args.priority c.args.count) c.requires.lent.1 c.solve-s.new.tail c.solve-s.new.sites c.solve-s.new.rows c.solve-s.new.shapes c.solve-s.new.equal c.solve-s.new.low c.solve-s.result (refused_told (c.in-Err-Refused.is ∙ ap (λ (h : Halt). Err h) (rw c.in-Err-Refused.is at c.in-Err-Refused.field-0-is)) c.solve-s.ensures) _ (c.in-Err-Refused.is ∙ ap (λ (h : Halt). Err h) (rw c.in-Err-Refused.is at c.in-Err-Refused.field-0-is))
 
 pub returns-in-Ok : goal.returns-in-Ok
 unfolding Tries
