@@ -1,7 +1,8 @@
 -- Passing over sites that can't be children: how a child's slot begins, and what a search that passes it over says.
 use mathlib.Core.Path.{◌≡◌, refl, sym, ap, ◌∙◌}
 use mathlib.Core.Bool.{Bool, true, false}
-use mathlib.Core.List.{List}
+use mathlib.Core.Logic.{inr}
+use mathlib.Core.List.{List, [], ◌∷◌}
 use Prim.Native.Nat.{ℕ, ◌+◌, ◌-◌, ◌*◌, ◌/◌, ◌%◌, ◌<◌, ◌≤◌}
 use native.Mathlib.Omega.{arith}
 use lib.ListN.{length, get_or, get_or-eq_default}
@@ -18,7 +19,7 @@ use Rattle.sites.specs.Slots.{slot, no_site, site_in}
 use Rattle.sites.proofs.Held.{held, site_held}
 use Rattle.site_slots.proofs.Holding.{held_four}
 use Rattle.rule_children.specs.Tail.{word_of, site_of_word, site_there, Field, begins, Wants, SeeksWord, Onward}
-use Rattle.rule_children.proofs.WordLaws.{child_positive, child_step, word_told}
+use Rattle.rule_children.proofs.WordLaws.{Lone, lone_child, child_positive, child_step, word_told}
 use Rattle.rule_children.specs.declared.Wanted.{Wanted}
 
 -- ---- how a child's slot begins
@@ -62,6 +63,13 @@ begins_is s Some = refl
 pub begins_as : (s : ℕ) (c d : Constraint) (r : ℕ) → c ≡ d → r ≡ begins_by s d → r ≡ begins (child s c 0)
 begins_as s c d r e q = rw e (q ∙ begins_is s d)
 
+pub begins_lone : (s : ℕ) (c : Constraint) (r : ℕ) → Lone c → r ≡ quad 3 12 (s / 256) (s % 256) → r ≡ begins (child s c 0)
+begins_lone s c r h q = q ∙ begins_is s Some ∙ ap begins (lone_child s Some 0 (inr (inr (inr refl))) ∙ sym (lone_child s c 0 h))
+
+-- by the two bytes of the source
+pub by_bytes : (s : ℕ) (b : List ℕ) (r k l : ℕ) → s < 65536 → b ≡ (s / 256 % 256 ∷ (s % 256 ∷ [])) → r ≡ quad k l (get_or b 0 0) (get_or b 1 0) → r ≡ quad k l (s / 256) (s % 256)
+by_bytes s b r k l h e q = let z : s / 256 % 256 ≡ s / 256 = omega arith in q ∙ rw (e, z) refl
+
 child_real : (s : ℕ) (c : Constraint) (f : ℕ) → child s c f ≡ no_site → ⊥
 unfolding word_of
 child_real s c f e = let p = child_positive s c f in let z = ap word_of e in omega arith
@@ -71,9 +79,6 @@ child_real s c f e = let p = child_positive s c f in let z = ap word_of e in ome
 module _ (tail : List ℕ) (from first count : ℕ) where
   abbrev pub Past : ℕ → Type 0
   Past r = (j : ℕ) → from ≤ j → j < r → j < length tail → (f : ℕ) → f < count → get_or tail j 0 ≡ first + 256 * f → ⊥
-
-  pub past_start : Past from
-  past_start j l h i f p e = omega arith
 
   pub past_more : (j y r : ℕ) → y ≡ j → Past j → Field (get_or tail y 0) first count r → count ≤ r → Past (j + 1)
   past_more j y r w P g q i l h t f p e = go (ltb i j) refl
@@ -86,9 +91,6 @@ module _ (tail : List ℕ) (from first count : ℕ) where
           g.none q f p (ap (λ x. get_or tail x 0) z ∙ e)
 
   module _ (to j : ℕ) (l : from ≤ j) (P : Past j) where
-    pub word_here : j < to → SeeksWord tail from to first count j
-    word_here h = record { low = λ _. l; high = omega arith; none = P }
-
     pub word_none : to ≤ j → SeeksWord tail from to first count to
     word_none h = record { low = λ q. q; high = omega arith; none = λ i p q. P i p (omega arith) }
 

@@ -2,10 +2,11 @@
 use mathlib.Core.Path.{◌≡◌, refl, sym, ap, ◌∙◌}
 use mathlib.Core.Bool.{Bool, true, false, ◌||◌}
 use mathlib.Core.Option.{none, some}
+use mathlib.Core.Logic.{◌⊎◌, inl, inr}
 use mathlib.Core.List.{List, [], ◌∷◌, ◌++◌}
 use Prim.Native.Nat.{ℕ, zero, suc, ◌+◌, ◌-◌, ◌*◌, ◌/◌, ◌%◌, ◌<◌, ◌≤◌}
 use native.Mathlib.Omega.{arith}
-use lib.ListN.{length, get_or, get_or-eq_default}
+use lib.ListN.{get_or}
 use lib.Dec.{eqb, ltb}
 use borrow.Author.Tests.{lt-ltb, le-ltb, ne_eqb, eqb-true, eqb-false, ltb-true, ltb-false}
 use Rattle.std.specs.declared.option.Option.TheVariants as option
@@ -117,6 +118,11 @@ module _ (w : ℕ) where
   unfolding site_of_word word_of
   tail_none a b d = record { is = rw (ne_eqb (w % 256) 8 a, ne_eqb (w % 256) 10 b, ne_eqb (w % 256) 12 d); back = λ h. absurd (omega arith) }
 
+pub tail_told : (w : ℕ) → (w % 256 ≡ 8) ⊎ ((w % 256 ≡ 10) ⊎ (w % 256 ≡ 12)) → Spelt (site_of_word w) w
+tail_told w (inl a) = tail_variant w a
+tail_told w (inr (inl a)) = tail_struct w a
+tail_told w (inr (inr a)) = tail_some w a
+
 -- a word that tells a child is its word
 pub word_told : (w : ℕ) → 0 < word_of (site_of_word w) → w ≡ word_of (site_of_word w)
 word_told w h = go (eqb (w % 256) 8) refl (eqb (w % 256) 10) refl (eqb (w % 256) 12) refl
@@ -200,10 +206,18 @@ module _ (m : List ℕ) (n : ℕ) (tail : List ℕ) (x : ℕ) where
   unfolding site_there
   there_high w j h q e = rw (le-ltb x n h, ← q) e
 
-  pub there_out : (j : ℕ) → n ≤ x → j ≡ x - n → length tail ≤ j → Spelt (site_there m n tail x) 0
-  there_out j h q l = there_high 0 j h q (rw (get_or-eq_default tail 0 l) (tail_none 0 (λ e. omega arith) (λ e. omega arith) (λ e. omega arith)))
-
 -- ---- children
+
+-- a constraint with one child
+abbrev pub Lone : Constraint → Type 0
+Lone c = ((t : ℕ) × (v : Bool) × (c ≡ ConstBool t v)) ⊎ (((t : ℕ) × (h : ℕ) × (l : ℕ) × (c ≡ ConstInt t h l)) ⊎ (((v : ℕ) × (c ≡ ConstPrim v)) ⊎ (c ≡ Some)))
+
+pub lone_child : (s : ℕ) (c : Constraint) (f : ℕ) → Lone c → child s c f ≡ match_some s
+unfolding child
+lone_child s c f (inl e) = ap (λ d. child s d f) e.2
+lone_child s c f (inr (inl e)) = ap (λ d. child s d f) e.3
+lone_child s c f (inr (inr (inl e))) = ap (λ d. child s d f) e.1
+lone_child s c f (inr (inr (inr e))) = ap (λ d. child s d f) e
 
 pub child_positive : (s : ℕ) (c : Constraint) (f : ℕ) → 0 < word_of (child s c f)
 unfolding child word_of

@@ -38,34 +38,21 @@ pub struct Seen {
     pub missing: usize,
 }
 
-fn child_count(c: Constraint) -> u8
-    ensures { result ≡ child_count c }
-{
-    match c {
-        Constraint::Variant {
-            ty: _,
-            variant: _,
-            fields,
-        } => fields,
-        Constraint::Struct { ty: _, fields } => fields,
-        Constraint::ConstBool { ty: _, val: _ } => 0,
-        Constraint::ConstInt {
-            ty: _,
-            high: _,
-            low: _,
-        } => 0,
-        Constraint::ConstPrim { val: _ } => 0,
-        Constraint::Some => 1,
-    }
-}
-
 // How many children a site has under c.
 pub fn arity(c: Constraint) -> usize
     ensures { (result ≡ child_count c) × (result < 256) }
 {
-    child_count(c) as usize
+    match c {
+        Constraint::Variant { fields, .. } | Constraint::Struct { fields, .. } => usize::from(
+            fields,
+        ),
+        Constraint::ConstBool { .. } | Constraint::ConstInt { .. } | Constraint::ConstPrim { .. } =>
+            0,
+        Constraint::Some => 1,
+    }
 }
 
+// The words of the three kinds: one function each, since each kind has other parts.
 fn variant_word(s: u16, v: u16, f: u8) -> u64
     ensures { Spelt (match_variant s v f) result }
 {
@@ -89,20 +76,12 @@ pub fn child_word(s: u16, c: Constraint, f: u8) -> u64
     ensures { Spelt (child s c f) result }
 {
     match c {
-        Constraint::Variant {
-            ty: _,
-            variant,
-            fields: _,
-        } => variant_word(s, variant, f),
-        Constraint::Struct { ty: _, fields: _ } => struct_word(s, f),
-        Constraint::ConstBool { ty: _, val: _ } => some_word(s),
-        Constraint::ConstInt {
-            ty: _,
-            high: _,
-            low: _,
-        } => some_word(s),
-        Constraint::ConstPrim { val: _ } => some_word(s),
-        Constraint::Some => some_word(s),
+        Constraint::Variant { variant, .. } => variant_word(s, variant, f),
+        Constraint::Struct { .. } => struct_word(s, f),
+        Constraint::ConstBool { .. }
+        | Constraint::ConstInt { .. }
+        | Constraint::ConstPrim { .. }
+        | Constraint::Some => some_word(s),
     }
 }
 
@@ -110,13 +89,14 @@ pub fn child_word(s: u16, c: Constraint, f: u8) -> u64
 pub fn word_in(m: &[u8], i: u16) -> u64
     ensures { Spelt (site_in m.now i) result }
 {
-    let b = sites::body(m, i);
-    match site_body::link_of(b) {
-        Some(Link::Variant {
-            source,
-            variant,
-            field,
-        }) => variant_word(source, variant, field),
+    match site_body::link_of(sites::body(m, i)) {
+        Some(
+            Link::Variant {
+                source,
+                variant,
+                field,
+            },
+        ) => variant_word(source, variant, field),
         Some(Link::Struct { source, field }) => struct_word(source, field),
         Some(Link::Some { source }) => some_word(source),
         None => 0,
@@ -127,34 +107,22 @@ pub fn word_in(m: &[u8], i: u16) -> u64
 fn tail_word(w: u64) -> u64
     ensures { Spelt (site_of_word w) result }
 {
-    let k = w % 256;
-    if k == 8 {
-        return w;
+    match w % 256 {
+        8 | 10 | 12 => w,
+        _ => 0,
     }
-    if k == 10 {
-        return w;
-    }
-    if k == 12 {
-        return w;
-    }
-    0
 }
 
 // The source of the site that a word is read as; 0 where it has none.
 pub fn source_of(w: u64) -> u64
     ensures { result ≡ or_else (parent (site_of_word w)) 0 }
 {
-    let k = w % 256;
-    if k == 8 {
-        return w / 256 / 256 / 65536;
+    match w % 256 {
+        8 => w / 256 / 256 / 65536,
+        10 => w / 256 / 256,
+        12 => w / 256,
+        _ => 0,
     }
-    if k == 10 {
-        return w / 256 / 256;
-    }
-    if k == 12 {
-        return w / 256;
-    }
-    0
 }
 
 // The word of site x, where n are in the memory and the others in the tail.
@@ -164,29 +132,17 @@ pub fn word_of(m: &[u8], n: u16, tail: &[u64], x: u16) -> u64
     if x < n {
         return word_in(m, x);
     }
-    let j = usize::from(x - n);
-    if tail.len() <= j {
-        return 0;
-    }
-    tail_word(tail[j])
+    tail_word(tail.get(usize::from(x - n)).copied().unwrap_or(0))
 }
 
 // Of the `count` words that start at `first` and differ in the field, which w is; `count` where it is none.
 fn field_of(w: u64, first: u64, count: usize) -> usize
     ensures { Field w first count result }
 {
-    if w < first {
+    if w < first || (w - first) % 256 != 0 {
         return count;
     }
-    let d = w - first;
-    if d % 256 != 0 {
-        return count;
-    }
-    let f = (d / 256) as usize;
-    if f < count {
-        return f;
-    }
-    count
+    count.min(((w - first) / 256) as usize)
 }
 
 // Is the site with the word w a child of s under c?
@@ -203,10 +159,7 @@ fn note(of: &mut [u16; FIELDS], f: usize, count: usize, i: u16) -> usize
     requires { count ≤ max_fields }
     ensures { Notes of.old of.new f count i result }
 {
-    if count <= f {
-        return 0;
-    }
-    if of[f] != NONE {
+    if count <= f || of[f] != NONE {
         return 0;
     }
     of[f] = i;
@@ -217,23 +170,14 @@ fn note(of: &mut [u16; FIELDS], f: usize, count: usize, i: u16) -> usize
 fn beginning(s: u16, c: Constraint) -> u32
     ensures { result ≡ begins (child s c 0) }
 {
-    let high = (s / 256) as u8;
-    let low = (s % 256) as u8;
+    let [high, low] = s.to_be_bytes();
     match c {
-        Constraint::Variant {
-            ty: _,
-            variant: _,
-            fields: _,
-        } => site_slots::quad(6, 8, high, low),
-        Constraint::Struct { ty: _, fields: _ } => site_slots::quad(4, 10, high, low),
-        Constraint::ConstBool { ty: _, val: _ } => site_slots::quad(3, 12, high, low),
-        Constraint::ConstInt {
-            ty: _,
-            high: _,
-            low: _,
-        } => site_slots::quad(3, 12, high, low),
-        Constraint::ConstPrim { val: _ } => site_slots::quad(3, 12, high, low),
-        Constraint::Some => site_slots::quad(3, 12, high, low),
+        Constraint::Variant { .. } => site_slots::quad(6, 8, high, low),
+        Constraint::Struct { .. } => site_slots::quad(4, 10, high, low),
+        Constraint::ConstBool { .. }
+        | Constraint::ConstInt { .. }
+        | Constraint::ConstPrim { .. }
+        | Constraint::Some => site_slots::quad(3, 12, high, low),
     }
 }
 
@@ -251,16 +195,13 @@ fn want(s: u16, c: Constraint) -> Wanted
 fn seek_word(tail: &[u64], from: u16, to: u16, first: u64, count: usize) -> u16
     ensures { SeeksWord tail.now from to first count result }
 {
-    let mut j = from;
-    while j < to {
-        let y = usize::from(j);
-        if tail.len() <= y {
+    for j in from..to {
+        let Some(w) = tail.get(usize::from(j)) else {
             return to;
-        }
-        if field_of(tail[y], first, count) < count {
+        };
+        if field_of(*w, first, count) < count {
             return j;
         }
-        j += 1;
     }
     to
 }
@@ -290,6 +231,7 @@ fn scan(m: &[u8], n: u16, tail: &[u64], k: u16, s: u16, c: Constraint) -> Seen
     let mut numbers = [NONE; FIELDS];
     let mut missing = count;
     let mut i: u16 = 0;
+    // no `for`: the walk goes from one site that may be a child to the next, and ends early
     while 0 < missing {
         let x = next_site(m, n, tail, k, i, w);
         if n + k <= x {
@@ -322,8 +264,7 @@ fn place(
     let count = arity(c);
     let mut numbers = [0u16; FIELDS];
     let mut j = usize::from(k);
-    let mut f = 0;
-    while f < count {
+    for f in 0..count {
         let old = of[f];
         if old == NONE {
             tail[j] = child_word(s, c, f as u8);
@@ -332,7 +273,6 @@ fn place(
         } else {
             numbers[f] = old;
         }
-        f += 1;
     }
     numbers
 }
@@ -356,7 +296,7 @@ fn grow(m: &[u8], n: u16, tail: &mut [u64], k: u16, at: u32, s: u16, c: Constrai
 {
     let total = usize::from(n) + usize::from(k);
     let seen = scan(m, n, tail, k, s, c);
-    let room = left_of(total);
+    let room = SITES.saturating_sub(total);
     let missing = seen.missing;
     if room < missing {
         return refuse(Refusal::TooManySites {
@@ -388,7 +328,8 @@ pub fn add_children(
         × (holds m.now n tail.new o) }
 {
     let total = usize::from(n) + usize::from(k);
-    if tail.len() < needed(k) {
+    // eight words more may be written, and never more than a set has sites
+    if tail.len() < SITES.min(usize::from(k) + FIELDS) {
         return refuse(Refusal::TooManySites {
             asked: total as u32,
             at,
@@ -417,25 +358,4 @@ pub fn add_children(
         return refuse(Refusal::Unknown { site: s });
     }
     grow(m, n, tail, k, at, s, c)
-}
-
-// How long a tail with k words in use has to be: eight more may be added, and never more than a set has sites.
-fn needed(k: u16) -> usize
-    ensures { result ≡ min max_sites (k + max_fields) }
-{
-    let room = usize::from(k) + FIELDS;
-    if SITES < room {
-        return SITES;
-    }
-    room
-}
-
-// How many sites there can be yet.
-fn left_of(total: usize) -> usize
-    ensures { result ≡ max_sites - total }
-{
-    if SITES <= total {
-        return 0;
-    }
-    SITES - total
 }

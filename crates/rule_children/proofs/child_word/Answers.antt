@@ -1,5 +1,5 @@
 use mathlib.Core.Path.{sym, ap}
-use Rattle.rule_children.proofs.WordLaws.{spelt_as}
+use Rattle.rule_children.proofs.WordLaws.{spelt_as, lone_child}
 use Rattle.paper.specs.Sites.{child}
 use Rattle.rule_children.proofs.child_word.Goals as goal
 
@@ -12,17 +12,4 @@ unfolding child
 returns-in-Struct c = spelt_as _ _ _ (ap (λ d. child c.args.s d c.args.f) (sym c.in-Struct.is)) c.struct_word.ensures
 
 pub returns-in-ConstBool : goal.returns-in-ConstBool
-unfolding child
-returns-in-ConstBool c = spelt_as _ _ _ (ap (λ d. child c.args.s d c.args.f) (sym c.in-ConstBool.is)) c.some_word.ensures
-
-pub returns-in-ConstInt : goal.returns-in-ConstInt
-unfolding child
-returns-in-ConstInt c = spelt_as _ _ _ (ap (λ d. child c.args.s d c.args.f) (sym c.in-ConstInt.is)) c.some_word-in-ConstInt.ensures
-
-pub returns-in-ConstPrim : goal.returns-in-ConstPrim
-unfolding child
-returns-in-ConstPrim c = spelt_as _ _ _ (ap (λ d. child c.args.s d c.args.f) (sym c.in-ConstPrim.is)) c.some_word-in-ConstPrim.ensures
-
-pub returns-in-Some : goal.returns-in-Some
-unfolding child
-returns-in-Some c = spelt_as _ _ _ (ap (λ d. child c.args.s d c.args.f) (sym c.in-Some.is)) c.some_word-in-Some.ensures
+returns-in-ConstBool c = spelt_as _ _ _ (sym (lone_child c.args.s c.args.c c.args.f c.in-ConstBool.is)) c.some_word.ensures

@@ -7,15 +7,6 @@ use Rattle.rule_children.proofs.place.Goals.{then-old, else-old}
 pub loop-f-init : goal.loop-f-init
 loop-f-init c = (place_start (table c.args.m.now c.args.n c.args.tail.now c.args.k) c.args.n c.args.k c.args.s c.args.c _ c.args.tail.now c.requires _ c.from-j.ensures, whole_start c.args.m.now c.args.n c.args.tail.now c.args.k c.args.s c.args.c _ c.from-j.ensures)
 
-pub offset_bounds-of-f : goal.offset_bounds-of-f
-offset_bounds-of-f c = omega (arith, c.arity-count.ensures.0, c.requires.few, c.loop-f-test.true)
-
-pub bounds-of-f : goal.bounds-of-f
-bounds-of-f c = omega (arith, c.arity-count.ensures.0, c.requires.few, c.loop-f-test.true)
-
-pub overflow_cast-f : goal.overflow_cast-f
-overflow_cast-f c = omega (arith, c.arity-count.ensures.0, c.requires.few, c.loop-f-test.true)
-
 pub offset_bounds-tail-j : goal.offset_bounds-tail-j
 offset_bounds-tail-j c = omega (arith, place_room (table c.args.m.now c.args.n c.args.tail.now c.args.k) c.args.n c.args.k c.args.s c.args.c _ c.args.tail.now c.requires _ _ c.loop-f.j c.loop-f.f c.loop-f.invariant.0 (omega (arith, c.arity-count.ensures.0, c.loop-f-test.true)) c.if-old.true)
 
@@ -28,26 +19,8 @@ overflow_cast-numbers c = omega (arith, place_room (table c.args.m.now c.args.n 
 pub overflow_add-numbers : goal.overflow_add-numbers
 overflow_add-numbers c = omega (arith, place_room (table c.args.m.now c.args.n c.args.tail.now c.args.k) c.args.n c.args.k c.args.s c.args.c _ c.args.tail.now c.requires _ _ c.loop-f.j c.loop-f.f c.loop-f.invariant.0 (omega (arith, c.arity-count.ensures.0, c.loop-f-test.true)) c.if-old.true)
 
-pub offset_bounds-numbers-f : goal.offset_bounds-numbers-f
-offset_bounds-numbers-f c = omega (arith, c.arity-count.ensures.0, c.requires.few, c.loop-f-test.true)
-
-pub bounds-numbers-f : goal.bounds-numbers-f
-bounds-numbers-f c = omega (arith, c.arity-count.ensures.0, c.requires.few, c.loop-f-test.true)
-
 pub overflow_add-j : goal.overflow_add-j
 overflow_add-j c = omega (arith, place_room (table c.args.m.now c.args.n c.args.tail.now c.args.k) c.args.n c.args.k c.args.s c.args.c _ c.args.tail.now c.requires _ _ c.loop-f.j c.loop-f.f c.loop-f.invariant.0 (omega (arith, c.arity-count.ensures.0, c.loop-f-test.true)) c.if-old.true)
-
-pub offset_bounds-numbers-f-else-old : goal.offset_bounds-numbers-f-else-old
-offset_bounds-numbers-f-else-old c = omega (arith, c.arity-count.ensures.0, c.requires.few, c.loop-f-test.true)
-
-pub bounds-numbers-f-else-old : goal.bounds-numbers-f-else-old
-bounds-numbers-f-else-old c = omega (arith, c.arity-count.ensures.0, c.requires.few, c.loop-f-test.true)
-
-pub overflow_add-f : goal.overflow_add-f
-overflow_add-f c = omega (arith, c.arity-count.ensures.0, c.requires.few, c.loop-f-test.true)
-
-pub loop-f-smaller : goal.loop-f-smaller
-loop-f-smaller c = omega (arith, c.loop-f-test.true)
 
 pub loop-f-preserved : goal.loop-f-preserved
 loop-f-preserved c = elim c.if-old.branch [ then-old w ↦ (next_new (table c.args.m.now c.args.n c.args.tail.now c.args.k) c.args.n c.args.k c.args.s c.args.c _ c.args.tail.now c.requires _ _ c.loop-f.j c.loop-f.f c.loop-f.invariant.0 (omega (arith, c.arity-count.ensures.0, c.loop-f-test.true)) w.child_word.result _ _ _ w.if-old.true w.child_word.ensures w.tail-is w.numbers-is w.j-is, whole_new c.args.m.now c.args.n c.args.tail.now c.args.k c.args.s c.args.c _ _ c.loop-f.j c.loop-f.f c.requires c.loop-f.invariant.1 (omega (arith, c.arity-count.ensures.0, c.loop-f-test.true)) w.child_word.result _ _ w.if-old.true w.child_word.ensures w.tail-is w.j-is (place_inside (table c.args.m.now c.args.n c.args.tail.now c.args.k) c.args.n c.args.k c.args.s c.args.c _ c.args.tail.now c.requires _ _ c.loop-f.j c.loop-f.f c.loop-f.invariant.0 (omega (arith, c.arity-count.ensures.0, c.loop-f-test.true)) w.if-old.true)) | else-old w ↦ (next_old (table c.args.m.now c.args.n c.args.tail.now c.args.k) c.args.n c.args.k c.args.s c.args.c _ c.args.tail.now c.requires _ _ c.loop-f.j c.loop-f.f c.loop-f.invariant.0 (omega (arith, c.arity-count.ensures.0, c.loop-f-test.true)) _ _ _ w.if-old.false w.tail-is w.numbers-is w.j-is, whole_old c.args.m.now c.args.n c.args.tail.now c.args.k c.args.s c.args.c _ _ c.loop-f.j c.loop-f.f c.requires c.loop-f.invariant.1 (omega (arith, c.arity-count.ensures.0, c.loop-f-test.true)) _ _ w.if-old.false w.tail-is w.j-is) ]
