@@ -4,7 +4,10 @@ use mathlib.Core.List.{List, [], ◌∷◌, append-nil}
 use Prim.Native.Nat.{ℕ, ◌+◌, ◌≤◌, ◌<◌}
 use native.Mathlib.Omega.{arith}
 use lib.ListN.{length}
-use borrow.Author.Tests.{lt-ltb, le-ltb}
+use borrow.Author.Tests.{le-ltb, ltb-true, ltb-false}
+use mathlib.Core.Bool.{Bool, true, false}
+use Rattle.std.specs.Prelude.{if◌then◌else◌, min}
+use lib.Dec.{ltb}
 use Rattle.paper.specs.declared.Refusal.{Refusal}
 use Rattle.paper.specs.Words.{joined, four}
 use Rattle.paper.specs.Numbers.{last_line, Outcome, done, refused}
@@ -112,11 +115,13 @@ pub on_went : (r : Reader) (st : Stands) (ev : Event) (to : ℕ) (a : Stepped) �
 unfolding gone_on
 on_went r st ev to a h e = e ∙ onward r st ev to (next_line r.line) (rw (le-ltb last_line r.line h))
 
-pub next_same : (n : ℕ) → last_line < n → n ≡ next_line n
-next_same n h = rw (lt-ltb last_line n h)
-
-pub next_more : (n : ℕ) → n ≤ last_line → n + 1 ≡ next_line n
-next_more n h = rw (le-ltb last_line n h)
+-- the last line has no number past it, so the next one is a sum that stops there
+pub next_is : (n l : ℕ) → n < 4294967296 → l ≡ min (n + 1) 4294967295 → l ≡ next_line n
+next_is n l h e = go (ltb last_line n) refl
+  where
+    go : (t : Bool) → ltb last_line n ≡ t → l ≡ (if t then n else n + 1)
+    go true q = let g = ltb-true last_line n q in omega arith
+    go false q = let g = ltb-false last_line n q in omega arith
 
 pub goes_as : (r : Reader) (st : Stands) (ev : Event) (to l : ℕ) → l ≡ next_line r.line → ◌≡◌ {A = Stepped} (record { reader = record { line = l; stands = st; ended = r.ended }; event = ev; to = to }) (gone_on r st ev to)
 unfolding gone_on

@@ -1,4 +1,3 @@
-pub mod Small
 pub mod Acts
 pub mod Standing
 pub mod Leaving

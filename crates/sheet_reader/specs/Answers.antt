@@ -21,8 +21,8 @@ use Rattle.sheet_reader.specs.declared.Stepped.{Stepped}
 use Rattle.sheet_reader.specs.declared.Stands.{Stands}
 use Rattle.sheet_reader.specs.declared.Stands.TheVariants.{Outside, Sites, Rules, Items}
 use Rattle.paper.specs.Answered.{Maybe}
-use Rattle.sheet_reader.specs.declared.Awaits.{Awaits}
-use Rattle.sheet_reader.specs.declared.Awaits.TheVariants.{Rule, NoRule}
+use Rattle.sheet_reader.specs.declared.OpenSet.{OpenSet}
+use Rattle.sheet_reader.specs.declared.Awaited.{Awaited}
 
 -- ---- where a frame may stand
 abbrev pub is_outside : Stands → Bool
@@ -43,11 +43,15 @@ rule_set (Sites s) = Some s
 rule_set (Rules s) = Some s
 rule_set (Items s r n) = None
 
+-- the rule whose items are to come, if there is one
+abbrev pub Awaits : Type 0
+Awaits = Maybe (OpenSet × Awaited × ℕ)
+
 abbrev pub open_rule : Stands → Awaits
-open_rule Outside = NoRule
-open_rule (Sites s) = NoRule
-open_rule (Rules s) = NoRule
-open_rule (Items s r n) = Rule s r n
+open_rule Outside = None
+open_rule (Sites s) = None
+open_rule (Rules s) = None
+open_rule (Items s r n) = Some (s, r, n)
 
 -- ---- what a line was, where the sheet goes on
 unfoldable pub rule_event : Set → Written → Event

@@ -9,7 +9,7 @@ ghost use Rattle.sheet_reader.specs.Leaves.{after, next_line, gone_on, stop_in};
 
 use paper::Refusal;
 use report::REPORT_ROOM;
-use sheet_ended::{EndedSets, to_or};
+use sheet_ended::EndedSets;
 use sheet_findings::write_stop;
 
 // What one line can write: the report of a set is the longest.
@@ -56,7 +56,7 @@ pub struct Reader {
     pub ended: EndedSets,
 }
 
-// What a line was.
+// What a line was. No Result: `sheet_step::step` promises by it what each line was, and a stop is one of them.
 #[derive(Clone, Copy)]
 pub enum Event {
     Begun,
@@ -87,27 +87,11 @@ pub struct Stepped {
     pub to: usize,
 }
 
-// The rule whose items are to come, if there is one.
-#[derive(Clone, Copy)]
-pub enum Awaits {
-    Rule {
-        set: OpenSet,
-        rule: Awaited,
-        left: u8,
-    },
-    NoRule,
-}
-
 // Is no set open?
 pub fn outside(s: Stands) -> bool
     ensures { result ≡ is_outside s }
 {
-    match s {
-        Stands::Outside => true,
-        Stands::Sites(_) => false,
-        Stands::Rules(_) => false,
-        Stands::Items { .. } => false,
-    }
+    matches!(s, Stands::Outside)
 }
 
 // 02 may stand before the first 03 of an open set.
@@ -115,10 +99,8 @@ pub fn site_set(s: Stands) -> Option<OpenSet>
     ensures { result ≡ site_set s }
 {
     match s {
-        Stands::Outside => None,
         Stands::Sites(set) => Some(set),
-        Stands::Rules(_) => None,
-        Stands::Items { .. } => None,
+        Stands::Outside | Stands::Rules(_) | Stands::Items { .. } => None,
     }
 }
 
@@ -127,22 +109,18 @@ pub fn rule_set(s: Stands) -> Option<OpenSet>
     ensures { result ≡ rule_set s }
 {
     match s {
-        Stands::Outside => None,
-        Stands::Sites(set) => Some(set),
-        Stands::Rules(set) => Some(set),
-        Stands::Items { .. } => None,
+        Stands::Sites(set) | Stands::Rules(set) => Some(set),
+        Stands::Outside | Stands::Items { .. } => None,
     }
 }
 
-// 04 and 05 may stand among the items of a rule.
-pub fn open_rule(s: Stands) -> Awaits
+// 04 and 05 may stand among the items of a rule: its set, the rule, and how many of its items are still to come.
+pub fn open_rule(s: Stands) -> Option<(OpenSet, Awaited, u8)>
     ensures { result ≡ open_rule s }
 {
     match s {
-        Stands::Outside => Awaits::NoRule,
-        Stands::Sites(_) => Awaits::NoRule,
-        Stands::Rules(_) => Awaits::NoRule,
-        Stands::Items { set, rule, left } => Awaits::Rule { set, rule, left },
+        Stands::Items { set, rule, left } => Some((set, rule, left)),
+        Stands::Outside | Stands::Sites(_) | Stands::Rules(_) => None,
     }
 }
 
@@ -150,38 +128,32 @@ pub fn open_rule(s: Stands) -> Awaits
 pub fn stop(r: Reader, why: Refusal, room: &mut [u8], at: usize) -> Stepped
     ensures { (k : Lent) → after result k room.new ≡ stop_in r k room.old at why }
 {
-    let line = r.line;
-    let w = write_stop(line, why, room, at);
-    let to = to_or(w, at);
+    let to = write_stop(r.line, why, room, at).unwrap_or(at);
     Stepped {
         reader: r,
         event: Event::Stopped(why),
-        to: to,
+        to,
     }
 }
 
-// The number of the next line; the last has none.
+// The number of the next line; past the last there is none.
 fn next_line(n: u32) -> u32
     ensures { result ≡ next_line n }
 {
-    if LAST_LINE < n {
-        return n;
-    }
-    n + 1
+    n.saturating_add(1)
 }
 
 // The sheet goes on.
 pub fn on(r: Reader, stands: Stands, event: Event, to: usize) -> Stepped
     ensures { result ≡ gone_on r stands event to }
 {
-    let ended = r.ended;
     Stepped {
         reader: Reader {
             line: next_line(r.line),
-            stands: stands,
-            ended: ended,
+            stands,
+            ended: r.ended,
         },
-        event: event,
-        to: to,
+        event,
+        to,
     }
 }
