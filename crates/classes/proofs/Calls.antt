@@ -1,14 +1,17 @@
 -- What the bodies of the calls compute is what paper says. w, i, j are indices that were widened from a site.
 use mathlib.Core.Path.{◌≡◌, refl, sym, ◌∙◌, ap, subst⁻¹}
 use mathlib.Core.List.{List}
-use mathlib.Core.Bool.{true, false, not}
-use Prim.Native.Nat.{ℕ, ◌-◌, ◌≤◌, ◌<◌}
+use mathlib.Core.Bool.{false, not}
+use Prim.Native.Nat.{ℕ, ◌≤◌, ◌<◌}
 use lib.ListN.{get_or, set}
-use lib.Dec.{ltb, eqb}
+use lib.Dec.{eqb}
+use native.Mathlib.Decide.{ℕ_discrete}
 use borrow.Author.Tests.{lt-ltb, le-ltb, eq-eqb, ne_eqb}
 use Rattle.std.specs.declared.result.Result.TheVariants.{Err, Ok}
 use Rattle.std.specs.declared.option.Option.TheVariants.{None, Some}
 use Rattle.std.specs.Prelude.{Bool}
+use Rattle.std.specs.Option.{unwrap_or, option_eq}
+use Rattle.paper.specs.declared.Refusal.{Refusal}
 use Rattle.paper.specs.Answered.{Maybe}
 use Rattle.paper.specs.declared.Refusal.TheVariants.{Unknown, Itself}
 use Rattle.paper.specs.Numbers.{max_sites}
@@ -19,18 +22,15 @@ use Rattle.classes.specs.Answers.{root_in, or_self, rep, trail_of, looked, sough
 use Rattle.classes.specs.Well.{Leads}
 use Rattle.classes.proofs.Updating.{find_led, update_lt}
 
-module _ (x w : ℕ) (e : w ≡ x) where
-  pub test_out : max_sites ≤ w → ltb x max_sites ≡ false
-  test_out h = le-ltb x max_sites (rw e at h)
-
-  pub test_in : w < max_sites → ltb x max_sites ≡ true
-  test_in h = lt-ltb x max_sites (rw e at h)
-
 -- ---- finds
 
-pub rep_at : (p : List ℕ) (x : ℕ) (t : T.Trail) (f : Maybe ℕ) → trail t.found t.links ≡ find_in p x → t.found ≡ f → or_self x f ≡ rep p x
+pub rep_at : (p : List ℕ) (x : ℕ) (t : T.Trail) → trail t.found t.links ≡ find_in p x → unwrap_or t.found x ≡ rep p x
 unfolding rep
-rep_at p x t f q e = ap (or_self x) (sym e ∙ ap (λ (t : Trail). t.found) q)
+rep_at p x t q = go t.found ∙ ap (λ (u : Trail). or_self x u.found) q
+  where
+    go : (f : Maybe ℕ) → unwrap_or f x ≡ or_self x f
+    go (Some r) = refl
+    go None = refl
 
 -- the updating find: t is the way to the root
 module _ (p : List ℕ) (x : ℕ) (t : T.Trail) (q : trail t.found t.links ≡ find_in p x) where
@@ -50,23 +50,27 @@ module _ (p : List ℕ) (x : ℕ) (t : T.Trail) (q : trail t.found t.links ≡ f
   pub flatten_at : (r : ℕ) (p' : List ℕ) → t.found ≡ Some r → p' ≡ hung p (passed t.links p x) r → ◌≡◌ {A = List ℕ × Maybe ℕ} (p', Some r) (flatten_in p x)
   flatten_at r p' e h = ap (λ (l : List ℕ). (l, Some r)) h ∙ by_way (Some r) e
 
+-- what `known` tells of a number that is no site
+abbrev pub Outside : ℕ → Refusal → Type 0
+Outside x e = (e ≡ Unknown x) × (max_sites ≤ x)
+
 module _ (c : Classes) (x : ℕ) where
-  pub looked_out : ltb x max_sites ≡ false → Err (Unknown x) ≡ looked (find c x)
+  pub looked_out : {e : Refusal} → Outside x e → Err e ≡ looked (find c x)
   unfolding find
-  looked_out h = simp h
+  looked_out h = rw (h.0, le-ltb x max_sites h.1)
 
-  pub looked_in : ltb x max_sites ≡ true → (t : T.Trail) → trail t.found t.links ≡ find_in c.parents x → Ok t ≡ looked (find c x)
+  pub looked_in : x < max_sites → {t : T.Trail} → trail t.found t.links ≡ find_in c.parents x → Ok t ≡ looked (find c x)
   unfolding find
-  looked_in h t e = simp h (ap (λ (u : Trail). Ok (trail_of u)) e)
+  looked_in h e = simp (lt-ltb x max_sites h) (ap (λ (u : Trail). Ok (trail_of u)) e)
 
-  pub sought_out : ltb x max_sites ≡ false → ◌≡◌ {A = Classes × Answer (Maybe ℕ)} (c, Err (Unknown x)) (sought c x)
+  pub sought_out : {e : Refusal} → Outside x e → ◌≡◌ {A = Classes × Answer (Maybe ℕ)} (c, Err e) (sought c x)
   unfolding find_mut
-  sought_out h = simp h
+  sought_out h = rw (h.0, le-ltb x max_sites h.1)
 
-  pub sought_in : ltb x max_sites ≡ true → {q : List ℕ} {f : Maybe ℕ} → ◌≡◌ {A = List ℕ × Maybe ℕ} (q, f) (flatten_in c.parents x)
+  pub sought_in : x < max_sites → {q : List ℕ} {f : Maybe ℕ} → ◌≡◌ {A = List ℕ × Maybe ℕ} (q, f) (flatten_in c.parents x)
       → ◌≡◌ {A = Classes × Answer (Maybe ℕ)} (classes q c.ranks c.count, Ok f) (sought c x)
   unfolding find_mut flattened
-  sought_in h e = simp h (ap (λ (g : List ℕ × Maybe ℕ). (classes g.0 c.ranks c.count, Ok g.1)) e)
+  sought_in h e = simp (lt-ltb x max_sites h) (ap (λ (g : List ℕ × Maybe ℕ). (classes g.0 c.ranks c.count, Ok g.1)) e)
 
 -- ---- joins
 
@@ -120,41 +124,41 @@ pub rooted_lt : (c : Classes) (x : ℕ) → x < max_sites → (s : Rooted) → s
 rooted_lt c x h s e = subst⁻¹ (λ (s : Rooted). s.root < max_sites) e (root_lt c x h)
 
 module _ (c : Classes) (x y : ℕ) where
-  pub merge_x : ltb x max_sites ≡ false → ◌≡◌ {A = Classes × Answer Bool} (c, Err (Unknown x)) (joined c x y)
+  pub merge_x : {e : Refusal} → Outside x e → ◌≡◌ {A = Classes × Answer Bool} (c, Err e) (joined c x y)
   unfolding merge
-  merge_x h = simp h
+  merge_x h = rw (h.0, le-ltb x max_sites h.1)
 
-  module _ (hx : ltb x max_sites ≡ true) where
-    pub merge_y : ltb y max_sites ≡ false → ◌≡◌ {A = Classes × Answer Bool} (c, Err (Unknown y)) (joined c x y)
+  module _ (hx : x < max_sites) where
+    pub merge_y : {e : Refusal} → Outside y e → ◌≡◌ {A = Classes × Answer Bool} (c, Err e) (joined c x y)
     unfolding merge
-    merge_y h = simp (hx, h)
+    merge_y h = rw h.0 (simp (lt-ltb x max_sites hx, le-ltb y max_sites h.1))
 
-    module _ (hy : ltb y max_sites ≡ true) where
+    module _ (hy : y < max_sites) where
       pub merge_same : x ≡ y → ◌≡◌ {A = Classes × Answer Bool} (c, Err (Itself x)) (joined c x y)
       unfolding merge
-      merge_same e = simp (hx, hy, eq-eqb x y e)
+      merge_same e = simp (lt-ltb x max_sites hx, lt-ltb y max_sites hy, eq-eqb x y e)
 
       pub merge_done : (x ≡ y → ⊥) → (s t : Rooted) (d : Classes) → s ≡ enter c x → t ≡ enter s.after y → d ≡ link t.after s.root t.root
           → ◌≡◌ {A = Classes × Answer Bool} (d, Ok (not (eqb s.root t.root))) (joined c x y)
       unfolding merge unite two_classes
-      merge_done n s t d es et ed = simp (hx, hy, ne_eqb x y n) (rw (ed, et, es))
+      merge_done n s t d es et ed = simp (lt-ltb x max_sites hx, lt-ltb y max_sites hy, ne_eqb x y n) (rw (ed, et, es))
 
 -- ---- sameness
 
 module _ (c : Classes) (x y : ℕ) where
-  pub same_x : ltb x max_sites ≡ false → Err (Unknown x) ≡ same (in_same_set c x y)
+  pub same_x : {e : Refusal} → Outside x e → Err e ≡ same (in_same_set c x y)
   unfolding in_same_set
-  same_x h = simp h
+  same_x h = rw (h.0, le-ltb x max_sites h.1)
 
-  module _ (hx : ltb x max_sites ≡ true) where
-    pub same_y : ltb y max_sites ≡ false → Err (Unknown y) ≡ same (in_same_set c x y)
+  module _ (hx : x < max_sites) where
+    pub same_y : {e : Refusal} → Outside y e → Err e ≡ same (in_same_set c x y)
     unfolding in_same_set
-    same_y h = simp (hx, h)
+    same_y h = rw h.0 (simp (lt-ltb x max_sites hx, le-ltb y max_sites h.1))
 
-    module _ (hy : ltb y max_sites ≡ true) where
+    module _ (hy : y < max_sites) where
       of_two : (f g : Maybe ℕ) → (find_in c.parents x).found ≡ f → (find_in c.parents y).found ≡ g → Ok (is_at f g) ≡ same (in_same_set c x y)
       unfolding in_same_set
-      of_two f g e o = simp (hx, hy, e, o)
+      of_two f g e o = simp (lt-ltb x max_sites hx, lt-ltb y max_sites hy, e, o)
 
       found : (p : List ℕ) (z : ℕ) (t : T.Trail) (f : Maybe ℕ) → trail t.found t.links ≡ find_in p z → t.found ≡ f → (find_in p z).found ≡ f
       found p z t f q e = sym (ap (λ (t : Trail). t.found) q) ∙ e
@@ -162,6 +166,14 @@ module _ (c : Classes) (x y : ℕ) where
       pub same_no : (t : T.Trail) → trail t.found t.links ≡ find_in c.parents x → t.found ≡ None → Ok false ≡ same (in_same_set c x y)
       same_no t q e = of_two None (find_in c.parents y).found (found c.parents x t None q e) refl
 
-      pub same_two : (t u : T.Trail) (a : ℕ) (g : Maybe ℕ) → trail t.found t.links ≡ find_in c.parents x → t.found ≡ Some a
-          → trail u.found u.links ≡ find_in c.parents y → u.found ≡ g → Ok (is_at (Some a) g) ≡ same (in_same_set c x y)
-      same_two t u a g q e r o = of_two (Some a) g (found c.parents x t (Some a) q e) (found c.parents y u g r o)
+      pub same_two : (t u : T.Trail) (a : ℕ) → trail t.found t.links ≡ find_in c.parents x → t.found ≡ Some a
+          → trail u.found u.links ≡ find_in c.parents y → Ok (option_eq eqb u.found (Some a)) ≡ same (in_same_set c x y)
+      same_two t u a q e r = ap Ok (go u.found) ∙ of_two (Some a) u.found (found c.parents x t (Some a) q e) (found c.parents y u u.found r refl)
+        where
+          go : (g : Maybe ℕ) → option_eq eqb g (Some a) ≡ is_at (Some a) g
+          go (Some b) = by (ℕ_discrete a b)
+            where
+              by : Dec (a ≡ b) → eqb b a ≡ eqb a b
+              by (yes h) = rw h refl
+              by (no d) = ne_eqb b a (λ h. d (sym h)) ∙ sym (ne_eqb a b d)
+          go None = refl

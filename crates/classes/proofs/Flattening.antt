@@ -1,8 +1,7 @@
 -- A site hung under its representative, and an updating find, keep a state well made and every find's answer, and make no way longer.
 use mathlib.Core.Path.{◌≡◌, refl, sym, ◌∙◌, ap, subst, subst⁻¹}
-use mathlib.Core.Bool.{Bool, true, false}
 use mathlib.Core.List.{List}
-use Prim.Native.Nat.{ℕ, zero, suc, ◌+◌, ◌^◌, ◌≤◌, ◌<◌}
+use Prim.Native.Nat.{ℕ, zero, suc, ◌^◌, ◌≤◌, ◌<◌}
 use native.Mathlib.Omega.{arith}
 use native.Mathlib.Decide.{ℕ_discrete}
 use lib.ListN.{set, length-set}
@@ -11,15 +10,13 @@ use lib.Dec.{ltb}
 use borrow.Author.Tests.{lt-ltb}
 use Rattle.std.specs.declared.option.Option.TheVariants.{None, Some}
 use Rattle.paper.specs.Answered.{Maybe}
-use Rattle.std.specs.Prelude.{if◌then◌else◌}
-use Rattle.paper.specs.Words.{has}
 use Rattle.paper.specs.Numbers.{max_sites}
-use Rattle.paper.specs.Classes.{up, find_in, passed, hung, flat_to, flat, flatten_in, Trail, is_at}
+use Rattle.paper.specs.Classes.{up, find_in, passed, hung, flat_to, flat, flatten_in, is_at}
 use Rattle.classes.specs.Well.{Leads, Well, rank, members, has_up, in_class}
 use Rattle.classes.proofs.Counting.{cnt_ext}
 use Rattle.classes.proofs.Leading.{find_leads, find_out, find_none, lead_by, lead_lt, one_root, is_root, reaches}
 use Rattle.classes.proofs.Linked.{Case, outside, lone, led, case}
-use Rattle.classes.proofs.Updating.{find_led, still, hung_step, hung_none, flat_up}
+use Rattle.classes.proofs.Updating.{find_led, still, hung_step, hung_none}
 
 -- the site x, which leads to the root r by a link or more, goes directly under r
 module _ (p R : List ℕ) (c : ℕ) (W : Well p R c) (n x r : ℕ) (t : Leads (suc n) p x r) where

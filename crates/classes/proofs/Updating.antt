@@ -15,7 +15,7 @@ use Rattle.paper.specs.Answered.{Maybe}
 use Rattle.std.specs.Prelude.{if◌then◌else◌}
 use Rattle.paper.specs.Words.{any, has}
 use Rattle.paper.specs.Numbers.{max_sites}
-use Rattle.paper.specs.Classes.{up, Trail, trail, seek, find_in, passed, hung, flat_to, flat, flatten_in}
+use Rattle.paper.specs.Classes.{up, Trail, seek, find_in, passed, hung, flat_to, flat, flatten_in}
 use Rattle.classes.specs.Well.{Leads}
 use Rattle.classes.proofs.Steps.{seek_out, seek_none, seek_root, seek_step}
 use Rattle.classes.proofs.Leading.{find_out, find_none, one_root, is_root, lead_by, lead_lt}

@@ -3,14 +3,15 @@
 // (`class_removal` takes classes apart. `class_struct` has the same calls on a struct, by value and lent by reference.)
 #![tactic(auto)]
 
-ghost use Rattle.std.specs.Prelude.{◌≡◌, List, ℕ, ◌<◌};
+ghost use Rattle.std.specs.Prelude.{◌≡◌, List, ℕ, ◌<◌, ◌≤◌, OnOk, IfErr};
+ghost use Rattle.paper.specs.declared.Refusal.TheVariants.{Unknown};
 ghost use Rattle.paper.specs.Numbers.{max_sites};
 ghost use Rattle.paper.specs.Classes as C;
 ghost use Rattle.classes.specs.Well.{Leads};
 ghost use Rattle.classes.specs.Answers.{root_in, rep, looked, sought, joined, same};
 
 use paper::{Refusal, SITES};
-use widths::size16;
+use std::mem;
 
 // The parent of a site that was never joined.
 pub const NEVER: u16 = SITES as u16;
@@ -38,19 +39,30 @@ pub fn clear_in(parents: &mut [u16; SITES], ranks: &mut [u8; SITES], count: &mut
     *count = 0;
 }
 
+// "In a class call the first site number of 1,024 or more is 2, before all else."
+fn known(x: u16) -> Result<(), Refusal>
+    ensures ok { OnOk result (x < max_sites) }
+    ensures err { IfErr result (λ e. (e ≡ Unknown x) × (max_sites ≤ x)) }
+{
+    if SITES <= usize::from(x) {
+        return Err(Refusal::Unknown { site: x });
+    }
+    Ok(())
+}
+
 // The root of x's class, with the links on the way to it; where there is none, no links.
 fn trail_in(parents: &[u16; SITES], x: u16) -> Trail
     ensures { C.trail result.found result.links ≡ C.find_in parents.now x }
 {
+    let none = Trail {
+        found: None,
+        links: 0,
+    };
     let mut at = x;
-    let mut links: u16 = 0;
-    while links < NEVER {
-        let i = size16(at);
+    for links in 0..NEVER {
+        let i = usize::from(at);
         if SITES <= i {
-            return Trail {
-                found: None,
-                links: 0,
-            };
+            return none;
         }
         let up = parents[i];
         if up == at {
@@ -60,12 +72,8 @@ fn trail_in(parents: &[u16; SITES], x: u16) -> Trail
             };
         }
         at = up;
-        links += 1;
     }
-    Trail {
-        found: None,
-        links: 0,
-    }
+    none
 }
 
 // Hangs the sites on the way from x, n links long, directly under the root r. The last of them hangs there already.
@@ -75,13 +83,8 @@ fn hang(parents: &mut [u16; SITES], x: u16, r: u16, n: u16)
         parents.new ≡ C.hung before (C.passed n before x) r }
 {
     let mut at = x;
-    let mut left = n;
-    while 1 < left {
-        let i = size16(at);
-        let up = parents[i];
-        parents[i] = r;
-        at = up;
-        left -= 1;
+    for _ in 1..n {
+        at = mem::replace(&mut parents[usize::from(at)], r);
     }
 }
 
@@ -90,10 +93,7 @@ pub fn flatten_in(parents: &mut [u16; SITES], x: u16) -> Option<u16>
     ensures { (parents.new, result) ≡ C.flatten_in parents.old x }
 {
     let t = trail_in(parents, x);
-    let f = t.found;
-    let Some(r) = f else {
-        return None;
-    };
+    let r = t.found?;
     hang(parents, x, r, t.links);
     Some(r)
 }
@@ -102,20 +102,13 @@ pub fn flatten_in(parents: &mut [u16; SITES], x: u16) -> Option<u16>
 pub fn rep_in(parents: &[u16; SITES], x: u16) -> u16
     ensures { result ≡ rep parents.now x }
 {
-    let t = trail_in(parents, x);
-    let f = t.found;
-    let Some(r) = f else {
-        return x;
-    };
-    r
+    trail_in(parents, x).found.unwrap_or(x)
 }
 
 pub fn find_in(parents: &[u16; SITES], x: u16) -> Result<Trail, Refusal>
     ensures { (R : List ℕ) (n : ℕ) → result ≡ looked (C.find (C.classes parents.now R n) x) }
 {
-    if SITES <= size16(x) {
-        return Err(Refusal::Unknown { site: x });
-    }
+    known(x)?;
     Ok(trail_in(parents, x))
 }
 
@@ -125,22 +118,8 @@ pub fn find_mut_in(parents: &mut [u16; SITES], x: u16) -> Result<Option<u16>, Re
         let after = C.classes parents.new R n in
         (after, result) ≡ sought before x }
 {
-    if SITES <= size16(x) {
-        return Err(Refusal::Unknown { site: x });
-    }
+    known(x)?; // and nothing is moved
     Ok(flatten_in(parents, x))
-}
-
-fn more(n: u16) -> u16
-    ensures { result ≡ C.one_more C.most_count n }
-{
-    if n < u16::MAX { n + 1 } else { n }
-}
-
-fn higher(n: u8) -> u8
-    ensures { result ≡ C.one_more C.most_rank n }
-{
-    if n < u8::MAX { n + 1 } else { n }
 }
 
 // The root of x's class; a site that was never joined becomes a class of its own.
@@ -150,13 +129,11 @@ fn enter(parents: &mut [u16; SITES], ranks: &mut [u8; SITES], count: &mut u16, x
         let after = C.classes parents.new ranks.new count.new in
         root_in after result ≡ C.enter before x }
 {
-    let f = flatten_in(parents, x);
-    let Some(root) = f else {
-        let i = size16(x);
+    let Some(root) = flatten_in(parents, x) else {
+        let i = usize::from(x);
         parents[i] = x;
         ranks[i] = 0;
-        let n = *count;
-        *count = more(n);
+        *count = count.saturating_add(1);
         return x;
     };
     root
@@ -173,8 +150,8 @@ fn link(parents: &mut [u16; SITES], ranks: &mut [u8; SITES], a: u16, b: u16)
     if a == b {
         return;
     }
-    let i = size16(a);
-    let j = size16(b);
+    let i = usize::from(a);
+    let j = usize::from(b);
     let s = ranks[i];
     let t = ranks[j];
     if s < t {
@@ -183,7 +160,7 @@ fn link(parents: &mut [u16; SITES], ranks: &mut [u8; SITES], a: u16, b: u16)
     }
     parents[j] = a;
     if s == t {
-        ranks[i] = higher(s);
+        ranks[i] = s.saturating_add(1);
     }
 }
 
@@ -198,12 +175,8 @@ pub fn merge_in(
         let after = C.classes parents.new ranks.new count.new in
         (after, result) ≡ joined before x y }
 {
-    if SITES <= size16(x) {
-        return Err(Refusal::Unknown { site: x });
-    }
-    if SITES <= size16(y) {
-        return Err(Refusal::Unknown { site: y });
-    }
+    known(x)?;
+    known(y)?;
     if x == y {
         return Err(Refusal::Itself { site: x });
     }
@@ -216,21 +189,10 @@ pub fn merge_in(
 pub fn in_same_set_in(parents: &[u16; SITES], x: u16, y: u16) -> Result<bool, Refusal>
     ensures { (R : List ℕ) (n : ℕ) → result ≡ same (C.in_same_set (C.classes parents.now R n) x y) }
 {
-    if SITES <= size16(x) {
-        return Err(Refusal::Unknown { site: x });
-    }
-    if SITES <= size16(y) {
-        return Err(Refusal::Unknown { site: y });
-    }
-    let t = trail_in(parents, x);
-    let f = t.found;
-    let Some(a) = f else {
+    known(x)?;
+    known(y)?;
+    let Some(a) = trail_in(parents, x).found else {
         return Ok(false);
     };
-    let u = trail_in(parents, y);
-    let g = u.found;
-    let Some(b) = g else {
-        return Ok(false);
-    };
-    Ok(a == b)
+    Ok(trail_in(parents, y).found == Some(a))
 }
