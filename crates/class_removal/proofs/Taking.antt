@@ -8,30 +8,22 @@ use native.Mathlib.Decide.{dec_lt}
 use native.Mathlib.Numerals.{add-one}
 use lib.ListN.{length, get_or, set, take, drop, length-append, length-drop, get_or-append}
 use lib.Seq.{set_at, drop-cons, append_snoc, get_or-append-add, take_at, drop-length}
-use lib.Dec.{eqb, ltb, leb}
+use lib.Dec.{ltb, leb}
 use borrow.Author.Tests.{le-leb, lt-leb}
 use Rattle.std.specs.declared.result.Result.TheVariants.{Err, Ok}
 use Rattle.std.specs.declared.option.Option.TheVariants.{None, Some}
-use Rattle.paper.specs.Answered.{Maybe}
+use Rattle.paper.specs.Answered.{Maybe, Answer}
+use Rattle.paper.specs.declared.Refusal.{Refusal}
 use Rattle.paper.specs.declared.Refusal.TheVariants.{Unknown}
 use Rattle.std.specs.Prelude.{if◌then◌else◌}
 use Rattle.paper.specs.Numbers.{max_sites, Outcome, done, ◌>>=◌, demand}
-use Rattle.paper.specs.Classes.{Classes, classes, is_at, flatten_in, flattened, Swept, sweep, unjoin, Removed, remove_at, remove_set_of}
+use Rattle.paper.specs.Classes.{Classes, classes, find_mut, is_at, flatten_in, flattened, Swept, sweep, unjoin, Removed, remove_at, remove_set_of}
 use Rattle.classes.specs.Called.{Taken}
 use Rattle.classes.specs.declared.Untaken.TheVariants as K
-use Rattle.classes.specs.Answers.{noted, over, Sweeps, taken, taken_by, taken_if}
+use Rattle.classes.specs.Answers.{noted, over, Sweeps, taken, taken_by, taken_if, sought, sought_by}
 use Rattle.class_removal.specs.Listed.{swept_on, sweep_of, remove_by, remove_with, remove_of, taken_of}
 use Rattle.classes.specs.Well.{bit}
 use Rattle.classes.proofs.Updating.{update_out}
-
--- ---- note
-
-module _ (m : List ℕ) (n r y : ℕ) (f : Maybe ℕ) where
-  pub note_none : f ≡ None → ◌≡◌ {A = List ℕ × ℕ} (m, n) (noted m n (is_at f (Some r)) y)
-  note_none e = sym (ap (λ (g : Maybe ℕ). noted m n (is_at g (Some r)) y) e)
-
-  pub note_at : (s : ℕ) (b : Bool) → f ≡ Some s → eqb s r ≡ b → noted m n b y ≡ noted m n (is_at f (Some r)) y
-  note_at s b e q = ap (λ (c : Bool). noted m n c y) (sym q) ∙ sym (ap (λ (g : Maybe ℕ). noted m n (is_at g (Some r)) y) e)
 
 -- ---- sweep
 
@@ -161,31 +153,37 @@ unjoin_end p m i h q = sym (ap (λ (j : ℕ). unjoin p (drop j m)) h ∙ ap (unj
 
 -- ---- the whole, whichever sites are looked at
 
-module _ (w : List ℕ → ℕ → Swept) (c : Classes) (m : List ℕ) (x : ℕ) where
-  pub taken_out : ltb x max_sites ≡ false → ◌≡◌ {A = Classes × List ℕ × Taken} (c, m, (Err (K.Refused (Unknown x)))) (taken_by c m (remove_with w c x))
-  unfolding remove_with
-  taken_out h = simp h
+-- what follows the updating find on the site that is named
+abbrev then_swept : (List ℕ → ℕ → Swept) → List ℕ → Classes × Answer (Maybe ℕ) → Classes × List ℕ × Taken
+then_swept w m (d, Ok f) = taken_by d m (done (remove_by w d f))
+then_swept w m (d, Err e) = (d, m, Err (K.Refused e))
 
-  module _ (h : ltb x max_sites ≡ true) {q : List ℕ} {f : Maybe ℕ} (e : ◌≡◌ {A = List ℕ × Maybe ℕ} (q, f) (flatten_in c.parents x)) where
-    d : Classes
-    d = classes q c.ranks c.count
+module _ (w : List ℕ → ℕ → Swept) (c : Classes) (m : List ℕ) (x : ℕ) {d : Classes} {a : Answer (Maybe ℕ)} (e : ◌≡◌ {A = Classes × Answer (Maybe ℕ)} (d, a) (sought c x)) where
+  by : {b : Answer (Maybe ℕ)} → a ≡ b → then_swept w m (d, b) ≡ taken_by c m (remove_with w c x)
+  unfolding remove_with find_mut
+  by o = sym (ap (λ (b : Answer (Maybe ℕ)). then_swept w m (d, b)) o) ∙ ap (then_swept w m) e ∙ go (ltb x max_sites)
+    where
+      go : (b : Bool) → then_swept w m (sought_by c (demand b (Unknown x) >>= λ _. done (flattened c x)))
+          ≡ taken_by c m (demand b (Unknown x) >>= λ _. (let h = flattened c x in done (remove_by w h.after h.found)))
+      go true = go' (flattened c x).found
+        where
+          go' : (f : Maybe ℕ) → taken_by (flattened c x).after m (done (remove_by w (flattened c x).after f)) ≡ taken_by c m (done (remove_by w (flattened c x).after f))
+          go' f = refl
+      go false = refl
 
-    by : (g : Maybe ℕ) → f ≡ g → taken_by c m (done (remove_by w d g)) ≡ taken_by c m (remove_with w c x)
-    unfolding remove_with flattened d
-    by g o = simp h (rw (← o) (ap (λ (u : List ℕ × Maybe ℕ). taken_by c m (done (remove_by w (classes u.0 c.ranks c.count) u.1))) e))
+  pub taken_out : {r : Refusal} → a ≡ Err r → ◌≡◌ {A = Classes × List ℕ × Taken} (d, m, Err (K.Refused r)) (taken_by c m (remove_with w c x))
+  taken_out o = by o
 
-    pub taken_none : f ≡ None → ◌≡◌ {A = Classes × List ℕ × Taken} (classes q c.ranks c.count, m, Ok 0) (taken_by c m (remove_with w c x))
-    unfolding d
-    taken_none o = by None o
+  pub taken_none : a ≡ Ok None → ◌≡◌ {A = Classes × List ℕ × Taken} (d, m, Ok 0) (taken_by c m (remove_with w c x))
+  taken_none o = by o
 
-    pub taken_some : (r : ℕ) (p₂ m₂ p₃ : List ℕ) (n l : ℕ) → f ≡ Some r → Sweeps (w q r) m p₂ m₂ n
-        → (p₃ ≡ unjoin p₂ (take n m₂)) × (l ≡ c.count - length (take n m₂))
-        → ◌≡◌ {A = Classes × List ℕ × Taken} (classes p₃ c.ranks l, m₂, Ok n) (taken_by c m (remove_with w c x))
-    unfolding d
-    taken_some r p₂ m₂ p₃ n l o S u =
-        let p : p₃ ≡ unjoin (w q r).parents (w q r).members = u.0 ∙ (rw (S.parents, part_is S)) in
-        let l' : l ≡ c.count - length (w q r).members = u.1 ∙ ap (λ (y : List ℕ). c.count - length y) (part_is S) in
-        rw (p, l', S.members, S.number) (by (Some r) o)
+  pub taken_some : {r n l : ℕ} {p₂ m₂ p₃ : List ℕ} → a ≡ Ok (Some r) → Sweeps (w d.parents r) m p₂ m₂ n
+      → (p₃ ≡ unjoin p₂ (take n m₂)) × (l ≡ d.count - length (take n m₂))
+      → ◌≡◌ {A = Classes × List ℕ × Taken} (classes p₃ d.ranks l, m₂, Ok n) (taken_by c m (remove_with w c x))
+  taken_some {r} {n} {l} {p₂} {m₂} {p₃} o S u =
+      let p : p₃ ≡ unjoin (w d.parents r).parents (w d.parents r).members = u.0 ∙ (rw (S.parents, part_is S)) in
+      let l' : l ≡ d.count - length (w d.parents r).members = u.1 ∙ ap (λ (y : List ℕ). d.count - length y) (part_is S) in
+      rw (p, l', S.members, S.number) (by o)
 
 -- all sites, and the listed ones
 pub remove_is_with : (c : Classes) (x : ℕ) → remove_with (sweep max_sites) c x ≡ remove_set_of c x

@@ -9,18 +9,14 @@ ghost use Rattle.classes.specs.Answers.{noted, Sweeps, taken};
 ghost use Rattle.class_removal.specs.Listed.{sweep_of, taken_of};
 
 use classes::{NEVER, Untaken};
-use paper::{Refusal, SITES};
-use widths::size16;
+use paper::SITES;
 
 // Lists y in members, after the n that are there, where r was found: how many there are then.
 fn note(members: &mut [u16], n: usize, f: Option<u16>, r: u16, y: u16) -> usize
     requires { n < length members.old }
     ensures { (members.new, result) ≡ noted members.old n (C.is_at f (Some r)) y }
 {
-    let Some(s) = f else {
-        return n;
-    };
-    if s != r {
+    if f != Some(r) {
         return n;
     }
     members[n] = y;
@@ -33,12 +29,10 @@ fn sweep(parents: &mut [u16; SITES], r: u16, members: &mut [u16]) -> usize
     ensures { let swept = C.sweep max_sites parents.old r in
         Sweeps swept members.old parents.new members.new result }
 {
-    let mut n: usize = 0;
-    let mut y: u16 = 0;
-    while y < NEVER {
+    let mut n = 0;
+    for y in 0..NEVER {
         let f = classes::flatten_in(parents, y);
         n = note(members, n, f, r, y);
-        y += 1;
     }
     n
 }
@@ -49,13 +43,10 @@ fn sweep_listed(parents: &mut [u16; SITES], r: u16, sites: &[u16], members: &mut
     ensures { let swept = sweep_of sites.now (length sites.now) parents.old r in
         Sweeps swept members.old parents.new members.new result }
 {
-    let mut n: usize = 0;
-    let mut at: usize = 0;
-    while at < sites.len() {
-        let y = sites[at];
+    let mut n = 0;
+    for &y in sites {
         let f = classes::flatten_in(parents, y);
         n = note(members, n, f, r, y);
-        at += 1;
     }
     n
 }
@@ -65,18 +56,9 @@ fn unjoin(parents: &mut [u16; SITES], members: &[u16])
     requires { (i : ℕ) → i < length members.now → get_or members.now i 0 < max_sites }
     ensures { parents.new ≡ C.unjoin parents.old members.now }
 {
-    let mut i: usize = 0;
-    while i < members.len() {
-        let j = size16(members[i]);
-        parents[j] = NEVER;
-        i += 1;
+    for &member in members {
+        parents[usize::from(member)] = NEVER;
     }
-}
-
-fn less(n: u16, m: usize) -> u16
-    ensures { result ≡ n - m }
-{
-    if m < size16(n) { n - m as u16 } else { 0 }
 }
 
 // Takes the members out of every class, and out of the count.
@@ -86,8 +68,7 @@ fn take_out(parents: &mut [u16; SITES], count: &mut u16, members: &[u16])
         (parents.new ≡ C.unjoin parents.old out) × (count.new ≡ count.old - length out) }
 {
     unjoin(parents, members);
-    let n = *count;
-    *count = less(n, members.len());
+    *count = usize::from(*count).saturating_sub(members.len()) as u16;
 }
 
 // Takes x's class apart and lists its members, ascending. A list that could not hold every site is refused first: half a class is never taken.
@@ -105,11 +86,7 @@ pub fn remove_set_of_in(
     if members.len() < SITES {
         return Err(Untaken::Short);
     }
-    if SITES <= size16(x) {
-        return Err(Untaken::Refused(Refusal::Unknown { site: x }));
-    }
-    let f = classes::flatten_in(parents, x);
-    let Some(r) = f else {
+    let Some(r) = classes::find_mut_in(parents, x)? else {
         return Ok(0);
     };
     let n = sweep(parents, r, members);
@@ -134,11 +111,7 @@ pub fn remove_listed_in(
     if members.len() < sites.len() {
         return Err(Untaken::Short);
     }
-    if SITES <= size16(x) {
-        return Err(Untaken::Refused(Refusal::Unknown { site: x }));
-    }
-    let f = classes::flatten_in(parents, x);
-    let Some(r) = f else {
+    let Some(r) = classes::find_mut_in(parents, x)? else {
         return Ok(0);
     };
     let n = sweep_listed(parents, r, sites, members);

@@ -7,6 +7,7 @@ ghost use Rattle.std.specs.Prelude.{◌≡◌, List, ℕ, ◌<◌, ◌≤◌, On
 ghost use Rattle.paper.specs.declared.Refusal.TheVariants.{Unknown};
 ghost use Rattle.paper.specs.Numbers.{max_sites};
 ghost use Rattle.paper.specs.Classes as C;
+ghost use Rattle.classes.specs.declared.Untaken.TheVariants.{Refused};
 ghost use Rattle.classes.specs.Well.{Leads};
 ghost use Rattle.classes.specs.Answers.{root_in, rep, looked, sought, joined, same};
 
@@ -28,6 +29,14 @@ pub enum Untaken {
     Refused(Refusal),
     // The list that was lent could not hold every site: nothing was looked at, and nothing is changed.
     Short,
+}
+
+impl From<Refusal> for Untaken {
+    ghost from_gives = { λ e u. u ≡ Refused e };
+
+    fn from(e: Refusal) -> Untaken {
+        Untaken::Refused(e)
+    }
 }
 
 // "Classes start empty".

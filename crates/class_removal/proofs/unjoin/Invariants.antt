@@ -1,14 +1,7 @@
-use borrow.Author.Rules.{rules}
-use Prim.Native.Nat.{◌≤◌, ◌-◌}
-use mathlib.Core.Path.{◌≡◌, refl}
-use native.Mathlib.Omega.{arith}
-use lib.ListN.{length, drop}
+use mathlib.Core.Path.{◌≡◌}
+use lib.ListN.{drop}
 use Rattle.paper.specs.Classes.{unjoin}
-use Rattle.class_removal.proofs.Taking.{unjoin_turn, unjoin_end}
 use Rattle.class_removal.proofs.unjoin.Given as goal
 
-abbrev pub invariant-loop-i : goal.invariant-loop-i
-invariant-loop-i l = (l.i ≤ length l.members) × (unjoin l.parents (drop l.i l.members) ≡ unjoin l.initial.parents l.members)
-
-abbrev pub decreases-loop-i : goal.decreases-loop-i
-decreases-loop-i l = length l.members - l.i
+abbrev pub invariant-loop-member : goal.invariant-loop-member
+invariant-loop-member l = unjoin l.parents (drop l.member-index l.members) ≡ unjoin l.initial.parents l.members
