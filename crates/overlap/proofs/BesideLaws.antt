@@ -1,24 +1,23 @@
 -- The walk over two rules side by side: the sites of the larger that were passed ascend, so the next site of the smaller is looked for after them.
 use mathlib.Core.Path.{◌≡◌, refl, sym, ap, ◌∙◌}
-use mathlib.Core.Bool.{Bool, true, false, ◌&&◌, ◌||◌, not}
+use mathlib.Core.Bool.{Bool, true, false}
 use mathlib.Core.Logic.{◌⊎◌, inl, inr, ⊎_elim}
 use mathlib.Core.Option.{Option, none, some}
-use mathlib.Core.List.{List, [], ◌∷◌}
+use mathlib.Core.List.{List}
 use Prim.Native.Nat.{ℕ, zero, suc, ◌+◌, ◌*◌, ◌-◌, ◌≤◌, ◌<◌}
 use native.Mathlib.Omega.{arith}
 use native.Mathlib.Numerals.{add-one}
-use lib.ListN.{length, get_or}
+use lib.ListN.{get_or}
 use lib.Dec.{leb}
 use borrow.Author.Tests.{leb-true, leb-false}
 use borrow.Author.Count.{below_more}
-use Rattle.std.specs.declared.option.Option.TheVariants.{None, Some}
+use Rattle.std.specs.declared.option.Option.TheVariants.{Some}
 use Rattle.paper.specs.declared.Constraint.{Constraint}
 use Rattle.paper.specs.declared.Overlap.{Overlap}
-use Rattle.paper.specs.declared.Overlap.TheVariants.{Yes, Subset}
-use Rattle.std.specs.Prelude.{if◌then◌else◌}
+use Rattle.paper.specs.declared.Overlap.TheVariants.{Yes}
 use Rattle.paper.specs.Words.{any, look}
 use Rattle.paper.specs.Sites.{same_constraint}
-use Rattle.paper.specs.Rules.{differ, other_there, no_equals, compare_with}
+use Rattle.paper.specs.Rules.{differ, other_there, compare_with}
 use Rattle.paper.proofs.Lists.{or_true}
 use Rattle.rule_words.specs.Stored.{first_constrained, constrained_word, constrained_count, run, constraint_at, constrained_at, kept_at}
 use Rattle.paper.specs.Answered.{Maybe}
@@ -32,9 +31,6 @@ never e = let z : ◌≡◌ {A = ℕ} 0 1 = cc in absurd (omega arith)
 
 pub told : (k o : Overlap) → Some k ≡ Some o → k ≡ o
 told k o e = cc
-
-pub unclear : {A : Type 0} (o : Overlap) → None ≡ Some o → A
-unclear o e = let z : ◌≡◌ {A = ℕ} 0 1 = cc in absurd (omega arith)
 
 -- ---- numbers that ascend
 abbrev pub Ascends : (ℕ → ℕ) → ℕ → Type 0

@@ -1,17 +1,18 @@
+use mathlib.Core.Path.{refl, ◌∙◌}
+use borrow.Author.Tests.{ne_eqb}
 use native.Mathlib.Omega.{arith}
-use Rattle.paper.specs.declared.Overlap.TheVariants.{No, Yes, Subset}
-use Rattle.overlap.proofs.PriorityLaws.{edge_other, edge_so}
-use borrow.Author.Rules.{rules}
+use Rattle.paper.specs.declared.Overlap.TheVariants.{No}
+use Rattle.overlap.proofs.PriorityLaws.{edge_other, edge_so, not_no}
 use Rattle.overlap.proofs.is_edge.Goals as goal
+use Rattle.overlap.proofs.is_edge.Goals.{in-No, in_default}
 
-pub returns-then-rank : goal.returns-then-rank
-returns-then-rank c = edge_other _ _ _ _ _ _ _ c.start-a.ensures.value c.start-b.ensures.value c.rank.ensures c.rank-2.ensures (omega arith) (omega arith) c.if-rank.true
+pub returns-after-matches : goal.returns-after-matches
+returns-after-matches c =
+    let so = edge_so _ _ _ _ _ _ _ c.start.ensures.value c.start-2.ensures.value c.rank.ensures c.rank-2.ensures (omega arith) (omega arith) c.if-rank.true c.may_overlap.result in
+    elim c.match-matches.branch [
+      | in-No w ↦ rw w.matches-is (so No c.may_overlap.ensures w.in-No.is)
+      | in_default w ↦ rw w.matches-is (not_no c.may_overlap.result w.in_default.not-No ∙ so c.may_overlap.result c.may_overlap.ensures refl)
+    ]
 
-pub returns-in-No : goal.returns-in-No
-returns-in-No c = edge_so _ _ _ _ _ _ _ c.start-a.ensures.value c.start-b.ensures.value c.rank.ensures c.rank-2.ensures (omega arith) (omega arith) c.if-rank.false _ No c.may_overlap-o.ensures c.in-No.is
-
-pub returns-in-Yes : goal.returns-in-Yes
-returns-in-Yes c = edge_so _ _ _ _ _ _ _ c.start-a.ensures.value c.start-b.ensures.value c.rank.ensures c.rank-2.ensures (omega arith) (omega arith) c.if-rank.false _ Yes c.may_overlap-o.ensures c.in-Yes.is
-
-pub returns-in-Subset : goal.returns-in-Subset
-returns-in-Subset c = edge_so _ _ _ _ _ _ _ c.start-a.ensures.value c.start-b.ensures.value c.rank.ensures c.rank-2.ensures (omega arith) (omega arith) c.if-rank.false _ Subset c.may_overlap-o.ensures c.in-Subset.is
+pub returns-else-rank : goal.returns-else-rank
+returns-else-rank c = rw (ne_eqb _ _ c.if-rank.false) (edge_other _ _ _ _ _ _ _ c.start.ensures.value c.start-2.ensures.value c.rank.ensures c.rank-2.ensures (omega arith) (omega arith) c.if-rank.false)

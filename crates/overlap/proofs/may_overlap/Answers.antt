@@ -1,5 +1,4 @@
 use Rattle.overlap.proofs.AnswerLaws.{first_walked, second_walked}
-use borrow.Author.Rules.{rules}
 use Rattle.overlap.proofs.may_overlap.Goals as goal
 
 pub returns-then-n-m : goal.returns-then-n-m

@@ -1,13 +1,10 @@
-use mathlib.Core.Path.{sym}
-use Rattle.rule_words.proofs.PackLaws.{other_head, other_second}
-use Rattle.overlap.proofs.AnswerLaws.{same_last}
+use borrow.Author.Rules.{rules}
+use borrow.Author.Tests.{tests}
+use Rattle.overlap.proofs.AnswerLaws.{same_is}
 use Rattle.overlap.proofs.same.Goals as goal
 
-pub returns-then-a-d : goal.returns-then-a-d
-returns-then-a-d c = sym (other_head _ _ _ _ _ _ c.if-a-d.true)
-
 pub returns-then-b-e : goal.returns-then-b-e
-returns-then-b-e c = sym (other_second _ _ _ _ _ _ c.if-b-e.true)
+returns-then-b-e c = rw (same_is _ _ _ _ _ _) (search (tests, rules))
 
-pub returns : goal.returns
-returns c = same_last _ _ _ _ _ _ c.if-a-d.false c.if-b-e.false
+pub returns-else-b-e : goal.returns-else-b-e
+returns-else-b-e c = rw (same_is _ _ _ _ _ _) (search (tests, rules))

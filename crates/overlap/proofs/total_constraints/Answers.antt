@@ -1,5 +1,4 @@
 use Rattle.overlap.proofs.AnswerLaws.{total_is}
-use borrow.Author.Rules.{rules}
 use Rattle.overlap.proofs.total_constraints.Goals as goal
 
 pub returns : goal.returns
