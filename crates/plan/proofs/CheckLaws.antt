@@ -19,11 +19,12 @@ use Rattle.paper.specs.Rules.{may_overlap, total, rank, is_yes_told, is_subset_t
 use Rattle.rule_words.specs.Stored.{run, base, kept_at, kept_in, kept_first}
 use Rattle.paper.specs.declared.Break.TheVariants.{Edge, Mask, Order}
 use Rattle.plan.specs.Answered.{Judged}
+use Rattle.plan.specs.declared.Fault.{Fault}
 use Rattle.plan.specs.declared.Fault.TheVariants.{Bad, WrongLength}
 use Rattle.paper.specs.Priorities.{proposed, rule, level}
 use Rattle.plan.specs.Plans.{has_edge, has_mask, loses_order, broken, told, first_of, bad_pair, first_bad, check}
-use Rattle.plan.specs.Lent.{set_in, under, is_refused}
-use Rattle.plan.proofs.Tools.{apart, of_none, of_some, none_of, some_of}
+use Rattle.plan.specs.Lent.{set_in, under}
+use Rattle.plan.proofs.Tools.{of_none, of_some, none_of, some_of}
 use Rattle.plan.proofs.Checked.{pair_some}
 use Rattle.plan.proofs.Mended.{rank_back, priority_is, level_is, answer_is, total_is}
 
@@ -200,35 +201,32 @@ module _ (g h : Set) (i j : ℕ) (l : i < j) where
 -- ---- the first of many
 
 abbrev pub Tells : (ℕ → Option Judged) → Type 0
-Tells f = (k : ℕ) (v : Judged) → f k ≡ some v → is_refused v ≡ true
+Tells f = (k : ℕ) (v : Judged) → f k ≡ some v → v ≡ Ok tt → ⊥
 
 pub pair_tells : (g h : Set) (i : ℕ) → Tells (bad_pair g h i)
-pair_tells g h i k v e = let w = pair_some g h i k v e in let q = w.1 in rw q refl
+pair_tells g h i k v e q = let w = pair_some g h i k v e in let z : Err (Bad w.0 i k) ≡ Ok tt = sym w.1 ∙ q in cc
 
 pub row_tells : (g h : Set) (n : ℕ) → Tells (λ i. first_of n (bad_pair g h i))
 row_tells g h n k v e = let w = some_of n (bad_pair g h k) v e in pair_tells g h k w.0 v w.2
 
 module _ (f : ℕ → Option Judged) (T : Tells f) where
-  pub first_on : (k : ℕ) (v : Judged) (t : Bool) → v ≡ or_else (f k) (Ok tt) → t ≡ is_refused v → t ≡ false → first_of k f ≡ none → first_of (k + 1) f ≡ none
-  first_on k v t e p x o = let z = add-one k in rw z (of_none (suc k) f (λ m l. at m l (either m l)))
+  pub first_on : (k : ℕ) → Ok tt ≡ or_else (f k) (Ok tt) → first_of k f ≡ none → first_of (k + 1) f ≡ none
+  first_on k e o = let z = add-one k in rw z (of_none (suc k) f (λ m l. at m l (ℕ_discrete m k)))
     where
       here : (q : Option Judged) → f k ≡ q → f k ≡ none
       here none r = r
-      here (some u) r = let y : v ≡ u = e ∙ ap (λ q. or_else q (Ok tt)) r in absurd (apart (rw y (T k u r)) (sym p ∙ x))
-
-      either : (m : ℕ) → m < suc k → Dec (m ≡ k)
-      either m l = ℕ_discrete m k
+      here (some u) r = absurd (T k u r (sym (e ∙ ap (λ q. or_else q (Ok tt)) r)))
 
       at : (m : ℕ) → m < suc k → Dec (m ≡ k) → f m ≡ none
       at m l (yes q) = ap f q ∙ here (f k) refl
       at m l (no q) = none_of k f o m (omega arith)
 
-  pub first_here : (n k : ℕ) (v : Judged) (t : Bool) → k < n → v ≡ or_else (f k) (Ok tt) → t ≡ is_refused v → t ≡ true → first_of k f ≡ none → v ≡ or_else (first_of n f) (Ok tt)
-  first_here n k v t l e p x o = go (f k) refl
+  pub first_here : (n k : ℕ) (v : Fault) → k < n → Err v ≡ or_else (f k) (Ok tt) → first_of k f ≡ none → Err v ≡ or_else (first_of n f) (Ok tt)
+  first_here n k v l e o = go (f k) refl
     where
-      go : (q : Option Judged) → f k ≡ q → v ≡ or_else (first_of n f) (Ok tt)
-      go none r = let y : v ≡ (Ok tt) = e ∙ ap (λ q. or_else q (Ok tt)) r in let z : is_refused v ≡ false = rw y refl in absurd (apart x (p ∙ z))
-      go (some u) r = let y : v ≡ u = e ∙ ap (λ q. or_else q (Ok tt)) r in let s = of_some n f k u l r (none_of k f o) in y ∙ rw s refl
+      go : (q : Option Judged) → f k ≡ q → Err v ≡ or_else (first_of n f) (Ok tt)
+      go none r = let y : Err v ≡ (Ok tt) = e ∙ ap (λ q. or_else q (Ok tt)) r in cc
+      go (some u) r = let s = of_some n f k u l r (none_of k f o) in e ∙ (ap (λ q. or_else q (Ok tt)) r ∙ rw s refl)
 
   pub first_end : (n k : ℕ) → k ≤ n → n ≤ k → first_of k f ≡ none → (Ok tt) ≡ or_else (first_of n f) (Ok tt)
   first_end n k l m o = let q : k ≡ n = omega arith in let s : first_of n f ≡ none = rw q at o in rw s refl

@@ -4,7 +4,7 @@
 use mathlib.Core.Path.{◌≡◌, refl, sym, ap, ◌∙◌}
 use mathlib.Core.Option.{Option, none, some}
 use mathlib.Core.Logic.{◌↔◌}
-use mathlib.Core.List.{List, [], ◌++◌, Memᴰ}
+use mathlib.Core.List.{List, [], Memᴰ}
 use Prim.Native.Nat.{ℕ, ◌≤◌, ◌<◌}
 use native.Mathlib.Omega.{arith}
 use lib.ListN.{length, take, drop}

@@ -6,17 +6,13 @@ use mathlib.Core.List.Memᴰ
 use mathlib.Core.List.{List, [], ◌∷◌, map, Memᴰ}
 use Prim.Native.Nat.{ℕ, zero, suc, ◌≤◌, ◌<◌, ◌^◌}
 use native.Mathlib.Omega.{arith}
-use lib.ListN.{length, get_or, length-map, get_or-map, length-append}
+use lib.ListN.{length, get_or, length-map, get_or-map}
 use lib.Seq.{ext_get_or}
 use lib.Dec.{ltb}
 use borrow.Author.Tests.{ltb-true, ltb-false, not-true}
-use Rattle.paper.specs.declared.Refusal.TheVariants.{TooManyRules}
 use Rattle.paper.specs.Words.{below, zip}
-use Rattle.paper.specs.Numbers.{max_rules}
-use Rattle.paper.proofs.Outcomes.{demand_done}
-use Rattle.paper.specs.Loading.{Kept, Set, Made, begun, site_added, rule_loaded, empty_set, with_sites, with_rule, load}
+use Rattle.paper.specs.Loading.{Kept, Set}
 use Rattle.paper.proofs.Tables.{Rising}
-use Rattle.paper.proofs.Making.{load_done}
 use Rattle.paper.specs.Rules.{may_overlap, rank, is_yes_told, no_rule, is_multi}
 use Rattle.paper.specs.declared.Break.TheVariants.{Edge}
 use Rattle.paper.specs.Priorities.{Proposable, with_priority, proposed, old_priorities, rule, level, Passes, Breaks}

@@ -4,7 +4,7 @@ use mathlib.Core.Bool.{true}
 use mathlib.Core.Option.{Option, none, some}
 use mathlib.Core.Logic.{◌↔◌}
 use mathlib.Core.List.{List, [], map, Memᴰ}
-use Prim.Native.Nat.{ℕ, suc, ◌<◌, ◌^◌}
+use Prim.Native.Nat.{ℕ, suc, ◌<◌}
 use lib.ListN.{length}
 use Rattle.std.specs.declared.result.Result.TheVariants.{Err, Ok}
 use Rattle.paper.specs.Loading.{Kept, Set}

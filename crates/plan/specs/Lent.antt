@@ -7,8 +7,6 @@ use Rattle.paper.specs.Words.{keep, below}
 use Rattle.paper.specs.Numbers.{max_rules}
 use Rattle.paper.specs.Loading.{Set}
 use Rattle.rule_words.specs.Stored.{kept_first}
-use Rattle.plan.specs.Answered.{Judged}
-use Rattle.plan.specs.declared.Fault.TheVariants.{Bad, WrongLength}
 use Rattle.plan.specs.Answered.{Planned}
 use Rattle.plan.specs.declared.Unplanned.TheVariants.{Nothing, TooManyRules, NoRoom}
 use Rattle.plan.specs.declared.Hurdle.{Hurdle}
@@ -22,11 +20,6 @@ set_in ws n flags = record { term = 0; flags = flags; sites = []; kept = kept_fi
 abbrev pub under : List ℕ → ℕ → ℕ → List ℕ → Set
 under ws n flags ps = proposed (set_in ws n flags) ps
 
-abbrev pub is_refused : Judged → Bool
-is_refused (Ok _) = false
-is_refused (Err (Bad b i j)) = true
-is_refused (Err (WrongLength n)) = true
-
 -- the greatest of the old priority of rule k and of one more than the heights, in a list, of those among the first j rules that it must stand above
 unfoldable pub height_over : Set → List ℕ → ℕ → ℕ → ℕ
 height_over g high k j = greatest (level g k) (map (λ i. suc (get_or high i 0)) (keep (λ i. must_rise g i k) (below j (λ i. i))))
@@ -35,18 +28,16 @@ height_over g high k j = greatest (level g k) (map (λ i. suc (get_or high i 0))
 abbrev pub Positions : Set → ℕ → List ℕ → Type 0
 Positions g n pos = (k : ℕ) → k < n → get_or pos k 0 ≡ position g k
 
--- a table in which the first r rules, by position, have their numbers; or some number does not fit
-pub record Stepped (g : Set) (n r : ℕ) (fit : Bool) (all : List ℕ) : Type 0 where
+-- a table in which the first r rules, by position, have their heights, and each of these fits
+pub record Stepped (g : Set) (n r : ℕ) (all : List ℕ) : Type 0 where
   pub long : length all ≡ max_rules
-  pub done : fit ≡ true → (k : ℕ) → k < n → position g k < r → get_or all k 0 ≡ raised g k
-  pub small : fit ≡ true → (k : ℕ) → k < n → position g k < r → raised g k < 18446744073709551616
-  pub over : fit ≡ false → fits g ≡ false
+  pub done : (k : ℕ) → k < n → position g k < r → get_or all k 0 ≡ raised g k
+  pub small : (k : ℕ) → k < n → position g k < r → raised g k < 18446744073709551616
 
 -- and in the end
-pub record HeightsAre (g : Set) (n : ℕ) (fit : Bool) (all : List ℕ) : Type 0 where
-  pub done : fit ≡ true → (k : ℕ) → k < n → get_or all k 0 ≡ raised g k
-  pub fit_so : fit ≡ true → fits g ≡ true
-  pub over : fit ≡ false → fits g ≡ false
+pub record HeightsAre (g : Set) (n : ℕ) (all : List ℕ) : Type 0 where
+  pub done : (k : ℕ) → k < n → get_or all k 0 ≡ raised g k
+  pub fit : fits g ≡ true
 
 -- ---- obstructed pairs
 abbrev pub hurdle : Option Obstacle → Hurdle

@@ -1,7 +1,7 @@
 -- Change request [11], computed: the check, the pairs that no proposal mends, the planner. (paper/specs/Priorities.antt says what a proposal must do;
 -- proofs/Theorems.antt, that what is computed here does it.)
 use Rattle.std.specs.declared.result.Result.TheVariants.{Err, Ok}
-use Rattle.std.specs.Prelude.{Bool, true, false, ◌&&◌, ◌||◌, not, List, [], ◌∷◌, map, ℕ, zero, suc, ◌^◌, max, length, eqb, ltb, leb}
+use Rattle.std.specs.Prelude.{Bool, ◌&&◌, ◌||◌, not, List, [], ◌∷◌, map, ℕ, zero, suc, ◌^◌, max, length, eqb, ltb, leb}
 use Rattle.std.proofs.Math.Option.{Option, none, some}
 use Rattle.paper.specs.declared.Break.{Break}
 use Rattle.paper.specs.declared.Break.TheVariants.{Edge, Mask, Order}
