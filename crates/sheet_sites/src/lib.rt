@@ -18,10 +18,11 @@ use sheet_ended::may_begin;
 use sheet_reader::{Event, OpenSet, Reader, Stands, Stepped, on, outside, site_set, stop};
 use sites::{Numbered, add};
 
+// One site more.
 fn next(n: u16) -> u16
     ensures { result ≡ next_of n }
 {
-    if n < 65535 { n + 1 } else { n }
+    n.saturating_add(1)
 }
 
 // 01: 9 for a term used before, then 27, 28.
@@ -31,18 +32,15 @@ pub fn begin_frame(r: Reader, term: u16, flags: u8, room: &mut [u8], at: usize) 
         Tells r k p → Acts r k k room.old room.new at p (begin_set term flags) result }
 {
     let line = r.line;
-    let stands = r.stands;
-    if !outside(stands) {
+    if !outside(r.stands) {
         return stop(r, Refusal::Layout { line }, room, at);
     }
-    let ended = r.ended;
-    let v = may_begin(ended, term, line);
-    if let Err(why) = v {
+    if let Err(why) = may_begin(r.ended, term, line) {
         return stop(r, why, room, at);
     }
     let set = OpenSet {
-        term: term,
-        flags: flags,
+        term,
+        flags,
         sites: 0,
         rules: 0,
     };
@@ -59,8 +57,7 @@ fn site_frame(r: Reader, body: &[u8], m: &mut [u8], room: &mut [u8], at: usize) 
         whole (site_read body.now) ≡ some x → Tells r k p → Acts r k k' room.old room.new at p (a_site x) result }
 {
     let line = r.line;
-    let stands = r.stands;
-    let Some(set) = site_set(stands) else {
+    let Some(set) = site_set(r.stands) else {
         return stop(r, Refusal::Layout { line }, room, at);
     };
     match add(m, set.sites, body, line) {
@@ -68,10 +65,8 @@ fn site_frame(r: Reader, body: &[u8], m: &mut [u8], room: &mut [u8], at: usize) 
         Err(why) => stop(r, why, room, at),
         Ok(Numbered::Fresh(_)) => {
             let more = OpenSet {
-                term: set.term,
-                flags: set.flags,
                 sites: next(set.sites),
-                rules: set.rules,
+                ..set
             };
             on(r, Stands::Sites(more), Event::Site, at)
         }
@@ -88,9 +83,8 @@ pub fn site_line(r: Reader, bytes: &[u8], m: &mut [u8], room: &mut [u8], at: usi
         let body = take (length bytes.now - 1) (drop 1 bytes.now) in
         whole (site_read body) ≡ some x → Tells r k p → Acts r k k' room.old room.new at p (a_site x) result }
 {
-    let line = r.line;
-    if bytes.len() == 0 {
-        return stop(r, Refusal::Layout { line }, room, at);
+    if bytes.is_empty() {
+        return stop(r, Refusal::Layout { line: r.line }, room, at);
     }
     site_frame(r, &bytes[1..], m, room, at)
 }
