@@ -95,13 +95,9 @@ module _ (p : ℕ → Bool) (x : ℕ) (ns : List ℕ) where
     unfolding least
     lower_first e q = let o = found_nothing (least (keep p ns)) best eb q in sym (ap (λ k. found_as (least k)) (kept_on e) ∙ rw (o, least))
 
-    pub lower_low : p x ≡ true → (y : ℕ) → best ≡ Some y → x < y → Some x ≡ found_as (least (keep p (x ∷ ns)))
+    pub lower_min : p x ≡ true → (y r : ℕ) → best ≡ Some y → r ≡ min y x → Some r ≡ found_as (least (keep p (x ∷ ns)))
     unfolding least
-    lower_low e y q h = let o = found_there (least (keep p ns)) best y eb q in let z : min x y ≡ x = omega arith in sym (ap (λ k. found_as (least k)) (kept_on e) ∙ rw (o, least) (ap Some z))
-
-    pub lower_high : p x ≡ true → (y : ℕ) → best ≡ Some y → y ≤ x → Some y ≡ found_as (least (keep p (x ∷ ns)))
-    unfolding least
-    lower_high e y q h = let o = found_there (least (keep p ns)) best y eb q in let z : min x y ≡ y = omega arith in sym (ap (λ k. found_as (least k)) (kept_on e) ∙ rw (o, least) (ap Some z))
+    lower_min e y r q h = let o = found_there (least (keep p ns)) best y eb q in let z : min x y ≡ r = omega arith in sym (ap (λ k. found_as (least k)) (kept_on e) ∙ rw (o, least) (ap Some z))
 
 -- ---- an item, and all
 

@@ -12,7 +12,6 @@ ghost use Rattle.rule_hanging.specs.Seen.{names, Sees, Known};
 use paper::Item;
 use rule_children::{source_of, word_of};
 use rule_words::word;
-use widths::size16;
 
 // Is site x a child that its source is not constrained to have?
 fn hangs(
@@ -32,16 +31,13 @@ fn hangs(
     if w == 0 {
         return false;
     }
-    let source = source_of(w);
-    if 65536 <= source {
-        return true;
-    }
-    let s = source as u16;
-    let there = rule_lists::look(sites, rows, held, s);
-    let Some(row) = there else {
+    let Ok(s) = u16::try_from(source_of(w)) else {
         return true;
     };
-    let k = 3 * size16(row);
+    let Some(row) = rule_lists::look(sites, rows, held, s) else {
+        return true;
+    };
+    let k = 3 * usize::from(row);
     let c = rule_words::unpack(word(words, k), word(words, k + 1), word(words, k + 2));
     !rule_children::is_child(w, s, c)
 }
@@ -56,10 +52,7 @@ fn lower(best: Option<u16>, x: u16, yes: bool) -> Option<u16>
     let Some(y) = best else {
         return Some(x);
     };
-    if x < y {
-        return Some(x);
-    }
-    best
+    Some(y.min(x))
 }
 
 // The same for the sites that an item names.
@@ -78,10 +71,7 @@ fn lower_item(
         Known l (names (it ∷ []) ns) → best ≡ found_as (least (keep (hangs l) ns)) → result ≡ found_as (least (keep (hangs l) (names (it ∷ []) ns))) }
 {
     match it {
-        Item::Is {
-            site,
-            constraint: _,
-        } => lower(
+        Item::Is { site, .. } => lower(
             best,
             site,
             hangs(m, n, tail, sites, rows, held, words, site),
@@ -117,12 +107,9 @@ pub fn hanging(
         Known l (names (items_in items.now count) []) → result ≡ found_as (least (keep (hangs l) (names (items_in items.now count) []))) }
 {
     let mut best = None;
-    let mut i: u8 = 0;
-    while i < count {
+    for i in 0..count {
         let it = item_words::item_at(items, i);
-        let next = lower_item(m, n, tail, sites, rows, held, words, best, it);
-        best = next;
-        i += 1;
+        best = lower_item(m, n, tail, sites, rows, held, words, best, it);
     }
     best
 }
