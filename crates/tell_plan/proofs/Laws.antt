@@ -8,7 +8,7 @@ use native.Mathlib.Omega.{arith}
 use native.Mathlib.Numerals.{add-one}
 use lib.ListN.{length, get_or, drop}
 use lib.Dec.{ltb}
-use borrow.Author.Tests.{lt-ltb, le-ltb, ltb-true, ltb-false}
+use borrow.Author.Tests.{lt-ltb, le-ltb, ltb-false}
 use Rattle.std.specs.declared.result.Result.TheVariants.{Err, Ok}
 use Rattle.paper.specs.declared.Break.{Break}
 use Rattle.std.specs.Prelude.{if◌then◌else◌}
@@ -16,7 +16,7 @@ use Rattle.paper.specs.Words.{below, joined, four, eight}
 use Rattle.paper.specs.Numbers.{max_rules}
 use Rattle.paper.specs.Loading.{Kept, Set}
 use Rattle.paper.specs.Priorities.{rule}
-use Rattle.paper.specs.Text.{unended, text}
+use Rattle.paper.specs.Text.{unended}
 use Rattle.rule_words.specs.Stored.{kept_in, kept_at, base, place_at}
 use Rattle.sheet_digits.specs.Digits.{digits_of}
 use Rattle.tell_text.specs.Written.{Room, wrote, after, follows, nothing}
@@ -25,7 +25,7 @@ use Rattle.plan.specs.declared.Fault.TheVariants.{Bad, WrongLength}
 use Rattle.plan.specs.Answered.{Planned}
 use Rattle.plan.specs.declared.Unplanned.TheVariants.{Nothing, TooManyRules, NoRoom}
 use Rattle.plan.specs.declared.Hurdle.{Hurdle}
-use Rattle.plan.specs.declared.Hurdle.TheVariants.{Free, Masked, Alike}
+use Rattle.plan.specs.declared.Hurdle.TheVariants.{Free}
 use Rattle.plan.specs.Plans.{check, Obstacle, by_mask, by_sameness, obstacle, Obstructed, listed, obstructed_at, obstructed, numbers, Plan, proposal, no_proposal, plan}
 use Rattle.plan.specs.Lent.{set_in, hurdle, plan_answer, plan_over, planned, proposal_after}
 use Rattle.plan.proofs.CheckLaws.{set_length, set_rule}

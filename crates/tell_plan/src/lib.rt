@@ -15,7 +15,7 @@ ghost use Rattle.tell_plan.specs.PlanText.{set_head, rule_line, two_places, plan
 ghost use Rattle.tell_plan.specs.Lent.{rule_at, obstructed_words, none_text, judged_words};
 
 use paper::{Break, RULES};
-use plan::{Hurdle, Fault, Unplanned, check_plan, obstacle, plan};
+use plan::{Fault, Hurdle, Unplanned, check_plan, obstacle, plan};
 use rule_words::{place, start, word};
 use tell_text::{put_decimal, put_eight, put_four, put_text, put_two};
 
@@ -45,11 +45,8 @@ fn put_rules(out: &mut [u8], at: usize, words: &[u64], priorities: &[u64], n: u3
         (out.new, result) ≡ wrote (out.old, at) (joined (below n f)) }
 {
     let mut e = at;
-    let mut i: u32 = 0;
-    while i < n {
-        let next = put_rule(out, e, words, priorities, i);
-        e = next;
-        i += 1;
+    for i in 0..n {
+        e = put_rule(out, e, words, priorities, i);
     }
     e
 }
@@ -78,8 +75,7 @@ fn put_none(out: &mut [u8], at: usize, words: &[u64], n: u32, flags: u8, i: u32,
     requires { (i < j) × (j < n) }
     ensures { (out.new, result) ≡ wrote (out.old, at) (none_text (set_in words.now n flags) i j) }
 {
-    let h = obstacle(words, flags, i, j);
-    match h {
+    match obstacle(words, flags, i, j) {
         Hurdle::Free => at,
         Hurdle::Masked => put_obstructed(out, at, words, i, j, b" mask\n"),
         Hurdle::Alike => put_obstructed(out, at, words, i, j, b" same\n"),
@@ -93,11 +89,8 @@ fn put_nones_with(out: &mut [u8], at: usize, words: &[u64], n: u32, flags: u8, i
         (out.new, result) ≡ wrote (out.old, at) (joined (below n f)) }
 {
     let mut e = at;
-    let mut j = i + 1;
-    while j < n {
-        let next = put_none(out, e, words, n, flags, i, j);
-        e = next;
-        j += 1;
+    for j in i + 1..n {
+        e = put_none(out, e, words, n, flags, i, j);
     }
     e
 }
@@ -108,11 +101,8 @@ fn put_nones(out: &mut [u8], at: usize, words: &[u64], n: u32, flags: u8) -> usi
         (out.new, result) ≡ wrote (out.old, at) (joined (below n (λ i. joined (below n (f i))))) }
 {
     let mut e = at;
-    let mut i: u32 = 0;
-    while i < n {
-        let next = put_nones_with(out, e, words, n, flags, i);
-        e = next;
-        i += 1;
+    for i in 0..n {
+        e = put_nones_with(out, e, words, n, flags, i);
     }
     e
 }
@@ -124,8 +114,7 @@ pub fn put_plan(out: &mut [u8], at: usize, term: u16, words: &[u64], n: u32, fla
     let a = put_head(out, at, term);
     let e = put_text(out, a, b"\n");
     let mut priorities = [0u64; RULES];
-    let r = plan(words, n, flags, &mut priorities);
-    match r {
+    match plan(words, n, flags, &mut priorities) {
         Ok(()) => put_rules(out, e, words, &priorities, n),
         Err(Unplanned::Nothing) => put_nones(out, e, words, n, flags),
         Err(Unplanned::TooManyRules) => e,
@@ -168,11 +157,13 @@ fn put_judged(out: &mut [u8], at: usize, words: &[u64], v: Result<(), Fault>) ->
 {
     match v {
         Ok(()) => put_text(out, at, b" accepted\n"),
-        Err(Fault::Bad {
-            what,
-            earlier,
-            later,
-        }) => put_bad_pair(out, at, words, what, earlier, later),
+        Err(
+            Fault::Bad {
+                what,
+                earlier,
+                later,
+            },
+        ) => put_bad_pair(out, at, words, what, earlier, later),
         Err(Fault::WrongLength { asked }) => put_wrong_length(out, at, asked as u64),
     }
 }

@@ -1,6 +1,5 @@
 use Rattle.tell_plan.proofs.Laws.{chain3}
 use Rattle.tell_plan.specs.PlanText.{bad_line}
-use borrow.Author.Rules.{rules}
 use Rattle.tell_plan.proofs.put_bad.Goals as goal
 
 pub returns : goal.returns

@@ -1,5 +1,4 @@
 use Rattle.tell_plan.proofs.Laws.{chain3}
-use borrow.Author.Rules.{rules}
 use Rattle.tell_plan.proofs.put_bad_pair.Goals as goal
 
 pub returns : goal.returns

@@ -1,6 +1,5 @@
 use Rattle.tell_plan.proofs.Laws.{break_put}
 use Rattle.paper.specs.declared.Break.TheVariants.{Edge, Mask, Order}
-use borrow.Author.Rules.{rules}
 use Rattle.tell_plan.proofs.put_break.Goals as goal
 
 pub returns-in-Edge : goal.returns-in-Edge

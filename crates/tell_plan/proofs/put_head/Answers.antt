@@ -1,6 +1,5 @@
 use Rattle.tell_plan.specs.PlanText.{set_head}
 use Rattle.tell_text.specs.Written.{follows}
-use borrow.Author.Rules.{rules}
 use Rattle.tell_plan.proofs.put_head.Goals as goal
 
 pub returns : goal.returns

@@ -1,6 +1,5 @@
 use Rattle.tell_plan.proofs.Laws.{chain3}
 use Rattle.tell_plan.specs.Lent.{obstructed_words}
-use borrow.Author.Rules.{rules}
 use Rattle.tell_plan.proofs.put_obstructed.Goals as goal
 
 pub returns : goal.returns

@@ -1,5 +1,4 @@
 use Rattle.tell_plan.proofs.Laws.{rule_put}
-use borrow.Author.Rules.{rules}
 use Rattle.tell_plan.proofs.put_rule.Goals as goal
 
 pub returns : goal.returns

@@ -1,15 +1,8 @@
-use Rattle.tell_plan.proofs.Laws.{lines_none, lines_next, lines_end}
-use Prim.Native.Nat.{◌-◌, ◌≤◌}
-use mathlib.Core.Path.{◌≡◌}
-use lib.ListN.{length}
+use Rattle.std.proofs.Common.{◌≡◌}
 use Rattle.paper.specs.Words.{below, joined}
 use Rattle.tell_text.specs.Written.{wrote}
 use Rattle.tell_plan.specs.Lent.{rule_at}
-use borrow.Author.Rules.{rules}
 use Rattle.tell_plan.proofs.put_rules.Given as goal
 
 abbrev pub invariant-loop-i : goal.invariant-loop-i
-invariant-loop-i l = (length l.out ≡ length l.initial.out) × (l.i ≤ l.n) × ((l.out, l.e) ≡ wrote (l.initial.out, l.at) (joined (below l.i (rule_at l.words l.priorities))))
-
-abbrev pub decreases-loop-i : goal.decreases-loop-i
-decreases-loop-i l = l.n - l.i
+invariant-loop-i l = (l.out, l.e) ≡ wrote (l.initial.out, l.at) (joined (below l.i (rule_at l.words l.priorities)))

@@ -1,6 +1,5 @@
 use Rattle.tell_plan.proofs.Laws.{chain3}
 use Rattle.tell_plan.specs.PlanText.{set_bad}
-use borrow.Author.Rules.{rules}
 use Rattle.tell_plan.proofs.put_set_bad.Goals as goal
 
 pub returns : goal.returns

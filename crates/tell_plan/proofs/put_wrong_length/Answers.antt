@@ -1,5 +1,4 @@
 use Rattle.tell_plan.proofs.Laws.{chain5}
-use borrow.Author.Rules.{rules}
 use Rattle.tell_plan.proofs.put_wrong_length.Goals as goal
 
 pub returns : goal.returns
