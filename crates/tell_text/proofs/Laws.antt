@@ -1,5 +1,5 @@
 -- Laws that the functions' proofs cite.
-use mathlib.Core.Path.{◌≡◌, refl, sym, ap, ◌∙◌}
+use mathlib.Core.Path.{◌≡◌, sym, ap, ◌∙◌}
 use mathlib.Core.List.{List, [], ◌∷◌, ◌++◌}
 use Prim.Native.Nat.{ℕ, ◌+◌, ◌/◌, ◌%◌, ◌≤◌, ◌<◌}
 use native.Mathlib.Numerals.{add-one}
@@ -21,9 +21,6 @@ pub digit_after : (p q r : Room) (n : ℕ) → 10 ≤ n → q ≡ wrote p (decim
 digit_after p q r n h e f = follows p q r (decimal (n / 10)) ((48 + n % 10) ∷ []) e f ∙ ap (λ s. wrote p s) (sym (more_digits n h))
 
 -- ---- a text: what is left of it
-pub none_yet : (p : Room) (s : List ℕ) → wrote p (drop 0 s) ≡ wrote p s
-none_yet p s = refl
-
 pub one_more : (p q r : Room) (s : List ℕ) (i : ℕ) → i < length s → wrote q (drop i s) ≡ wrote p s → r ≡ wrote q (get_or s i 0 ∷ []) → wrote r (drop (i + 1) s) ≡ wrote p s
 one_more p q r s i h e f =
     let d : drop i s ≡ get_or s i 0 ∷ drop (i + 1) s = rw add-one (drop-cons s i 0 h) in

@@ -1,9 +1,8 @@
 -- Bytes into lent room, one after the other: the room, and where the next byte goes.
-use Rattle.std.specs.Prelude.{◌≡◌, refl, Bool, true, false, ℕ, zero, suc, ◌+◌, ◌≤◌, ◌<◌, length, set, ltb}
+use Rattle.std.specs.Prelude.{◌≡◌, refl, Bool, true, false, ℕ, suc, ◌+◌, ◌≤◌, ◌<◌, length, set, ltb}
 use Rattle.std.proofs.Common.{sym, ap, ◌∙◌, arith, length-set, lt-ltb, le-ltb, ltb-true, ltb-false}
 use mathlib.Core.List.{List, [], ◌∷◌, ◌++◌, foldl, foldl-append}
 use Rattle.std.proofs.lemmas.List.Edits.{sets}
-use Rattle.std.proofs.Math.Seq.{length-sets}
 use Rattle.std.specs.Prelude.{if◌then◌else◌}
 
 abbrev pub Room : Type 0

@@ -23,11 +23,8 @@ pub fn put_text(out: &mut [u8], at: usize, text: &[u8]) -> usize
     ensures { (out.new, result) ≡ wrote (out.old, at) text.now }
 {
     let mut k = at;
-    let mut i: usize = 0;
-    while i < text.len() {
-        let next = put(out, k, text[i]);
-        k = next;
-        i += 1;
+    for b in text {
+        k = put(out, k, *b);
     }
     k
 }
@@ -57,11 +54,8 @@ pub fn put_hex(out: &mut [u8], at: usize, bytes: &[u8]) -> usize
     ensures { (out.new, result) ≡ wrote (out.old, at) (digits_of bytes.now) }
 {
     let mut k = at;
-    let mut i: usize = 0;
-    while i < bytes.len() {
-        let next = put_byte(out, k, bytes[i]);
-        k = next;
-        i += 1;
+    for b in bytes {
+        k = put_byte(out, k, *b);
     }
     k
 }
@@ -69,8 +63,7 @@ pub fn put_hex(out: &mut [u8], at: usize, bytes: &[u8]) -> usize
 pub fn put_two(out: &mut [u8], at: usize, v: u16) -> usize
     ensures { (out.new, result) ≡ wrote (out.old, at) (digits_of (two v)) }
 {
-    let b = [(v / 256) as u8, (v % 256) as u8];
-    put_hex(out, at, &b)
+    put_hex(out, at, &[(v / 256) as u8, (v % 256) as u8])
 }
 
 pub fn put_four(out: &mut [u8], at: usize, v: u32) -> usize

@@ -1,12 +1,8 @@
-use borrow.Author.Rules.{rules}
-use Rattle.tell_text.proofs.Laws.{none_yet, one_more, all_put}
+use Rattle.tell_text.proofs.Laws.{one_more, all_put}
 use Rattle.tell_text.proofs.put_text.Goals as goal
 
-pub loop-i-init : goal.loop-i-init
-loop-i-init c = (search rules, none_yet _ _)
-
-pub loop-i-preserved : goal.loop-i-preserved
-loop-i-preserved c = (search rules, one_more _ _ _ _ _ c.loop-i-test.true c.loop-i.invariant.1 c.put-next.ensures)
+pub loop-b-preserved : goal.loop-b-preserved
+loop-b-preserved c = one_more _ _ _ _ _ c.loop-b-test.true c.loop-b.invariant c.put-k.ensures
 
 pub returns : goal.returns
-returns c = all_put _ _ _ _ c.loop-i-test.false c.loop-i.invariant.1
+returns c = all_put _ _ _ _ c.loop-b-test.false c.loop-b.invariant
