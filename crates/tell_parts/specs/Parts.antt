@@ -5,7 +5,7 @@
 --     { an s, but where @ is 1                     } an s, but where $ is 1
 --     ^ the number of a refusal                    ~ the first byte
 --     & the number that was asked for              ! the item or the line that asked: four bytes each, behind those of a refusal
-use Rattle.std.specs.Prelude.{Bool, true, false, List, [], ◌∷◌, ◌++◌, ℕ, zero, suc, ◌+◌, ◌-◌, ◌*◌, ◌/◌, length, get_or, eqb}
+use Rattle.std.specs.Prelude.{List, [], ◌∷◌, ◌++◌, ℕ, zero, suc, ◌+◌, ◌-◌, ◌*◌, ◌/◌, length, get_or, eqb}
 use Rattle.std.specs.Prelude.{if◌then◌else◌}
 use Rattle.paper.specs.Text.{unended}
 use Rattle.tell_text.specs.Decimal.{decimal}

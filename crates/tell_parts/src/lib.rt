@@ -12,13 +12,11 @@ use tell_text::{put, put_decimal, put_text};
 pub fn byte_at(f: &[u8], i: usize) -> u64
     ensures { (result ≡ get_or f.now i 0) × (result < 256) }
 {
-    if i < f.len() {
-        return u64::from(f[i]);
-    }
-    0
+    u64::from(f.get(i).copied().unwrap_or(0))
 }
 
 // The number of two bytes at i, high byte first.
+#[tactic(auto, unfolding(crate::specs::Parts::two_at))]
 pub fn two_at(f: &[u8], i: usize) -> u64
     ensures { (result ≡ two_at f.now i) × (result < 65536) }
 {
@@ -28,6 +26,7 @@ pub fn two_at(f: &[u8], i: usize) -> u64
     byte_at(f, i) * 256 + byte_at(f, i + 1)
 }
 
+#[tactic(auto, unfolding(crate::specs::Parts::four_at))]
 fn four_at(f: &[u8], i: usize) -> u64
     requires { i + 3 < 18446744073709551616 }
     ensures { (result ≡ four_at f.now i) × (result < 4294967296) }
@@ -36,6 +35,7 @@ fn four_at(f: &[u8], i: usize) -> u64
 }
 
 // What stands before a place with so many places to come.
+#[tactic(auto, unfolding(crate::specs::Parts::separator))]
 fn put_separator(left: usize, out: &mut [u8], at: usize) -> usize
     ensures { (out.new, result) ≡ wrote (out.old, at) (separator left) }
 {
@@ -59,13 +59,8 @@ fn put_rest(f: &[u8], from: usize, count: usize, out: &mut [u8], at: usize) -> u
     ensures { (out.new, result) ≡ wrote (out.old, at) (rest f.now from count) }
 {
     let mut k = at;
-    let mut i = from;
-    let mut left = count;
-    while left > 0 {
-        left -= 1;
-        let next = put_place(f, i, left, out, k);
-        k = next;
-        i += 4;
+    for n in 0..count {
+        k = put_place(f, from + 4 * n, count - n - 1, out, k);
     }
     k
 }
@@ -81,6 +76,7 @@ fn put_places(f: &[u8], out: &mut [u8], at: usize) -> usize
     put_rest(f, 11, (f.len() - 11) / 4, out, k)
 }
 
+#[tactic(auto, unfolding(crate::specs::Parts::plural, tell_text::specs::Written::wrote))]
 fn put_plural(n: u64, out: &mut [u8], at: usize) -> usize
     ensures { (out.new, result) ≡ wrote (out.old, at) (plural n) }
 {
@@ -91,43 +87,24 @@ fn put_plural(n: u64, out: &mut [u8], at: usize) -> usize
 }
 
 // A byte of the words: itself, or the part of the frame that it stands for.
+#[tactic(auto, unfolding(crate::specs::Parts::part))]
 fn put_part(b: u8, f: &[u8], out: &mut [u8], at: usize) -> usize
     ensures { (out.new, result) ≡ wrote (out.old, at) (part f.now b) }
 {
-    if b == b'#' {
-        return put_decimal(out, at, four_at(f, 1));
+    match b {
+        b'#' => put_decimal(out, at, four_at(f, 1)),
+        b'%' => put_decimal(out, at, four_at(f, 3)),
+        b'*' => put_places(f, out, at),
+        b'@' => put_decimal(out, at, two_at(f, 1)),
+        b'$' => put_decimal(out, at, two_at(f, 3)),
+        b'{' => put_plural(two_at(f, 1), out, at),
+        b'}' => put_plural(two_at(f, 3), out, at),
+        b'^' => put_decimal(out, at, byte_at(f, 5)),
+        b'~' => put_decimal(out, at, byte_at(f, 0)),
+        b'&' => put_decimal(out, at, four_at(f, 6)),
+        b'!' => put_decimal(out, at, four_at(f, 10)),
+        _ => put(out, at, b),
     }
-    if b == b'%' {
-        return put_decimal(out, at, four_at(f, 3));
-    }
-    if b == b'*' {
-        return put_places(f, out, at);
-    }
-    if b == b'@' {
-        return put_decimal(out, at, two_at(f, 1));
-    }
-    if b == b'$' {
-        return put_decimal(out, at, two_at(f, 3));
-    }
-    if b == b'{' {
-        return put_plural(two_at(f, 1), out, at);
-    }
-    if b == b'}' {
-        return put_plural(two_at(f, 3), out, at);
-    }
-    if b == b'^' {
-        return put_decimal(out, at, byte_at(f, 5));
-    }
-    if b == b'~' {
-        return put_decimal(out, at, byte_at(f, 0));
-    }
-    if b == b'&' {
-        return put_decimal(out, at, four_at(f, 6));
-    }
-    if b == b'!' {
-        return put_decimal(out, at, four_at(f, 10));
-    }
-    put(out, at, b)
 }
 
 // The words, with parts of the frame put in.
@@ -135,11 +112,8 @@ pub fn fill(words: &[u8], f: &[u8], out: &mut [u8], at: usize) -> usize
     ensures { (out.new, result) ≡ wrote (out.old, at) (filled f.now words.now) }
 {
     let mut k = at;
-    let mut i: usize = 0;
-    while i < words.len() {
-        let next = put_part(words[i], f, out, k);
-        k = next;
-        i += 1;
+    for b in words {
+        k = put_part(*b, f, out, k);
     }
     k
 }
