@@ -1,8 +1,7 @@
 -- Laws of the lines, for the functions that write them.
 use mathlib.Core.Path.{◌≡◌, refl, sym, ap, ◌∙◌}
-use mathlib.Core.Bool.{Bool}
 use mathlib.Core.List.{List, [], ◌∷◌, ◌++◌, append_assoc, append-nil}
-use Prim.Native.Nat.{ℕ, zero, suc, ◌+◌, ◌-◌, ◌/◌, ◌%◌, ◌≤◌, ◌<◌}
+use Prim.Native.Nat.{ℕ, zero, suc, ◌+◌, ◌-◌, ◌≤◌, ◌<◌}
 use native.Mathlib.Omega.{arith}
 use native.Mathlib.Numerals.{add-one}
 use lib.ListN.{length, get_or, take, drop}
@@ -10,10 +9,10 @@ use lib.Seq.{drop-cons}
 use borrow.Author.Tests.{le-ltb, eq-eqb, ne_eqb}
 use Rattle.std.specs.declared.result.Result.TheVariants.{Err, Ok}
 use Rattle.paper.specs.declared.Constraint.{Constraint}
-use Rattle.paper.specs.declared.Constraint.TheVariants.{ConstBool, ConstInt}
+use Rattle.paper.specs.declared.Constraint.TheVariants.{ConstInt}
 use Rattle.paper.specs.declared.Overlap.{Overlap}
 use Rattle.paper.specs.declared.Refusal.{Refusal}
-use Rattle.paper.specs.Words.{two, four, eight, flag}
+use Rattle.paper.specs.Words.{two, four, eight}
 use Rattle.paper.specs.Numbers.{Outcome, done, refused, number, told, max_unfolding}
 use Rattle.paper.specs.Sites.{Sites, constraint_body, unfold_answer, known}
 use Rattle.paper.specs.Rules.{may_overlap, total, rank}
@@ -64,9 +63,6 @@ unfolding constraint_body
 int_put p q r s ty high low e f g =
     let d : digits_of ((3 ∷ two ty) ++ (eight high ++ eight low)) ≡ digits_of (3 ∷ two ty) ++ (digits_of (eight high) ++ digits_of (eight low)) = digits_append (3 ∷ two ty) (eight high ++ eight low) ∙ ap (λ z. digits_of (3 ∷ two ty) ++ z) (digits_append (eight high) (eight low)) in
     chain3 p q r s (digits_of (3 ∷ two ty)) (digits_of (eight high)) (digits_of (eight low)) e f g ∙ ap (λ z. wrote p z) (sym d)
-
-pub constraint_put : (p q : Room) (c d : Constraint) → d ≡ c → q ≡ wrote p (digits_of (constraint_body c)) → q ≡ wrote p (digits_of (constraint_body d))
-constraint_put p q c d e f = f ∙ ap (λ z. wrote p (digits_of (constraint_body z))) (sym e)
 
 -- ---- a list: what is left of it
 run_more : {A : Type 0} (f : ℕ → A) (i k : ℕ) → i < k → run f i (k - i) ≡ f i ∷ run f (i + 1) (k - (i + 1))
@@ -172,15 +168,6 @@ term_done p q ts i h e = nothing q ∙ (ap (λ z. wrote q (terms_text z)) (sym (
     drop_all (x ∷ s) zero h = absurd (omega arith)
     drop_all (x ∷ s) (suc i) h = drop_all s i (omega arith)
 
--- ---- a bool
-pub bool_put : (p q : Room) (ty f : ℕ) (v : Bool) → f ≡ flag v → q ≡ wrote p (digits_of (2 ∷ ty / 256 ∷ ty % 256 ∷ f ∷ [])) → q ≡ wrote p (digits_of (constraint_body (ConstBool ty v)))
-unfolding constraint_body two
-bool_put p q ty f v e g = g ∙ ap (λ z. wrote p (digits_of (2 ∷ ty / 256 ∷ ty % 256 ∷ z ∷ []))) e
-
--- ---- a word for an answer
-pub overlap_put : (p q : Room) (o u : Overlap) → o ≡ u → q ≡ wrote p (overlap_word u) → q ≡ wrote p (overlap_word o)
-overlap_put p q o u e f = f ∙ ap (λ z. wrote p (overlap_word z)) (sym e)
-
 -- ---- two rules
 pub pair_put : (p q r s t u : Room) (ws : List ℕ) (i j a b x y : ℕ) (o : Overlap) → a ≡ base i → x ≡ place_at ws a → b ≡ base j → y ≡ place_at ws b → o ≡ may_overlap (kept_in ws i) (kept_in ws j) → q ≡ wrote p (unended "pair ") → r ≡ wrote q (digits_of (four x)) → s ≡ wrote r (unended " ") → t ≡ wrote s (digits_of (four y)) → u ≡ wrote t (overlap_word o) → u ≡ wrote p (pair_line (kept_in ws i) (kept_in ws j))
 unfolding pair_line kept_in kept_at
@@ -205,16 +192,7 @@ kept_put p q r s t u m ws i b x v pr n k tot eb ex ev ep en ek et e f g h l =
     chain5 p q r s t u (head_text (place_at ws a) (rank (get_or ws (a + 1) 0))) (text " kept") (c_lines m (run (constrained_at ws a) 0 (constrained_count ws a))) (classes m es es) (total_line (total (kept_in ws i)))
     (rw (fx, fp) at e) f (g ∙ ap (λ z. wrote r (c_lines m z)) fc) (h ∙ ap (λ z. wrote s (classes m z z)) fe) (l ∙ ap (λ z. wrote t (total_line z)) et)
 
--- ---- the bytes of an unfolding
-pub whole : (s : List ℕ) (k : ℕ) → length s ≤ k → digits_of s ≡ digits_of (take k s)
-whole s k h = ap digits_of (sym (take_all s k h))
-  where
-    take_all : (s : List ℕ) (k : ℕ) → length s ≤ k → take k s ≡ s
-    take_all [] zero h = refl
-    take_all [] (suc k) h = refl
-    take_all (x ∷ s) zero h = absurd (omega arith)
-    take_all (x ∷ s) (suc k) h = ap (λ t. x ∷ t) (take_all s k (omega arith))
-
+-- ---- a site, unfolded
 pub site_over : (t : Sites) (s l : ℕ) (u : Answer ℕ) (r : Refusal) → l ≡ max_unfolding → u ≡ unfolded_as (unfold_answer t l s) → u ≡ Err r → unended "OVER" ≡ site_text t s
 unfolding site_text
 site_over t s l u r e f g = over_told (unfold_answer t max_unfolding s) u r (f ∙ ap (λ z. unfolded_as (unfold_answer t z s)) e) g
@@ -223,19 +201,7 @@ pub site_bytes : (t : Sites) (s l : ℕ) (u : Answer ℕ) (k : ℕ) (room out : 
 unfolding site_text
 site_bytes t s l u k room out e f g h = bytes_told (unfold_answer t max_unfolding s) u k room out (f ∙ ap (λ z. unfolded_as (unfold_answer t z s)) e) g (h ∙ ap (λ z. after_unfold room (unfold_answer t z s)) e)
 
--- ---- nothing is written yet
-from_start : {A : Type 0} (w : List A → List ℕ) (f : ℕ → A) (p : Room) (k : ℕ) → wrote p (w (run f 0 (k - 0))) ≡ wrote p (w (run f 0 k))
-from_start w f p k = let e : k - 0 ≡ k = omega arith in ap (λ n. wrote p (w (run f 0 n))) e
-
-pub c_start : (p : Room) (m : Sites) (ws : List ℕ) (b k : ℕ) → wrote p (c_lines m (run (constrained_at ws b) 0 (k - 0))) ≡ wrote p (c_lines m (run (constrained_at ws b) 0 k))
-c_start p m ws b = from_start (c_lines m) (constrained_at ws b) p
-
-pub member_start : (p : Room) (m : Sites) (low : ℕ) (ws : List ℕ) (b k : ℕ) → wrote p (members m low (run (equal_at ws b) 0 (k - 0))) ≡ wrote p (members m low (run (equal_at ws b) 0 k))
-member_start p m low ws b = from_start (members m low) (equal_at ws b) p
-
-pub class_start : (p : Room) (m : Sites) (all : List (ℕ × ℕ)) (ws : List ℕ) (b k : ℕ) → wrote p (classes m all (run (equal_at ws b) 0 (k - 0))) ≡ wrote p (classes m all (run (equal_at ws b) 0 k))
-class_start p m all ws b = from_start (classes m all) (equal_at ws b) p
-
+-- ---- a term
 pub term_put : (p q r : Room) (t : ℕ) → q ≡ wrote p (unended " ") → r ≡ wrote q (digits_of (two t)) → r ≡ wrote p (terms_text (t ∷ []))
 unfolding terms_text
 term_put p q r t e f = follows p q r (unended " ") (digits_of (two t)) e f ∙ ap (λ z. wrote p z) (sym (append_none (unended " " ++ digits_of (two t))))
@@ -255,9 +221,6 @@ both_put p q r n o e f = follows p q r (told_text (n ∷ [])) (told_text (o ∷ 
   where
     joined : (a b c : List ℕ) → (a ++ (b ++ [])) ++ c ≡ a ++ (b ++ c)
     joined a b c = simp (append_assoc, append-nil)
-
-pub told_put : (p q : Room) (r s : Refusal) → r ≡ s → q ≡ wrote p (told_text (told s)) → q ≡ wrote p (told_text (told r))
-told_put p q r s e f = f ∙ ap (λ z. wrote p (told_text (told z))) (sym e)
 
 pub refused_put : (p q r s t u : Room) (place priority n : ℕ) (x : Refusal) → n ≡ number x → q ≡ wrote p (head_text place priority) → r ≡ wrote q (unended " refused ") → s ≡ wrote r (decimal n) → t ≡ wrote s (told_text (told x)) → u ≡ wrote t (10 ∷ []) → u ≡ wrote p (refused_line place priority x)
 unfolding refused_line

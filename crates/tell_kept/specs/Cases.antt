@@ -1,5 +1,5 @@
 -- Some lines, computed.
-use Rattle.std.specs.Prelude.{◌≡◌, refl, List, [], ◌∷◌, ◌++◌, ℕ}
+use Rattle.std.specs.Prelude.{◌≡◌, refl, [], ◌∷◌}
 use Rattle.paper.specs.declared.Constraint.TheVariants.{ConstInt}
 use Rattle.paper.specs.declared.Refusal.TheVariants.{Unreachable, TooManyRules}
 use Rattle.paper.specs.Words.{all_words}

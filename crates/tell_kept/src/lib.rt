@@ -2,7 +2,6 @@
 #![tactic(auto)]
 
 ghost use Rattle.std.specs.Prelude.{◌≡◌, [], ◌∷◌, take};
-ghost use Rattle.paper.specs.Words.{flag};
 ghost use Rattle.paper.specs.Numbers.{told};
 ghost use Rattle.paper.specs.Sites.{constraint_body};
 ghost use Rattle.sites.specs.Slots.{sites_in};
@@ -12,17 +11,16 @@ ghost use Rattle.tell_text.specs.Written.{wrote};
 ghost use Rattle.tell_kept.specs.Listed.{site_text, c_line, c_lines, member_text, members, class_line, classes, head_text, total_line, kept_lines, told_text, refused_line, overlap_word, pair_line, set_line, terms_text, cyclic_line};
 
 use paper::{Constraint, Overlap, Refusal, UNFOLDING};
-use rule_words::{constrained, constraint_at, equal_at, equals, lowest_at, place, rank, ranked, site_at, start};
+use rule_words::{
+    constrained, constraint_at, equal_at, equals, lowest_at, place, rank, ranked, site_at, start,
+};
 use tell_text::{put, put_decimal, put_eight, put_four, put_hex, put_text, put_two};
 
 // The first k bytes of the room.
 fn put_first(out: &mut [u8], at: usize, room: &[u8], k: usize) -> usize
     ensures { (out.new, result) ≡ wrote (out.old, at) (digits_of (take k room.now)) }
 {
-    if room.len() <= k {
-        return put_hex(out, at, room);
-    }
-    put_hex(out, at, &room[..k])
+    put_hex(out, at, &room[..k.min(room.len())])
 }
 
 // The unfolding of a site. One that passes 4,096 bytes, or of no site of the set, is OVER.
@@ -33,32 +31,22 @@ fn put_site(out: &mut [u8], at: usize, m: &[u8], n: u16, s: u64) -> usize
         return put_text(out, at, b"OVER");
     }
     let mut room = [0u8; UNFOLDING];
-    let u = sites::unfold(m, n, s as u16, &mut room);
-    let Ok(k) = u else {
+    let Ok(k) = sites::unfold(m, n, s as u16, &mut room) else {
         return put_text(out, at, b"OVER");
     };
     put_first(out, at, &room, k)
 }
 
-fn flag(v: bool) -> u8
-    ensures { result ≡ flag v }
-{
-    if v {
-        return 1;
-    }
-    0
-}
-
 fn put_int(out: &mut [u8], at: usize, ty: u16, high: u64, low: u64) -> usize
     ensures { (out.new, result) ≡ wrote (out.old, at) (digits_of (constraint_body (Constraint.ConstInt ty high low))) }
 {
-    let b = [3u8, (ty / 256) as u8, (ty % 256) as u8];
-    let k = put_hex(out, at, &b);
+    let k = put_hex(out, at, &[3, (ty / 256) as u8, (ty % 256) as u8]);
     let j = put_eight(out, k, high);
     put_eight(out, j, low)
 }
 
 // A constraint's kind and body, as in a frame 04.
+#[tactic(auto, unfolding(paper::specs::Sites::constraint_body, paper::specs::Words::two, paper::specs::Words::flag))]
 fn put_constraint(out: &mut [u8], at: usize, c: Constraint) -> usize
     ensures { (out.new, result) ≡ wrote (out.old, at) (digits_of (constraint_body c)) }
 {
@@ -69,7 +57,7 @@ fn put_constraint(out: &mut [u8], at: usize, c: Constraint) -> usize
             fields,
         } => {
             let b = [
-                0u8,
+                0,
                 (ty / 256) as u8,
                 (ty % 256) as u8,
                 (variant / 256) as u8,
@@ -79,19 +67,17 @@ fn put_constraint(out: &mut [u8], at: usize, c: Constraint) -> usize
             put_hex(out, at, &b)
         }
         Constraint::Struct { ty, fields } => {
-            let b = [1u8, (ty / 256) as u8, (ty % 256) as u8, fields];
-            put_hex(out, at, &b)
+            put_hex(out, at, &[1, (ty / 256) as u8, (ty % 256) as u8, fields])
         }
         Constraint::ConstBool { ty, val } => {
-            let b = [2u8, (ty / 256) as u8, (ty % 256) as u8, flag(val)];
+            let b = [2, (ty / 256) as u8, (ty % 256) as u8, u8::from(val)];
             put_hex(out, at, &b)
         }
         Constraint::ConstInt { ty, high, low } => put_int(out, at, ty, high, low),
         Constraint::ConstPrim { val } => {
-            let b = [4u8, (val / 256) as u8, (val % 256) as u8];
-            put_hex(out, at, &b)
+            put_hex(out, at, &[4, (val / 256) as u8, (val % 256) as u8])
         }
-        Constraint::Some => put_hex(out, at, &[5u8]),
+        Constraint::Some => put_hex(out, at, &[5]),
     }
 }
 
@@ -128,11 +114,8 @@ fn put_all_constrained(
         (out.new, result) ≡ wrote (out.old, at) (c_lines t (run (constrained_at words.now b) 0 k)) }
 {
     let mut e = at;
-    let mut i: usize = 0;
-    while i < k {
-        let next = put_constrained(out, e, m, n, words, b, i);
-        e = next;
-        i += 1;
+    for i in 0..k {
+        e = put_constrained(out, e, m, n, words, b, i);
     }
     e
 }
@@ -172,11 +155,8 @@ fn put_members(
         (out.new, result) ≡ wrote (out.old, at) (members t low (run (equal_at words.now b) 0 k)) }
 {
     let mut e = at;
-    let mut i: usize = 0;
-    while i < k {
-        let next = put_member(out, e, m, n, words, b, i, low);
-        e = next;
-        i += 1;
+    for i in 0..k {
+        e = put_member(out, e, m, n, words, b, i, low);
     }
     e
 }
@@ -217,11 +197,8 @@ fn put_classes(
         (out.new, result) ≡ wrote (out.old, at) (classes t all all) }
 {
     let mut e = at;
-    let mut i: usize = 0;
-    while i < k {
-        let next = put_class(out, e, m, n, words, b, k, i);
-        e = next;
-        i += 1;
+    for i in 0..k {
+        e = put_class(out, e, m, n, words, b, k, i);
     }
     e
 }
@@ -256,6 +233,7 @@ pub fn put_kept(out: &mut [u8], at: usize, m: &[u8], n: u16, words: &[u64], i: u
     put_total(out, e, overlap::total_constraints(words, i) as u64)
 }
 
+#[tactic(auto, unfolding(crate::specs::Listed::overlap_word, paper::specs::Text::text))]
 fn overlap_word(out: &mut [u8], at: usize, o: Overlap) -> usize
     ensures { (out.new, result) ≡ wrote (out.old, at) (overlap_word o) }
 {
@@ -284,8 +262,7 @@ pub fn put_set(out: &mut [u8], at: usize, term: u16, flags: u8) -> usize
     let a = put_text(out, at, b"set ");
     let b = put_two(out, a, term);
     let c = put_text(out, b, b" ");
-    let f = [flags];
-    let d = put_hex(out, c, &f);
+    let d = put_hex(out, c, &[flags]);
     put_text(out, d, b"\n")
 }
 
@@ -300,11 +277,8 @@ fn put_terms(out: &mut [u8], at: usize, terms: &[u16]) -> usize
     ensures { (out.new, result) ≡ wrote (out.old, at) (terms_text terms.now) }
 {
     let mut e = at;
-    let mut i: usize = 0;
-    while i < terms.len() {
-        let next = put_term(out, e, terms[i]);
-        e = next;
-        i += 1;
+    for term in terms {
+        e = put_term(out, e, *term);
     }
     e
 }
@@ -332,28 +306,39 @@ fn put_both(out: &mut [u8], at: usize, n: u64, o: u64) -> usize
 }
 
 // What is told with a refusal.
+#[tactic(auto, unfolding(paper::specs::Numbers::told, crate::specs::Listed::told_text))]
 fn put_told(out: &mut [u8], at: usize, r: Refusal) -> usize
     ensures { (out.new, result) ≡ wrote (out.old, at) (told_text (told r)) }
 {
     match r {
-        Refusal::Layout { line } => put_one(out, at, line as u64),
-        Refusal::Unknown { site } => put_one(out, at, site as u64),
-        Refusal::Itself { site } => put_one(out, at, site as u64),
-        Refusal::Unreachable { site, other } => put_both(out, at, site as u64, other as u64),
-        Refusal::Hanging { site } => put_one(out, at, site as u64),
-        Refusal::Endless { site } => put_one(out, at, site as u64),
-        Refusal::TooManySites { asked, at: i } => put_both(out, at, asked as u64, i as u64),
-        Refusal::TooManySources { asked, at: i } => put_both(out, at, asked as u64, i as u64),
-        Refusal::TooManyFields { asked, at: i } => put_both(out, at, asked as u64, i as u64),
-        Refusal::TooManyRules { asked } => put_one(out, at, asked as u64),
-        Refusal::TooManyItems { asked } => put_one(out, at, asked as u64),
-        Refusal::TooManyConstrained { asked } => put_one(out, at, asked as u64),
-        Refusal::TooManyEqual { asked } => put_one(out, at, asked as u64),
-        Refusal::TooManySets { asked } => put_one(out, at, asked as u64),
-        Refusal::TermTooHigh { asked } => put_one(out, at, asked as u64),
-        Refusal::UnfoldingTooLong { asked } => put_one(out, at, asked as u64),
-        Refusal::PlaceUsed { place } => put_one(out, at, place as u64),
-        Refusal::Repeated { line } => put_one(out, at, line as u64),
+        Refusal::Layout { line: n }
+        | Refusal::Repeated { line: n }
+        | Refusal::PlaceUsed { place: n } => put_one(out, at, u64::from(n)),
+        Refusal::Unknown { site }
+        | Refusal::Itself { site }
+        | Refusal::Hanging { site }
+        | Refusal::Endless { site } => put_one(out, at, u64::from(site)),
+        Refusal::Unreachable { site, other } => put_both(
+            out,
+            at,
+            u64::from(site),
+            u64::from(other),
+        ),
+        Refusal::TooManySites { asked, at: i }
+        | Refusal::TooManySources { asked, at: i }
+        | Refusal::TooManyFields { asked, at: i } => put_both(
+            out,
+            at,
+            u64::from(asked),
+            u64::from(i),
+        ),
+        Refusal::TooManyRules { asked }
+        | Refusal::TooManyItems { asked }
+        | Refusal::TooManyConstrained { asked }
+        | Refusal::TooManyEqual { asked }
+        | Refusal::TooManySets { asked }
+        | Refusal::TermTooHigh { asked }
+        | Refusal::UnfoldingTooLong { asked } => put_one(out, at, u64::from(asked)),
     }
 }
 
@@ -363,7 +348,7 @@ pub fn put_refused(out: &mut [u8], at: usize, place: u32, priority: u64, r: Refu
 {
     let a = put_head(out, at, place, priority);
     let b = put_text(out, a, b" refused ");
-    let c = put_decimal(out, b, sheet_findings::number_of(r) as u64);
+    let c = put_decimal(out, b, u64::from(sheet_findings::number_of(r)));
     let d = put_told(out, c, r);
     put_text(out, d, b"\n")
 }

@@ -1,12 +1,8 @@
-use borrow.Author.Rules.{rules}
-use Rattle.tell_kept.proofs.Laws.{class_start, class_turn, class_done}
+use Rattle.tell_kept.proofs.Laws.{class_turn, class_done}
 use Rattle.tell_kept.proofs.put_classes.Goals as goal
 
-pub loop-i-init : goal.loop-i-init
-loop-i-init c = (search rules, search rules, class_start _ _ _ _ _ _)
-
 pub loop-i-preserved : goal.loop-i-preserved
-loop-i-preserved c = (search rules, search rules, class_turn _ _ _ _ _ _ _ _ _ c.loop-i-test.true c.loop-i.invariant.2 c.put_class-next.ensures)
+loop-i-preserved c = class_turn _ _ _ _ _ _ _ _ _ c.loop-i-test.true c.loop-i.invariant c.put_class-e.ensures
 
 pub returns : goal.returns
-returns c = class_done _ _ _ _ _ _ _ _ c.loop-i-test.false c.loop-i.invariant.2
+returns c = class_done _ _ _ _ _ _ _ _ c.loop-i-test.false c.loop-i.invariant
