@@ -1,25 +1,24 @@
 -- Edges added one by one: the table holds an edge exactly when it was added. The same of the terms marked in a row.
 use mathlib.Core.Path.{◌≡◌, refl, sym, ◌∙◌, ap}
-use mathlib.Core.Bool.{Bool, true, false, ◌&&◌, ◌||◌}
+use mathlib.Core.Bool.{true, ◌&&◌}
 use mathlib.Core.Logic.{◌↔◌, ◌⊎◌, inl, inr, ⊎_elim}
 use mathlib.Core.List.Memᴰ
 use mathlib.Core.List.{List, [], ◌∷◌, ◌++◌, Memᴰ}
-use Prim.Native.Nat.{ℕ, ◌/◌, ◌≤◌, ◌<◌}
+use Prim.Native.Nat.{ℕ, ◌/◌, ◌<◌}
 use native.Mathlib.Omega.{arith}
-use native.Mathlib.Decide.{ℕ_discrete, dec_lt}
+use native.Mathlib.Decide.{dec_lt}
 use lib.ListN.{length, length-set}
 use lib.Dec.{eqb}
 use borrow.Author.Tests.{eqb-true, eq-eqb}
 use Rattle.paper.specs.Words.{keep, Edges, Walk, one, more, returns}
 use Rattle.paper.proofs.Walks.{returns_is}
-use Rattle.paper.specs.Numbers.{done, refused}
 use Rattle.paper.proofs.Lists.{no_way, and_both, or_cases, or_left, or_right}
-use Rattle.term_table.specs.Table.{terms, words, Square, in_row, marked, row_with, with_mark, no_marks, no_edges, numbers, edges_in, with_edge, with_term, left, with_edges, with_terms, cyclic_terms}
+use Rattle.term_table.specs.Table.{terms, words, Square, in_row, marked, row_with, with_mark, no_edges, numbers, edges_in, with_edge, with_term, left, with_edges, with_terms, cyclic_terms}
 use Rattle.term_table.specs.Heads.{Between}
 use Rattle.term_table.proofs.Lists.{keep_same}
 use Rattle.term_table.proofs.Turns.{from_over, to_over, both_within, term_over, term_within}
-use Rattle.term_table.proofs.Marks.{Whole, put_row, put_whole, put_marks, none_row, none_whole, none_marks}
-use Rattle.term_table.proofs.Closing.{Edge, in_edges, of_edges, same_test}
+use Rattle.term_table.proofs.Marks.{Whole, put_row, put_whole, put_marks, none_whole, none_marks}
+use Rattle.term_table.proofs.Closing.{in_edges, of_edges, same_test}
 
 -- the ways in which an or, an and hold
 

@@ -1,9 +1,9 @@
 -- From who reaches whom to the lists of cyclic terms.
-use mathlib.Core.Path.{◌≡◌, refl, sym, ◌∙◌, ap}
-use mathlib.Core.Bool.{Bool, true, false, ◌&&◌, not}
+use mathlib.Core.Path.{◌≡◌}
+use mathlib.Core.Bool.{◌&&◌, not}
 use mathlib.Core.List.{List}
 use Prim.Native.Nat.{ℕ, ◌<◌}
-use Rattle.paper.specs.Words.{keep, below, returns}
+use Rattle.paper.specs.Words.{below, returns}
 use Rattle.paper.proofs.Lists.{and_true}
 use Rattle.term_table.specs.Table.{terms, Square, in_row, marked, no_marks, numbers, edges_in, Closure, cyclic_terms, unflagged}
 use Rattle.term_table.specs.Loops.{on_diagonal, list_to}

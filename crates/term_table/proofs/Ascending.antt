@@ -6,7 +6,7 @@ use mathlib.Core.List.Memᴰ
 use mathlib.Core.List.{List, [], ◌∷◌, ◌++◌, Memᴰ}
 use Prim.Native.Nat.{ℕ, zero, suc, ◌≤◌, ◌<◌, compare, Ordering}
 use native.Mathlib.Omega.{arith}
-use lib.Dec.{eqb, leb, compare_is_eq, is_le}
+use lib.Dec.{compare_is_eq, is_le}
 use borrow.Author.Tests.{eqb-true, eqb-false, leb-true, leb-false}
 use Rattle.paper.specs.Words.{keep, below, insert, ascending}
 use Rattle.term_table.proofs.Lists.{mem_keep, mem_numbers, keep_in, keep_out, keep_nil}

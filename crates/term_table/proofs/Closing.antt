@@ -1,19 +1,18 @@
 -- Passing through every term marks just who is reached by a walk.
 use mathlib.Core.Path.{◌≡◌, refl, sym, ◌∙◌, ap}
-use mathlib.Core.Bool.{Bool, true, false, ◌&&◌, ◌||◌, not}
-use mathlib.Core.Logic.{◌↔◌, ◌⊎◌, inl, inr}
-use mathlib.Core.List.{List, [], ◌∷◌, map, Memᴰ}
+use mathlib.Core.Bool.{Bool, true, false, ◌&&◌, ◌||◌}
+use mathlib.Core.List.{map, Memᴰ}
 use Prim.Native.Nat.{ℕ, zero, suc, ◌+◌, ◌*◌, ◌/◌, ◌≤◌, ◌<◌}
 use native.Mathlib.Numerals.{add-one}
 use native.Mathlib.Omega.{arith}
 use native.Mathlib.Decide.{ℕ_discrete}
-use Rattle.paper.specs.Words.{keep, below, joined, Edges, Walk, one, more, returns}
+use Rattle.paper.specs.Words.{keep, below, Edges, Walk, one, more, returns}
 use Rattle.paper.proofs.Walks.{returns_is}
 use Rattle.paper.proofs.Lists.{no_way, or_true}
 use Rattle.term_table.specs.Table.{terms, Square, row, marked, numbers, edges_in, Closure}
-use Rattle.term_table.specs.Loops.{UnmarkedTo, Unmarked, pass, reach_to}
+use Rattle.term_table.specs.Loops.{UnmarkedTo, Unmarked, reach_to}
 use Rattle.term_table.proofs.Lists.{mem_keep, in_below, Below, at, of_below, mem_numbers, in_joined, Within, of_list, of_joined, in_map, Mapped, mapped, of_map}
-use Rattle.term_table.proofs.Marks.{row_of, row_empty, via, via_two, Passed, pass_law}
+use Rattle.term_table.proofs.Marks.{row_of, row_empty, via, via_two, pass_law}
 
 -- ---- the edges of a table
 

@@ -2,14 +2,14 @@
 -- the row that their rec flags make, give the ascending list.
 use mathlib.Core.Path.{◌≡◌, refl, sym, ◌∙◌, ap}
 use mathlib.Core.Bool.{Bool, true, false, ◌&&◌, not}
-use mathlib.Core.Logic.{◌↔◌, ◌⊎◌, inl, inr, ⊎_elim}
-use mathlib.Core.List.{List, [], ◌∷◌, map, Memᴰ}
+use mathlib.Core.Logic.{inr, ⊎_elim}
+use mathlib.Core.List.{List, map, Memᴰ}
 use Prim.Native.Nat.{ℕ, ◌<◌}
 use lib.ListN.{length, length-replicate}
 use Rattle.paper.specs.Words.{keep, ascending, Edges, Walk, one, more, returns}
 use Rattle.paper.proofs.Walks.{returns_is}
 use Rattle.paper.proofs.Lists.{no_way}
-use Rattle.term_table.specs.Table.{terms, words, in_row, no_marks, no_edges, numbers, edges_in, with_edges, with_terms, unflagged}
+use Rattle.term_table.specs.Table.{terms, words, in_row, no_marks, no_edges, numbers, with_edges, unflagged}
 use Rattle.term_table.specs.Heads.{rec_marks, Sheeted}
 use Rattle.term_table.proofs.Lists.{keep_same, mem_keep, mem_numbers, in_map, Mapped, mapped, of_map}
 use Rattle.term_table.proofs.Marks.{none_row}

@@ -11,7 +11,6 @@ use native.Mathlib.Decide.{ℕ_discrete}
 use lib.ListN.{length, set, replicate, length-append}
 use lib.Seq.{set_at}
 use Rattle.paper.specs.Words.{keep, below, joined}
-use Rattle.paper.proofs.Lists.{no_way}
 use Rattle.term_table.specs.declared.Listed.{Listed}
 use Rattle.term_table.specs.Table.{terms, listed}
 
@@ -151,7 +150,6 @@ kept p i = keep p (below i (λ a. a))
 
 pub record Listing (p : ℕ → Bool) (i n : ℕ) (found : List ℕ) : Type 0 where
   pub low : n ≤ i
-  pub high : i ≤ terms
   pub count : n ≡ length (kept p i)
   pub holds : found ≡ kept p i ++ replicate (terms - n) 0
 
@@ -161,7 +159,7 @@ kept_suc p i = rw add-one (keep_append p (below i (λ a. a)) (i ∷ []))
 
 pub listing_none : (p : ℕ → Bool) → Listing p 0 0 (replicate terms 0)
 unfolding keep below
-listing_none p = record { low = omega arith; high = omega arith; count = refl; holds = refl }
+listing_none p = record { low = omega arith; count = refl; holds = refl }
 
 module _ (p : ℕ → Bool) (i n : ℕ) (found : List ℕ) (I : Listing p i n found) (h : i < terms) where
   step_out : p i ≡ false → Listing p (i + 1) n found
@@ -170,7 +168,6 @@ module _ (p : ℕ → Bool) (i n : ℕ) (found : List ℕ) (I : Listing p i n fo
       let l = I.low in
       record {
         low = omega arith;
-        high = omega arith;
         count = I.count ∙ ap length (sym k);
         holds = I.holds ∙ ap (λ (l : List ℕ). l ++ replicate (terms - n) 0) (sym k);
       }
@@ -186,7 +183,6 @@ module _ (p : ℕ → Bool) (i n : ℕ) (found : List ℕ) (I : Listing p i n fo
       let c : length (kept p (i + 1)) ≡ n + 1 = ap length k ∙ length-append (kept p i) (i ∷ []) ∙ ap (λ (v : ℕ). v + 1) (sym I.count) in
       record {
         low = omega arith;
-        high = omega arith;
         count = sym c;
         holds =
             ap (λ (l : List ℕ). set l n i) g ∙ set_at (kept p i) 0 (replicate (terms - (n + 1)) 0) i n (sym I.count)

@@ -2,28 +2,28 @@
 use mathlib.Core.Path.{◌≡◌, refl, sym, ◌∙◌, ap}
 use mathlib.Core.Bool.{Bool, true, false}
 use mathlib.Core.Logic.{◌↔◌}
-use mathlib.Core.List.{List, [], Memᴰ}
-use Prim.Native.Nat.{ℕ, zero, suc, ◌+◌, ◌*◌, ◌/◌, ◌%◌, ◌^◌, ◌≤◌, ◌<◌}
+use mathlib.Core.List.{[], Memᴰ}
+use Prim.Native.Nat.{ℕ, zero, suc, ◌+◌, ◌*◌, ◌/◌, ◌%◌, ◌^◌, ◌<◌}
 use native.Mathlib.Omega.{arith}
 use native.Mathlib.Nat.{pow-succ'}
 use native.Mathlib.Numerals.{one-add}
-use lib.ListN.{length, get_or}
+use lib.ListN.{get_or}
 use lib.Seq.{ext_get_or}
 use lib.Dec.{eqb}
-use lib.Pow.{shr-shr, pow-add}
-use borrow.Author.Tests.{eqb-true, eqb-false, eq-eqb}
+use lib.Pow.{shr-shr}
+use borrow.Author.Tests.{eqb-true, eqb-false}
 use Rattle.std.specs.declared.result.Result.TheVariants.{Err, Ok}
-use Rattle.paper.specs.Words.{keep, Walk, one, more, returns}
+use Rattle.paper.specs.Words.{Walk, one, more, returns}
 use Rattle.paper.proofs.Walks.{returns_is}
-use Rattle.paper.specs.Numbers.{Outcome, done, refused}
+use Rattle.paper.specs.Numbers.{Outcome, done}
 use Rattle.paper.specs.Answered.{Verdict}
 use Rattle.paper.proofs.Lists.{no_way}
 use Rattle.paper.specs.Answered.{Answer}
-use Rattle.term_table.specs.Table.{terms, words, Square, row, in_row, marked, numbers, edges_in, is_cyclic, Closure, cyclic_terms, unflagged, added, asked}
+use Rattle.term_table.specs.Table.{terms, words, Square, row, in_row, marked, numbers, edges_in, is_cyclic, Closure, cyclic_terms, added, asked}
 use Rattle.term_table.proofs.Bits.{bit}
 use Rattle.term_table.proofs.Lists.{mem_keep, mem_numbers}
 use Rattle.term_table.proofs.Turns.{cyclic_within}
-use Rattle.term_table.proofs.Marks.{Whole, Stored}
+use Rattle.term_table.proofs.Marks.{Stored}
 use Rattle.term_table.proofs.Closing.{of_edges, same_test}
 
 -- ---- "A term is cyclic exactly when a walk of one or more edges returns to it."

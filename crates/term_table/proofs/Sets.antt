@@ -3,7 +3,7 @@ use mathlib.Core.Path.{◌≡◌, refl, sym, ◌∙◌, ap}
 use mathlib.Core.Logic.{◌↔◌}
 use mathlib.Core.Option.{Option, none, some}
 use mathlib.Core.List.Memᴰ
-use mathlib.Core.List.{List, [], ◌∷◌, map, Memᴰ}
+use mathlib.Core.List.{[], ◌∷◌, map, Memᴰ}
 use Prim.Native.Nat.{ℕ}
 use Rattle.paper.specs.Words.{Edges, joined}
 use Rattle.paper.specs.Sites.{Site, term_of}

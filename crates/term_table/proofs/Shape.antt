@@ -11,7 +11,7 @@ use denote.Array.{Array, each}
 use denote.Laws.{Is}
 use denote.Shadow.{shadow}
 use Rattle.term_table.specs.Table.{terms, words, Square, row}
-use Rattle.term_table.proofs.Marks.{Whole, Stored}
+use Rattle.term_table.proofs.Marks.{Stored}
 
 each_words : (xs : Square) (us : List Val) → shadow (each (List ℕ) (Array (UInt w64) words).own_val xs us) → (i : ℕ) → i < length xs → length (row xs i) ≡ words
 each_words [] us s i h = absurd (omega arith)

@@ -1,7 +1,6 @@
 -- The findings of a sheet: paper's list is the one that the code gives.
 use mathlib.Core.Path.{◌≡◌}
 use mathlib.Core.List.{List}
-use Prim.Native.Nat.{ℕ}
 use Rattle.paper.specs.Words.{Edges}
 use Rattle.paper.specs.Terms.{Head, is_rec, cyclic, cyclic_findings}
 use Rattle.term_table.specs.Table.{no_edges, with_edges, unflagged}

@@ -1,10 +1,9 @@
 -- 01, "Terms": "the term table is a square of 256 rows by 256 marks", 64 marks to a word, and what is asked of it.
 use Rattle.std.specs.declared.result.Result.TheVariants.{Err, Ok}
-use Rattle.std.specs.Prelude.{◌≡◌, Bool, true, false, ◌&&◌, not, ◌↔◌, List, [], ◌∷◌, ◌++◌, map, ℕ, zero, suc, ◌+◌, ◌-◌, ◌/◌, ◌%◌, ◌^◌, ◌<◌, ◌≤◌, length, get_or, set, replicate, eqb, ltb, leb}
+use Rattle.std.specs.Prelude.{◌≡◌, Bool, true, ◌&&◌, not, ◌↔◌, List, [], ◌∷◌, ◌++◌, map, ℕ, ◌+◌, ◌-◌, ◌/◌, ◌%◌, ◌^◌, ◌<◌, length, get_or, set, replicate, eqb, ltb, leb}
 use Rattle.std.specs.Int.Bits.{bit_or}
 use Rattle.paper.specs.Words.{keep, below, joined, Edges, Walk, returns}
 use Rattle.paper.specs.Numbers.{max_term, Outcome, done, refused, ◌>>=◌, demand}
-use Rattle.paper.specs.declared.Refusal.{Refusal}
 use Rattle.paper.specs.declared.Refusal.TheVariants.{TermTooHigh}
 use Rattle.paper.specs.Answered.{Verdict}
 use Rattle.paper.specs.Answered.{Answer}

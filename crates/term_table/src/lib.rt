@@ -3,7 +3,8 @@
 // A term table is `[[u64; WORDS]; TERMS]`: row a has a mark for each term that an edge from a runs to.
 #![tactic(auto)]
 
-ghost use Rattle.std.specs.Prelude.{◌≡◌, false, ◌+◌, ◌<◌};
+ghost use Rattle.std.specs.Prelude.{◌≡◌, false, ◌+◌, ◌<◌, ◌≤◌, IfOk, IfErr};
+ghost use Rattle.paper.specs.declared.Refusal.TheVariants.{TermTooHigh};
 ghost use Rattle.term_table.specs.Table.{terms, in_row, has_term, marked, no_edges, with_edge, with_term, has_edge, is_cyclic, left, bare, Closure, cyclic_terms, unflagged, added, asked, listed};
 ghost use Rattle.term_table.specs.Loops.{both_of, has_some, Unmarked, join_at, join_by, join_to, widen, pass, on_diagonal, list_to};
 
@@ -12,7 +13,7 @@ use paper::{Refusal, TERMS};
 // The words of a row, 64 marks to a word.
 pub const WORDS: usize = TERMS / 64;
 
-// Terms ascending: the first `count` of `terms`. The others are 0.
+// Terms ascending: the first `count` of `terms`. The others are 0. (No heap, so no Vec; `findings` and `cyclic_terms` answer it.)
 #[derive(Clone, Copy)]
 pub struct Listed {
     pub count: u16,
@@ -20,6 +21,7 @@ pub struct Listed {
 }
 
 // A table without edges.
+#[tactic(auto, unfolding(crate::specs::Table::no_edges, crate::specs::Table::no_marks))]
 pub fn empty() -> [[u64; WORDS]; TERMS]
     ensures { result ≡ no_edges }
 {
@@ -31,28 +33,40 @@ fn in_row(r: &[u64; WORDS], j: usize) -> bool
     requires { j < terms }
     ensures { result ≡ in_row r.now j }
 {
-    let w = r[j / 64];
-    (w >> (j % 64)) & 1 == 1
+    (r[j / 64] >> (j % 64)) & 1 == 1
 }
 
 // Whether a row has a term's mark; a term that is too high has none.
+#[tactic(auto, unfolding(crate::specs::Table::has_term))]
 pub fn has_term(r: &[u64; WORDS], term: u16) -> bool
     ensures { result ≡ has_term r.now term }
 {
-    let t = term as usize;
-    if TERMS <= t {
-        return false;
-    }
-    in_row(r, t)
+    let t = usize::from(term);
+    t < TERMS && in_row(r, t)
 }
 
 // Whether row i has the mark j.
+#[tactic(auto, unfolding(crate::specs::Table::marked))]
 fn has(t: &[[u64; WORDS]; TERMS], i: usize, j: usize) -> bool
     requires { (i < terms) × (j < terms) }
     ensures { result ≡ marked t.now i j }
 {
-    let w = t[i][j / 64];
-    (w >> (j % 64)) & 1 == 1
+    in_row(&t[i], j)
+}
+
+// Where a term stands in a row, or its row in a table.
+fn number(term: u16) -> Result<usize, Refusal>
+    ensures fits { IfOk result (λ t. (t ≡ term) × (term < terms)) }
+    ensures high { IfErr result (λ r. (r ≡ TermTooHigh term) × (terms ≤ term)) }
+{
+    let t = usize::from(term);
+    if t < TERMS {
+        Ok(t)
+    } else {
+        Err(Refusal::TermTooHigh {
+            asked: u32::from(term),
+        })
+    }
 }
 
 // Adds the edge that runs from one term to another.
@@ -60,17 +74,9 @@ pub fn add(t: &mut [[u64; WORDS]; TERMS], from: u16, to: u16) -> Result<(), Refu
     ensures result_value { added result ≡ bare (with_edge t.old from to) }
     ensures t_after { t.new ≡ left t.old (with_edge t.old from to) }
 {
-    let i = from as usize;
-    let j = to as usize;
-    if i >= TERMS {
-        return Err(Refusal::TermTooHigh { asked: from as u32 });
-    }
-    if j >= TERMS {
-        return Err(Refusal::TermTooHigh { asked: to as u32 });
-    }
-    let k = j / 64;
-    let w = t[i][k];
-    t[i][k] = w | (1 << (j % 64));
+    let i = number(from)?;
+    let j = number(to)?;
+    t[i][j / 64] |= 1 << (j % 64);
     Ok(())
 }
 
@@ -79,13 +85,8 @@ pub fn flag(r: &mut [u64; WORDS], term: u16) -> Result<(), Refusal>
     ensures result_value { added result ≡ bare (with_term r.old term) }
     ensures r_after { r.new ≡ left r.old (with_term r.old term) }
 {
-    let j = term as usize;
-    if j >= TERMS {
-        return Err(Refusal::TermTooHigh { asked: term as u32 });
-    }
-    let k = j / 64;
-    let w = r[k];
-    r[k] = w | (1 << (j % 64));
+    let j = number(term)?;
+    r[j / 64] |= 1 << (j % 64);
     Ok(())
 }
 
@@ -93,18 +94,13 @@ pub fn flag(r: &mut [u64; WORDS], term: u16) -> Result<(), Refusal>
 pub fn edge(t: &[[u64; WORDS]; TERMS], from: u16, to: u16) -> Result<bool, Refusal>
     ensures { asked result ≡ has_edge t.now from to }
 {
-    let i = from as usize;
-    let j = to as usize;
-    if i >= TERMS {
-        return Err(Refusal::TermTooHigh { asked: from as u32 });
-    }
-    if j >= TERMS {
-        return Err(Refusal::TermTooHigh { asked: to as u32 });
-    }
+    let i = number(from)?;
+    let j = number(to)?;
     Ok(has(t, i, j))
 }
 
 // Two rows together.
+#[tactic(auto, unfolding(crate::specs::Loops::both_of))]
 fn both(a: [u64; WORDS], b: [u64; WORDS]) -> [u64; WORDS]
     ensures { result ≡ both_of a b }
 {
@@ -112,6 +108,7 @@ fn both(a: [u64; WORDS], b: [u64; WORDS]) -> [u64; WORDS]
 }
 
 // Whether a row has a mark at all.
+#[tactic(auto, unfolding(crate::specs::Loops::has_some))]
 fn has_some(r: [u64; WORDS]) -> bool
     ensures { result ≡ has_some r }
 {
@@ -119,17 +116,16 @@ fn has_some(r: [u64; WORDS]) -> bool
 }
 
 // The row r joins row i.
+#[tactic(auto, unfolding(crate::specs::Loops::join_at))]
 fn join(t: &mut [[u64; WORDS]; TERMS], i: usize, r: &[u64; WORDS])
     requires { i < terms }
     ensures { t.new ≡ join_at t.old i r.now }
 {
-    let a = t[i];
-    let b = *r;
-    let c = both(a, b);
-    t[i] = c;
+    t[i] = both(t[i], *r);
 }
 
 // By its marks k and k + 1, row i is joined by nothing, by `one`, by `other` or by `two`.
+#[tactic(auto, unfolding(crate::specs::Loops::join_by))]
 fn join_by(
     t: &mut [[u64; WORDS]; TERMS],
     i: usize,
@@ -169,6 +165,7 @@ fn join_all(
 }
 
 // The row a, or `two` where a has the mark j.
+#[tactic(auto, unfolding(crate::specs::Loops::widen))]
 fn widened(a: [u64; WORDS], j: usize, two: [u64; WORDS]) -> [u64; WORDS]
     requires { j < terms }
     ensures { result ≡ widen a j two }
@@ -177,6 +174,7 @@ fn widened(a: [u64; WORDS], j: usize, two: [u64; WORDS]) -> [u64; WORDS]
 }
 
 // Whoever reaches k or k + 1 reaches what they reach. Two terms at a time, so that a row is joined once for both; terms without edges lead nowhere.
+#[tactic(auto, unfolding(crate::specs::Loops::pass))]
 fn through(t: &mut [[u64; WORDS]; TERMS], k: usize)
     requires { k + 1 < terms }
     ensures { t.new ≡ pass t.old k }
@@ -212,20 +210,18 @@ pub fn reach(mut t: [[u64; WORDS]; TERMS]) -> [[u64; WORDS]; TERMS]
 pub fn cyclic(mut t: [[u64; WORDS]; TERMS], term: u16) -> Result<bool, Refusal>
     ensures { asked result ≡ is_cyclic t term }
 {
-    let a = term as usize;
-    if a >= TERMS {
-        return Err(Refusal::TermTooHigh { asked: term as u32 });
-    }
+    let a = number(term)?;
     close(&mut t);
     Ok(has(&t, a, a))
 }
 
 // Whether term i reaches itself and is not among the others.
+#[tactic(auto, unfolding(crate::specs::Loops::on_diagonal))]
 fn listable(t: &[[u64; WORDS]; TERMS], but: &[u64; WORDS], i: usize) -> bool
     requires { i < terms }
     ensures { result ≡ on_diagonal t.now but.now i }
 {
-    if has(t, i, i) { !in_row(but, i) } else { false }
+    has(t, i, i) && !in_row(but, i)
 }
 
 // The terms that reach themselves, ascending, but for the others.
@@ -246,26 +242,20 @@ fn list(t: &[[u64; WORDS]; TERMS], but: &[u64; WORDS]) -> Listed
     }
 }
 
-// The cyclic terms.
+// The cyclic terms. Not `findings` with no recs: the table is by value here, so it needs no copy.
 pub fn cyclic_terms(mut t: [[u64; WORDS]; TERMS]) -> Listed
     ensures { result ≡ listed (cyclic_terms t) }
 {
     close(&mut t);
-    let none = [0u64; WORDS];
-    list(&t, &none)
+    list(&t, &[0u64; WORDS])
 }
 
 // Whether a table has an edge.
+#[tactic(auto, unfolding(crate::specs::Loops::UnmarkedTo))]
 fn has_edges(t: &[[u64; WORDS]; TERMS]) -> bool
     ensures { result ≡ false → Unmarked t.now }
 {
-    for i in 0..TERMS {
-        let r = t[i];
-        if has_some(r) {
-            return true;
-        }
-    }
-    false
+    t.iter().any(|r| has_some(*r))
 }
 
 // The cyclic terms without rec, where `recs` marks the terms with rec. The table is copied once, and not at all where no edge runs.

@@ -1,4 +1,3 @@
-use borrow.Author.Rules.{rules}
 use mathlib.Core.Path.{◌∙◌, ap}
 use Rattle.term_table.specs.Table.{no_marks, listed}
 use Rattle.term_table.proofs.Answers.{cyclic_listed}

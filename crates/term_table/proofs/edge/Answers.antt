@@ -1,12 +1,21 @@
-use borrow.Author.Rules.{rules}
+use Rattle.std.proofs.lemmas.Result.{err_from_is_err_and}
 use Rattle.term_table.proofs.Turns.{edge_from, edge_to, edge_told}
 use Rattle.term_table.proofs.edge.Goals as goal
 
-pub returns-then-i-ge-TERMS : goal.returns-then-i-ge-TERMS
-returns-then-i-ge-TERMS c = edge_from _ _ _ c.if-i-ge-TERMS.true
+pub returns-in_err-i : goal.returns-in_err-i
+returns-in_err-i c =
+    let e = err_from_is_err_and c.from_residual.result c.from_residual.ensures.1 in
+    let q = c.in_err-i.ensures.high in
+    rw (e.1, e.2, q.0) (edge_from c.args.t.now c.args.from c.args.to q.1)
 
-pub returns-then-j-ge-TERMS : goal.returns-then-j-ge-TERMS
-returns-then-j-ge-TERMS c = edge_to _ _ _ (search rules) c.if-j-ge-TERMS.true
+pub returns-in_err-j : goal.returns-in_err-j
+returns-in_err-j c =
+    let e = err_from_is_err_and c.from_residual-in_err-j.result c.from_residual-in_err-j.ensures.1 in
+    let q = c.in_err-j.ensures.high in
+    rw (e.1, e.2, q.0) (edge_to c.args.t.now c.args.from c.args.to c.in_ok-i.ensures.fits.1 q.1)
 
 pub returns : goal.returns
-returns c = edge_told _ _ _ (search rules) (search rules) c.has.ensures
+returns c =
+    let i = c.in_ok-i.ensures.fits in
+    let j = c.in_ok-j.ensures.fits in
+    edge_told c.args.t.now c.args.from c.args.to i.1 j.1 (rw (i.0, j.0) at c.has.ensures)

@@ -1,4 +1,3 @@
-use borrow.Author.Rules.{rules}
 use mathlib.Core.Path.{◌∙◌, ap}
 use Rattle.term_table.specs.Table.{listed}
 use Rattle.term_table.proofs.Closing.{unmarked_closed}

@@ -1,4 +1,3 @@
-use borrow.Author.Rules.{rules}
 use Rattle.term_table.proofs.Turns.{read_row}
 use Rattle.term_table.proofs.in_row.Goals as goal
 
