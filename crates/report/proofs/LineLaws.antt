@@ -1,12 +1,12 @@
 -- Lines written piece by piece.
-use mathlib.Core.Path.{◌≡◌, refl, sym, ap, ◌∙◌}
+use mathlib.Core.Path.{◌≡◌, refl, sym, ◌∙◌}
 use mathlib.Core.Bool.{Bool, true, false}
 use mathlib.Core.List.{List, [], ◌∷◌, ◌++◌, append_assoc}
 use Prim.Native.Nat.{ℕ, zero, suc, ◌+◌, ◌*◌, ◌≤◌, ◌<◌}
 use native.Mathlib.Omega.{arith}
 use native.Mathlib.Numerals.{add-one}
 use lib.ListN.{length, get_or, set, length-append}
-use lib.Seq.{sets, length-sets}
+use lib.Seq.{sets}
 use lib.Count.{ones, ones-le}
 use lib.Dec.{eqb}
 use borrow.Author.Tests.{eq-eqb, ne_eqb}
@@ -14,7 +14,7 @@ use Rattle.paper.specs.Numbers.{max_rules}
 use Rattle.std.specs.Prelude.{if◌then◌else◌}
 use Rattle.paper.specs.Words.{two, four}
 use Rattle.sheet_digits.specs.Digits.{digits_of}
-use Rattle.sheet_digits.proofs.DigitLaws.{then_sets, length_digits}
+use Rattle.sheet_digits.proofs.DigitLaws.{then_sets}
 use Rattle.report.specs.Rows.{bits, bit_at}
 use Rattle.report.specs.Lines.{line_room, report_room, Wrote, place_text, places_text, rest_text, overlap_text, mask_text, masks_in, rule_text, lists_text}
 
@@ -70,9 +70,6 @@ places_turn l v z at e f ps w k a b = rw add-one (wrote_then a b)
 pub places_fit : (l v : List ℕ) (at e : ℕ) (ps : List ℕ) (w k : ℕ) → Wrote l v at e (places_text ps w k) → k ≤ max_rules → e ≤ at + 8 * max_rules
 places_fit l v at e ps w k a h = omega (arith, a.ends, places_short ps w k)
 
-pub places_all : (l v : List ℕ) (at e : ℕ) (ps : List ℕ) (w k n : ℕ) → k ≤ n → n ≤ k → Wrote l v at e (places_text ps w k) → Wrote l v at e (places_text ps w n)
-places_all l v at e ps w k n h m a = let z : k ≡ n = omega arith in rw z at a
-
 -- ---- the lines
 pub count_fits : (w : ℕ) → w < 18446744073709551616 → ones w ≤ 64
 count_fits w h = ones-le 64 w h
@@ -118,9 +115,6 @@ module _ (ps : List ℕ) (p w n : ℕ) where
 
         two_at : l₃ ≡ sets l₂ (at + 10) (digits_of (two (ones w))) → Wrote l₂ l₃ (at + 10) (at + 14) (digits_of (two (ones w)))
         two_at q = record { ends = omega (arith, length_two (ones w)); into = q }
-
-pub wrote_length : {l v : List ℕ} {at e : ℕ} {text : List ℕ} → Wrote l v at e text → length v ≡ length l
-wrote_length {l} {v} {at} {e} {text} a = ap length a.into ∙ length-sets l at text
 
 -- ---- how long they are
 line_long : (xs ys zs rest : List ℕ) (k : ℕ) → length xs ≡ 2 → length ys ≡ 4 → length zs ≡ 8 → length rest ≤ 8 * k + 1 → length (xs ++ (ys ++ (zs ++ rest))) ≤ 15 + 8 * k
@@ -174,14 +168,8 @@ module _ (ws all os ps ts : List ℕ) (n : ℕ) where
   pub lists_fit : {l v : List ℕ} {e : ℕ} (k : ℕ) → Wrote l v 0 e (lists_text ws all os ps ts n k) → n ≤ max_rules → k ≤ n → e ≤ report_room
   lists_fit k a h m = omega (arith, a.ends, lists_long h k)
 
-  pub lists_all : {l v : List ℕ} {e : ℕ} (k : ℕ) → k ≤ n → n ≤ k → Wrote l v 0 e (lists_text ws all os ps ts n k) → Wrote l v 0 e (lists_text ws all os ps ts n n)
-  lists_all k h m a = let z : k ≡ n = omega arith in rw z at a
-
 pub overlap_fit : {l v : List ℕ} {at e : ℕ} (ps : List ℕ) (p w n : ℕ) → Wrote l v at e (overlap_text ps p w n) → n ≤ max_rules → e ≤ at + line_room
 overlap_fit ps p w n a h = omega (arith, a.ends, overlap_long ps p w n)
-
-pub mask_fit : {l v : List ℕ} {at e : ℕ} (ps : List ℕ) (p w n : ℕ) → Wrote l v at e (mask_text ps p w n) → n ≤ max_rules → e ≤ at + line_room
-mask_fit ps p w n a h = omega (arith, a.ends, mask_long ps p w n)
 
 pub line_fit : {l v : List ℕ} {at e : ℕ} (ps : List ℕ) (w n : ℕ) → Wrote l v at e (places_text ps w n) → n ≤ max_rules → e ≤ at + 8 * max_rules
 line_fit ps w n a h = omega (arith, a.ends, places_short ps w n)

@@ -1,16 +1,16 @@
 -- Lists of numbers, and the words of their bits.
 use mathlib.Core.Path.{◌≡◌, refl, sym, ap, ◌∙◌}
-use mathlib.Core.Bool.{Bool, true, false, ◌&&◌}
+use mathlib.Core.Bool.{Bool, true, false}
 use mathlib.Core.List.{List, [], ◌∷◌, ◌++◌, map, append_assoc, append-nil}
-use Prim.Native.Nat.{ℕ, zero, suc, ◌+◌, ◌≤◌, ◌<◌}
+use Prim.Native.Nat.{ℕ, zero, suc, ◌+◌, ◌<◌}
 use native.Mathlib.Omega.{arith}
-use lib.ListN.{length, get_or, length-append, length-map}
+use lib.ListN.{length, get_or, length-append}
 use lib.Dec.{ltb}
 use Rattle.paper.specs.Words.{keep, below, joined, place_by, sort_by, flag}
 use Rattle.paper.proofs.Lists.{map_append}
 use Rattle.rule_words.specs.Stored.{run}
 use Rattle.report.specs.Rows.{bits}
-use Rattle.report.proofs.RowLaws.{tally, ones_bits, bits_none}
+use Rattle.report.proofs.RowLaws.{tally, bits_none}
 
 abbrev pub numbers : ℕ → List ℕ
 numbers n = below n (λ j. j)

@@ -1,20 +1,20 @@
 -- The report names every edge exactly once, and no pair that is no edge.
 use mathlib.Core.Path.{◌≡◌, refl, sym, ap, ◌∙◌}
-use mathlib.Core.Bool.{Bool, true, false, ◌&&◌, not}
+use mathlib.Core.Bool.{Bool, true, false}
 use mathlib.Core.List.{List, [], ◌∷◌, ◌++◌, map}
 use Prim.Native.Nat.{ℕ, zero, suc, ◌+◌, ◌≤◌, ◌<◌}
 use native.Mathlib.Omega.{arith}
 use native.Mathlib.Decide.{ℕ_discrete, dec_lt}
 use lib.ListN.{length, get_or}
 use lib.Dec.{eqb, ltb}
-use borrow.Author.Tests.{eqb-true, eqb-false, eq-eqb, ne_eqb, lt-ltb, le-ltb}
+use borrow.Author.Tests.{eq-eqb, ne_eqb, lt-ltb, le-ltb}
 use Rattle.std.specs.Prelude.{if◌then◌else◌}
 use Rattle.paper.specs.Words.{keep, below, joined, flag}
 use Rattle.paper.specs.Loading.{Kept}
 use Rattle.paper.specs.Rules.{Listed, overlap, mask, Graph, edge, linked, neighbours, busiest, without, take_places, overlap_lists, mask_lists, masked_by, listed_from, by_place, report_of, no_rule}
 use Rattle.paper.proofs.Lists.{map_append}
 use Rattle.report.specs.Named.{count, named_in, times, named_by, times_in}
-use Rattle.report.proofs.ListLaws.{numbers, keep_yes, keep_no, keep_map, kept_next, joined_append, joined_one, joined_none, below_next, below_none}
+use Rattle.report.proofs.ListLaws.{numbers, keep_yes, keep_no, kept_next, joined_append, joined_one, joined_none, below_next, below_none}
 use Rattle.report.proofs.TakeLaws.{Lists, firsts, places_at, places_stop, places_none}
 use Rattle.report.proofs.OnceLaws.{edges_once, busiest_less, keep_none, count_append, count_single, count_none}
 

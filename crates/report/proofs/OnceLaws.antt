@@ -1,20 +1,20 @@
 -- Taking places names every edge exactly once, and no pair that is no edge.
 use mathlib.Core.Path.{◌≡◌, refl, sym, ap, ◌∙◌}
 use mathlib.Core.Bool.{Bool, true, false, ◌&&◌, not}
-use mathlib.Core.List.{List, [], ◌∷◌, ◌++◌, map}
+use mathlib.Core.List.{List, [], ◌∷◌, ◌++◌}
 use Prim.Native.Nat.{ℕ, zero, suc, ◌+◌, ◌≤◌, ◌<◌}
 use native.Mathlib.Omega.{arith}
 use native.Mathlib.Decide.{ℕ_discrete}
-use lib.ListN.{length, get_or, length-append}
-use lib.Dec.{eqb, ltb, leb}
-use borrow.Author.Tests.{eqb-true, eqb-false, eq-eqb, ne_eqb, leb-true, leb-false}
+use lib.ListN.{length, length-append}
+use lib.Dec.{eqb, leb}
+use borrow.Author.Tests.{eq-eqb, ne_eqb, leb-true, leb-false}
 use Rattle.std.specs.Prelude.{if◌then◌else◌}
 use Rattle.paper.specs.Words.{keep, below, flag}
 use Rattle.paper.specs.Rules.{Graph, neighbours, degree, better, busiest, without, take_places}
 use Rattle.paper.proofs.Lists.{and_false, none_in}
 use Rattle.report.specs.Named.{count, named_in, times}
 use Rattle.report.proofs.RowLaws.{tally}
-use Rattle.report.proofs.ListLaws.{numbers, keep_yes, keep_no, keep_append, kept_next, below_none, count_kept}
+use Rattle.report.proofs.ListLaws.{numbers, keep_yes, keep_no, keep_append, kept_next, count_kept}
 use Rattle.report.proofs.TakeLaws.{places_at, places_stop, places_none, without_is, neighbours_are, no_edge}
 
 -- ---- counting a number among those that pass a test

@@ -1,22 +1,18 @@
 -- The report's answer, return by return; and the room that is enough.
 use mathlib.Core.Path.{◌≡◌, refl, sym, ap, ◌∙◌}
-use mathlib.Core.Bool.{Bool, true, false}
-use mathlib.Core.List.{List, [], ◌∷◌, ◌++◌, map}
-use Prim.Native.Nat.{ℕ, zero, suc, ◌+◌, ◌*◌, ◌%◌, ◌≤◌, ◌<◌}
+use mathlib.Core.List.{List, [], ◌++◌}
+use Prim.Native.Nat.{ℕ, zero, suc, ◌+◌, ◌%◌, ◌≤◌, ◌<◌}
 use native.Mathlib.Omega.{arith}
 use native.Mathlib.Decide.{ℕ_discrete}
-use lib.ListN.{length, get_or, take, drop, replicate}
-use lib.Seq.{sets, sets-eq, take_all}
-use lib.Dec.{eqb, ltb}
+use lib.ListN.{length, take, drop, replicate}
+use lib.Seq.{sets-eq, take_all}
 use borrow.Author.Tests.{eq-eqb, ne_eqb, lt-ltb, le-ltb}
 use Rattle.std.specs.declared.result.Result.TheVariants.{Err, Ok}
 use Rattle.paper.specs.Numbers.{max_rules}
-use Rattle.std.specs.Prelude.{if◌then◌else◌}
-use Rattle.paper.specs.Words.{joined, sort_by}
+use Rattle.paper.specs.Words.{sort_by}
 use Rattle.paper.specs.Loading.{Kept}
-use Rattle.paper.specs.Rules.{Listed, report_of, report_for, is_multi}
+use Rattle.paper.specs.Rules.{report_of, report_for, is_multi}
 use Rattle.rule_words.specs.Stored.{run, kept_first}
-use Rattle.report.specs.Reported.{Reported}
 use Rattle.report.specs.declared.Unreported.TheVariants.{TooManyRules, NoRoom}
 use Rattle.report.specs.Rows.{filled, place_in, named, lower_word, row_word, take_from}
 use Rattle.report.specs.Lines.{report_room, Wrote, lists_text, report_text, reported, room_after}

@@ -1,7 +1,7 @@
 -- Words of bits, turn by turn; and what they count.
 use mathlib.Core.Path.{◌≡◌, refl, sym, ap, ◌∙◌}
-use mathlib.Core.Bool.{Bool, true, false, ◌&&◌, ◌||◌, not}
-use mathlib.Core.List.{List, [], ◌∷◌, ◌++◌}
+use mathlib.Core.Bool.{Bool, true, false, ◌&&◌}
+use mathlib.Core.List.{List}
 use Prim.Native.Nat.{ℕ, zero, suc, ◌+◌, ◌-◌, ◌*◌, ◌/◌, ◌%◌, ◌^◌, ◌≤◌, ◌<◌}
 use native.Mathlib.Omega.{arith}
 use native.Mathlib.Numerals.{add-one, unary_clauses}
@@ -12,13 +12,13 @@ use lib.Bits.{bit_and, and_block, and_zero_l}
 use lib.Count.{ones, ones_cat}
 use lib.Pow.{pow-lt, pow-add, pow_pos, pow_mono, high, split}
 use native.Mathlib.Nat.{mod-lt, add-mul, mul_assoc}
-use lib.Dec.{eqb, ltb, leb}
-use borrow.Author.Tests.{eq-eqb, ne_eqb, eqb-true, lt-ltb, le-ltb, ltb-true, ltb-false, le-leb, lt-leb}
+use lib.Dec.{eqb, leb}
+use borrow.Author.Tests.{eq-eqb, ne_eqb, eqb-true, lt-ltb, le-ltb}
 use Rattle.paper.specs.Numbers.{max_rules}
 use Rattle.std.specs.Prelude.{if◌then◌else◌}
 use Rattle.paper.specs.Words.{flag}
 use Rattle.paper.specs.Rules.{edge}
-use Rattle.rule_words.specs.Stored.{base, place_at, kept_in}
+use Rattle.rule_words.specs.Stored.{kept_in}
 use Rattle.report.specs.Rows.{place_in, named, earlier, lower_word, row_word, bits, bit_at, filled, either, degree_of, better_of, busiest_of, cleared, take_from}
 
 pub upto : {A : Type 0} (f : ℕ → A) (r : A) (k n : ℕ) → k ≤ n → n ≤ k → r ≡ f k → r ≡ f n
@@ -202,52 +202,7 @@ ones_bits f (suc j) =
     ap ones (bits_top f j) ∙ (ones_cat j (flag (f j)) (bits f j) (bits_bound f j) ∙ (ap (λ x. x + ones (bits f j)) (ones_flag (f j)) ∙ ap (λ x. flag (f j) + x) (ones_bits f j)))
 
 -- ---- the functions over words, return by return
-pub bit_so : (t : Bool) (j : ℕ) → t ≡ true → j < 64 → (1 * 2 ^ j) % 18446744073709551616 ≡ bit_of t j
-bit_so t j e h = rw e (bit_there j h)
-
-pub bit_none : (t : Bool) (j : ℕ) → t ≡ false → 0 ≡ bit_of t j
-bit_none t j e = rw e
-
-pub has_so : (w j : ℕ) → j < 64 → (eqb (w / 2 ^ j % 2) 1 ≡ bit_at w j) × (eqb (w / 2 ^ j % 2) 1 ≡ true → (j < 64) × (2 ^ j ≤ w))
-has_so w j h = (has_bit w j h, λ e. (h, bit_within w j e))
-
-pub has_not : (w j : ℕ) → 64 ≤ j → (false ≡ bit_at w j) × (false ≡ true → (j < 64) × (2 ^ j ≤ w))
-has_not w j h = (no_bit w j h, λ e. let z : ◌≡◌ {A = ℕ} 0 1 = cc in absurd (omega arith))
-
-pub cleared_so : (w b x : ℕ) (t : Bool) → t ≡ bit_at w b → t ≡ true → x ≡ bit_of true b → w - x ≡ cleared w b
-unfolding cleared
-cleared_so w b x t e g h = rw (← e, g, h)
-
-pub cleared_not : (w b : ℕ) (t : Bool) → t ≡ bit_at w b → t ≡ false → w ≡ cleared w b
-unfolding cleared
-cleared_not w b t e g = rw (← e, g)
-
-module _ (low : List ℕ) (p q : ℕ) where
-  pub either_low : (w : ℕ) (t : Bool) → q < p → w ≡ get_or low p 0 → t ≡ bit_at w q → t ≡ either low p q
-  unfolding either
-  either_low w t h e g = rw (lt-ltb q p h, ← e) g
-
-  pub either_high : (w : ℕ) (t : Bool) → p ≤ q → p < q → w ≡ get_or low q 0 → t ≡ bit_at w p → t ≡ either low p q
-  unfolding either
-  either_high w t k h e g = rw (le-ltb q p k, lt-ltb p q h, ← e) g
-
-  pub either_self : p ≤ q → q ≤ p → false ≡ either low p q
-  unfolding either
-  either_self k h = rw (le-ltb q p k, le-ltb p q h)
-
 module _ (rows : List ℕ) (left : ℕ) where
-  pub degree_so : (p w : ℕ) → w ≡ get_or rows p 0 → ones (bit_and w left) ≡ degree_of rows left p
-  unfolding degree_of
-  degree_so p w e = rw e
-
-  pub better_later : (a b x y : ℕ) → x ≡ degree_of rows left a → y ≡ degree_of rows left b → x ≤ y → b ≡ better_of rows left a b
-  unfolding better_of
-  better_later a b x y e f h = rw (← e, ← f, le-leb x y h)
-
-  pub better_first : (a b x y : ℕ) → x ≡ degree_of rows left a → y ≡ degree_of rows left b → y < x → a ≡ better_of rows left a b
-  unfolding better_of
-  better_first a b x y e f h = rw (← e, ← f, lt-leb x y h)
-
   better_one : (a b m : ℕ) → a < m → b < m → better_of rows left a b < m
   unfolding better_of
   better_one a b m h k = go (leb (degree_of rows left a) (degree_of rows left b))
@@ -268,10 +223,6 @@ module _ (rows : List ℕ) (left : ℕ) where
   unfolding busiest_of
   busiest_small zero m h l = l
   busiest_small (suc k) m h l = better_one (busiest_of rows left k) k m (busiest_small k m (omega arith) l) (omega arith)
-
-pub place_so : (ws : List ℕ) (i a p : ℕ) → a ≡ base i → p ≡ place_at ws a → p ≡ place_in ws i
-unfolding place_in
-place_so ws i a p e f = f ∙ ap (place_at ws) e
 
 pub named_so : (ws os : List ℕ) (q i p : ℕ) → i ≡ get_or os q 0 → p ≡ place_in ws i → p ≡ named ws os q
 unfolding named
@@ -320,6 +271,3 @@ take_none n rows left taken = let z : n - 0 ≡ n = omega arith in ap (λ k. tak
 pub take_end : (k n : ℕ) (rows : List ℕ) (left : ℕ) (taken goal : List ℕ) → n ≤ k → take_from (n - k) n rows left taken ≡ goal → taken ≡ goal
 unfolding take_from
 take_end k n rows left taken goal h g = let z : n - k ≡ 0 = omega arith in let x : take_from (n - k) n rows left taken ≡ taken = rw (z, take_from) in sym x ∙ g
-
-pub without_fits : (w b x : ℕ) (t : Bool) → (t ≡ true → (b < 64) × (2 ^ b ≤ w)) → t ≡ true → x ≡ bit_of true b → x ≤ w
-without_fits w b x t h e f = omega (arith, (h e).1)

@@ -1,7 +1,7 @@
 -- Taking places over rows is taking places over the graph that the rows hold.
 use mathlib.Core.Path.{◌≡◌, refl, sym, ap, ◌∙◌}
 use mathlib.Core.Bool.{Bool, true, false, ◌&&◌, not}
-use mathlib.Core.List.{List, [], ◌∷◌, ◌++◌, map}
+use mathlib.Core.List.{List, [], ◌∷◌}
 use Prim.Native.Nat.{ℕ, zero, suc, ◌+◌, ◌-◌, ◌^◌, ◌≤◌, ◌<◌}
 use native.Mathlib.Omega.{arith}
 use native.Mathlib.Decide.{ℕ_discrete}
@@ -9,15 +9,14 @@ use lib.ListN.{length, get_or, set, length-set}
 use lib.Seq.{get_or-set_same, get_or-set_other}
 use lib.Bits.{bit_and}
 use lib.Count.{ones}
-use lib.Dec.{eqb, leb}
-use borrow.Author.Tests.{eqb-true, eqb-false, eq-eqb, ne_eqb}
+use lib.Dec.{eqb}
+use borrow.Author.Tests.{eq-eqb, ne_eqb}
 use Rattle.paper.specs.Numbers.{max_rules}
-use Rattle.std.specs.Prelude.{if◌then◌else◌}
 use Rattle.paper.specs.Words.{keep}
 use Rattle.paper.specs.Rules.{Graph, neighbours, degree, better, busiest, without, take_places}
 use Rattle.paper.proofs.Lists.{none_in}
 use Rattle.report.specs.Rows.{bits, bit_at, degree_of, better_of, busiest_of, cleared, take_from}
-use Rattle.report.proofs.RowLaws.{bits_same, bits_at, bits_bound, bits_none, bit_of, and_wide, ones_bits, tally, busiest_small}
+use Rattle.report.proofs.RowLaws.{bits_same, bits_at, bit_of, and_wide, ones_bits, tally, busiest_small}
 use Rattle.report.proofs.ListLaws.{numbers, keep_yes, keep_no, count_kept, none_counted}
 
 -- ---- a bit taken out of a word

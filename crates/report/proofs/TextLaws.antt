@@ -1,15 +1,15 @@
 -- The lines are those of paper's report.
 use mathlib.Core.Path.{◌≡◌, refl, sym, ap, ◌∙◌}
-use mathlib.Core.Bool.{Bool, true, false, ◌&&◌, not}
-use mathlib.Core.List.{List, [], ◌∷◌, ◌++◌, map, append_assoc, append-nil}
-use Prim.Native.Nat.{ℕ, zero, suc, ◌+◌, ◌-◌, ◌≤◌, ◌<◌}
+use mathlib.Core.Bool.{Bool, true, false}
+use mathlib.Core.List.{List, [], ◌∷◌, ◌++◌, map, append_assoc}
+use Prim.Native.Nat.{ℕ, zero, suc, ◌+◌, ◌≤◌, ◌<◌}
 use native.Mathlib.Omega.{arith}
 use native.Mathlib.Numerals.{add-one}
 use native.Mathlib.Decide.{ℕ_discrete, dec_lt}
 use lib.ListN.{length, get_or, take, length-map, get_or-map, length-replicate, get_or-replicate, replicate}
 use lib.Seq.{get_or-take, length-take-le}
 use lib.Count.{ones}
-use lib.Dec.{eqb, ltb}
+use lib.Dec.{ltb}
 use borrow.Author.Tests.{eq-eqb, ne_eqb, lt-ltb, le-ltb}
 use Rattle.paper.specs.Numbers.{max_rules}
 use Rattle.std.specs.Prelude.{if◌then◌else◌}
@@ -17,17 +17,15 @@ use Rattle.paper.specs.Words.{keep, below, joined, sort_by, two, four}
 use Rattle.paper.specs.Layout.{hex}
 use Rattle.paper.specs.Sheets.{listed_found}
 use Rattle.paper.specs.Loading.{Kept}
-use Rattle.paper.specs.Rules.{Listed, overlap, mask, Graph, edge, masks, linked, by_place, take_places, overlap_lists, masked_by, mask_lists, listed_from, report_of, no_rule}
+use Rattle.paper.specs.Rules.{Listed, overlap, mask, edge, masks, linked, by_place, take_places, overlap_lists, masked_by, mask_lists, listed_from, report_of, no_rule}
 use Rattle.paper.proofs.Lists.{map_append, none_in, and_true}
-use Rattle.rule_words.specs.Stored.{run, base, place_at, kept_at, kept_in, kept_first}
-use Rattle.rule_words.proofs.StoreLaws.{run_same}
+use Rattle.rule_words.specs.Stored.{run, kept_at, kept_in, kept_first}
 use Rattle.sheet_digits.specs.Digits.{digits_of}
 use Rattle.sheet_digits.proofs.DigitLaws.{digits_append, hex_digits}
 use Rattle.report.specs.Rows.{bits, bit_at, filled, place_in, named, earlier, lower_word, either, row_word, take_from}
 use Rattle.report.specs.Lines.{place_text, places_text, rest_text, overlap_text, mask_text, masks_in, rule_text, lists_text}
-use Rattle.report.proofs.RowLaws.{bits_at, bits_same, bits_none, ones_bits, filled_at, filled_length, tally}
+use Rattle.report.proofs.RowLaws.{bits_at, ones_bits, filled_at, filled_length, tally}
 use Rattle.report.proofs.ListLaws.{numbers, keep_yes, keep_no, keep_map, kept_next, map_map, joined_append, joined_one, joined_cons, joined_none, below_next, below_none, below_map, run_below, count_kept, none_counted, sort_map, map_run, get_d_any}
-use Rattle.report.proofs.OrderLaws.{sort_length}
 use Rattle.report.proofs.TakeLaws.{Held, Taken, never, once, live, firsts, Lists}
 
 abbrev pub line : Listed → List ℕ

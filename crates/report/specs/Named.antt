@@ -1,5 +1,5 @@
 -- How often lists name a pair: one of the two stands first, the other among its neighbours.
-use Rattle.std.specs.Prelude.{◌≡◌, Bool, true, false, List, [], ◌∷◌, ℕ, ◌+◌, length, eqb}
+use Rattle.std.specs.Prelude.{List, [], ◌∷◌, ℕ, ◌+◌, length, eqb}
 use Rattle.std.specs.Prelude.{if◌then◌else◌}
 use Rattle.paper.specs.Words.{keep}
 use Rattle.paper.specs.Rules.{Listed, overlap, mask}
