@@ -2,10 +2,9 @@
 use mathlib.Core.Path.{◌≡◌, sym, ◌∙◌, ap, subst}
 use mathlib.Core.Bool.{Bool, true, false}
 use mathlib.Core.List.{List, []}
-use Prim.Native.Nat.{ℕ, ◌*◌, ◌≤◌, ◌<◌, ◌+◌, min}
+use Prim.Native.Nat.{ℕ, ◌≤◌, ◌<◌, ◌+◌, min}
 use native.Mathlib.Omega.{arith}
-use lib.ListN.{length, get_or}
-use lib.Dec.{leb}
+use lib.ListN.{get_or}
 use borrow.Author.Tests.{le-leb, lt-leb}
 use Rattle.std.specs.declared.result.Result.TheVariants.{Err, Ok}
 use Rattle.std.specs.declared.option.Option.TheVariants.{None, Some}
@@ -18,7 +17,7 @@ use Rattle.paper.specs.Numbers.{max_sites, max_items, Outcome, done, refused, �
 use Rattle.paper.specs.Loading.{Loading, load_items, hangs, hanging, no_hanging, no_items}
 use Rattle.sites.specs.Slots.{sites_in}
 use Rattle.rule_lists.specs.Entries.{found_as}
-use Rattle.rule_items.specs.Shown.{Told, Rowed, roomy, items_in}
+use Rattle.rule_items.specs.Shown.{Told, Rowed, items_in}
 use Rattle.rule_hanging.specs.Seen.{names, Sees, Known}
 use Rattle.rule_items.specs.Way.{Way, Walk}
 use Rattle.rule_items.specs.declared.Progress.{Progress}
@@ -49,37 +48,6 @@ pub few_items : (m : List ℕ) (n : ℕ) (tail sites rows words : List ℕ) (hel
 few_items m n tail sites rows words held ws count f h g l X =
     let e : count ≡ min count max_items = omega arith in
     subst (λ (k : ℕ). Known l (names (held_items ws k) []) → f ≡ found_as (least (keep (hangs l) (names (held_items ws k) [])))) e (g l X)
-
--- ---- room
-
-module _ (tail sites rows words kids eqs : List ℕ) where
-  pub short_tail : length tail < 8 * max_items → false ≡ roomy tail sites rows words kids eqs
-  unfolding roomy
-  short_tail h = rw (lt-leb (8 * max_items) (length tail) h)
-
-  module _ (a : 8 * max_items ≤ length tail) where
-    pub short_sites : length sites < max_items → false ≡ roomy tail sites rows words kids eqs
-    unfolding roomy
-    short_sites h = rw (le-leb (8 * max_items) (length tail) a, lt-leb max_items (length sites) h)
-
-    module _ (b : max_items ≤ length sites) where
-      pub short_rows : length rows < max_items → false ≡ roomy tail sites rows words kids eqs
-      unfolding roomy
-      short_rows h = rw (le-leb (8 * max_items) (length tail) a, le-leb max_items (length sites) b, lt-leb max_items (length rows) h)
-
-      module _ (d : max_items ≤ length rows) where
-        pub short_words : length words < 3 * max_items → false ≡ roomy tail sites rows words kids eqs
-        unfolding roomy
-        short_words h = rw (le-leb (8 * max_items) (length tail) a, le-leb max_items (length sites) b, le-leb max_items (length rows) d, lt-leb (3 * max_items) (length words) h)
-
-        module _ (e : 3 * max_items ≤ length words) where
-          pub short_kids : length kids < 8 * max_items → false ≡ roomy tail sites rows words kids eqs
-          unfolding roomy
-          short_kids h = rw (le-leb (8 * max_items) (length tail) a, le-leb max_items (length sites) b, le-leb max_items (length rows) d, le-leb (3 * max_items) (length words) e, lt-leb (8 * max_items) (length kids) h)
-
-          pub room_rest : 8 * max_items ≤ length kids → leb (2 * max_items) (length eqs) ≡ roomy tail sites rows words kids eqs
-          unfolding roomy
-          room_rest h = rw (le-leb (8 * max_items) (length tail) a, le-leb max_items (length sites) b, le-leb max_items (length rows) d, le-leb (3 * max_items) (length words) e, le-leb (8 * max_items) (length kids) h)
 
 -- ---- the rows
 

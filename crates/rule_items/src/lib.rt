@@ -17,7 +17,6 @@ ghost use Rattle.rule_items.specs.Way.{Way, Room, Space, Turn, Walk, Worded, Fil
 
 use paper::{Constraint, FIELDS, ITEMS, Item, Refusal, SITES};
 use rule_words::{Packed, word};
-use widths::size16;
 
 // How the rule fares; how many words the tail has, how many sites are constrained, how many numbers the equalities have.
 #[derive(Clone, Copy)]
@@ -44,20 +43,13 @@ fn field_count(c: Constraint) -> usize
     ensures { (result ≡ fields c) × (result < 256) }
 {
     match c {
-        Constraint::Variant {
-            ty: _,
-            variant: _,
+        Constraint::Variant { fields, .. } | Constraint::Struct { fields, .. } => usize::from(
             fields,
-        } => fields as usize,
-        Constraint::Struct { ty: _, fields } => fields as usize,
-        Constraint::ConstBool { ty: _, val: _ } => 0,
-        Constraint::ConstInt {
-            ty: _,
-            high: _,
-            low: _,
-        } => 0,
-        Constraint::ConstPrim { val: _ } => 0,
-        Constraint::Some => 0,
+        ),
+        Constraint::ConstBool { .. }
+        | Constraint::ConstInt { .. }
+        | Constraint::ConstPrim { .. }
+        | Constraint::Some => 0,
     }
 }
 
@@ -68,11 +60,8 @@ fn same_row(words: &[u64], i: u16, c: Constraint) -> bool
     ensures { result ≡ same_constraint c (shape_in words.now i) }
 {
     let p = rule_words::pack(c);
-    let k = 3 * size16(i);
-    if p.head != word(words, k) {
-        return false;
-    }
-    if p.second != word(words, k + 1) {
+    let k = 3 * usize::from(i);
+    if p.head != word(words, k) || p.second != word(words, k + 1) {
         return false;
     }
     p.third == word(words, k + 2)
@@ -93,11 +82,7 @@ fn set_kids(kids: &mut [u16], i: usize, of: [u16; FIELDS])
     ensures { Filled kids.old i of max_fields kids.new }
 {
     let k = FIELDS * i;
-    let mut f = 0;
-    while f < FIELDS {
-        kids[k + f] = of[f];
-        f += 1;
-    }
+    kids[k..k + FIELDS].copy_from_slice(&of);
 }
 
 // ---- an item
@@ -128,15 +113,13 @@ fn constrain(
     ensures inside { Inside kids.old → Inside kids.new }
 {
     let g = rule_children::add_children(m, n, tail, t, i as u32, s, c);
-    let answer = g.outcome;
-    let of = g.numbers;
-    match answer {
+    match g.outcome {
         Err(why) => refuse(why),
         Ok(total) => {
             let more = rule_lists::put(sites, rows, held, s, i as u16);
             let p = rule_words::pack(c);
             set_words(words, i, p);
-            set_kids(kids, i, of);
+            set_kids(kids, i, g.numbers);
             Progress {
                 tail: total - n,
                 held: more,
@@ -170,7 +153,7 @@ fn is_item(
         (load_item l i (Is s c)) }
     ensures inside { Inside kids.old → Inside kids.new }
 {
-    if size16(n) + size16(t) <= size16(s) {
+    if usize::from(n) + usize::from(t) <= usize::from(s) {
         return refuse(Refusal::Unknown { site: s });
     }
     let many = field_count(c);
@@ -180,22 +163,19 @@ fn is_item(
             at: i as u32,
         });
     }
-    let there = rule_lists::look(sites, rows, held, s);
-    match there {
-        None => constrain(
+    let Some(row) = rule_lists::look(sites, rows, held, s) else {
+        return constrain(
             m, n, tail, t, sites, rows, held, words, kids, equal, i, s, c,
-        ),
-        Some(row) => {
-            if same_row(words, row, c) {
-                return Progress {
-                    tail: t,
-                    held,
-                    equal,
-                    answer: Ok(()),
-                };
-            }
-            refuse(Refusal::Unreachable { site: s, other: s })
-        }
+        );
+    };
+    if !same_row(words, row, c) {
+        return refuse(Refusal::Unreachable { site: s, other: s });
+    }
+    Progress {
+        tail: t,
+        held,
+        equal,
+        answer: Ok(()),
     }
 }
 
@@ -214,11 +194,11 @@ fn equal_item(
     ensures { (m tail sites rows words kids : List ℕ) (l : Loading) → Way m n tail t sites rows words kids held eqs.old equal i l →
         Turn m n tail sites rows words kids eqs.new result i (load_item l i (Equal a b)) }
 {
-    let total = size16(n) + size16(t);
-    if total <= size16(a) {
+    let total = usize::from(n) + usize::from(t);
+    if total <= usize::from(a) {
         return refuse(Refusal::Unknown { site: a });
     }
-    if total <= size16(b) {
+    if total <= usize::from(b) {
         return refuse(Refusal::Unknown { site: b });
     }
     eqs[equal] = a;
@@ -283,34 +263,27 @@ fn walk(
         count its (load_items (no_items (sites_in m.now n)) 0 its) }
     ensures inside { Inside kids.old → Inside kids.new }
 {
-    let mut t: u16 = 0;
-    let mut held: usize = 0;
-    let mut equal: usize = 0;
-    let mut i: u8 = 0;
-    while i < count {
+    let mut p = Progress {
+        tail: 0,
+        held: 0,
+        equal: 0,
+        answer: Ok(()),
+    };
+    for i in 0..count {
         let it = item_words::item_at(items, i);
-        let p = take_item(
-            m, n, tail, t, sites, rows, held, words, kids, eqs, equal, i as usize, it,
+        p = take_item(
+            m, n, tail, p.tail, sites, rows, p.held, words, kids, eqs, p.equal, i as usize, it,
         );
-        let a = p.answer;
-        let Ok(()) = a else {
+        let Ok(()) = p.answer else {
             return p;
         };
-        t = p.tail;
-        held = p.held;
-        equal = p.equal;
-        i += 1;
     }
-    Progress {
-        tail: t,
-        held,
-        equal,
-        answer: Ok(()),
-    }
+    p
 }
 
 // ---- the rule
 
+#[tactic(auto, unfolding(crate::specs::Shown::roomy))]
 fn has_room(
     tail: &[u64],
     sites: &[u16],
@@ -321,22 +294,12 @@ fn has_room(
 ) -> bool
     ensures { result ≡ roomy tail.now sites.now rows.now words.now kids.now eqs.now }
 {
-    if tail.len() < FIELDS * ITEMS {
-        return false;
-    }
-    if sites.len() < ITEMS {
-        return false;
-    }
-    if rows.len() < ITEMS {
-        return false;
-    }
-    if words.len() < 3 * ITEMS {
-        return false;
-    }
-    if kids.len() < FIELDS * ITEMS {
-        return false;
-    }
-    2 * ITEMS <= eqs.len()
+    FIELDS * ITEMS <= tail.len()
+        && ITEMS <= sites.len()
+        && ITEMS <= rows.len()
+        && 3 * ITEMS <= words.len()
+        && FIELDS * ITEMS <= kids.len()
+        && 2 * ITEMS <= eqs.len()
 }
 
 // Takes the `count` items of a rule as written, from words as they are handed over, then asks whether a named site hangs.
@@ -361,7 +324,7 @@ pub fn load_items(
     ensures inside { Inside kids.old → Inside kids.new }
     ensures rowed { Rowed rows.new count result }
 {
-    if SITES < size16(n) {
+    if SITES < usize::from(n) {
         return refuse(Refusal::TooManySites {
             asked: n as u32,
             at: count as u32,
@@ -378,14 +341,11 @@ pub fn load_items(
         });
     }
     let p = walk(m, n, tail, sites, rows, words, kids, eqs, items, count);
-    let a = p.answer;
-    let Ok(()) = a else {
+    let Ok(()) = p.answer else {
         return p;
     };
-    let held = p.held;
-    let found = rule_hanging::hanging(m, n, tail, sites, rows, held, words, items, count);
-    let Some(s) = found else {
-        return p;
-    };
-    refuse(Refusal::Hanging { site: s })
+    match rule_hanging::hanging(m, n, tail, sites, rows, p.held, words, items, count) {
+        Some(site) => refuse(Refusal::Hanging { site }),
+        None => p,
+    }
 }

@@ -8,17 +8,17 @@ use native.Mathlib.Omega.{arith}
 use mathlib.Core.Path.{refl, sym, ◌∙◌}
 use Rattle.rule_items.proofs.load_items.Goals as goal
 
-pub returns-then-size16-gt-SITES-clause-told : goal.returns-then-size16-gt-SITES-clause-told
-returns-then-size16-gt-SITES-clause-told c = told_sites _ _ _ _ _ _ _ _ _ _ _ _ (let e = c.size16.ensures in let x = c.if-size16-gt-SITES.true in omega arith) c.refuse.ensures
+pub returns-then-from-gt-SITES-clause-told : goal.returns-then-from-gt-SITES-clause-told
+returns-then-from-gt-SITES-clause-told c = told_sites _ _ _ _ _ _ _ _ _ _ _ _ (let e = c.from.ensures in let x = c.if-from-gt-SITES.true in omega arith) c.refuse.ensures
 
-pub returns-then-size16-gt-SITES-clause-long : goal.returns-then-size16-gt-SITES-clause-long
-returns-then-size16-gt-SITES-clause-long c = long_self _ _ _ _ _ _
+pub returns-then-from-gt-SITES-clause-long : goal.returns-then-from-gt-SITES-clause-long
+returns-then-from-gt-SITES-clause-long c = long_self _ _ _ _ _ _
 
-pub returns-then-size16-gt-SITES-clause-inside : goal.returns-then-size16-gt-SITES-clause-inside
-returns-then-size16-gt-SITES-clause-inside c = λ I. I
+pub returns-then-from-gt-SITES-clause-inside : goal.returns-then-from-gt-SITES-clause-inside
+returns-then-from-gt-SITES-clause-inside c = λ I. I
 
-pub returns-then-size16-gt-SITES-clause-rowed : goal.returns-then-size16-gt-SITES-clause-rowed
-returns-then-size16-gt-SITES-clause-rowed c = rowed_refused _ _ _ _ c.refuse.ensures
+pub returns-then-from-gt-SITES-clause-rowed : goal.returns-then-from-gt-SITES-clause-rowed
+returns-then-from-gt-SITES-clause-rowed c = rowed_refused _ _ _ _ c.refuse.ensures
 
 pub shape_of-tail-then-not-has_room : goal.shape_of-tail-then-not-has_room
 shape_of-tail-then-not-has_room c = refl
@@ -39,7 +39,7 @@ pub shape_of-eqs-then-not-has_room : goal.shape_of-eqs-then-not-has_room
 shape_of-eqs-then-not-has_room c = refl
 
 pub returns-then-not-has_room-clause-told : goal.returns-then-not-has_room-clause-told
-returns-then-not-has_room-clause-told c = told_short _ _ _ _ _ _ _ _ _ _ _ _ (let e = c.size16.ensures in let x = c.if-size16-gt-SITES.false in omega arith) (sym c.has_room.ensures ∙ c.if-not-has_room.true) c.refuse-then-not-has_room.ensures
+returns-then-not-has_room-clause-told c = told_short _ _ _ _ _ _ _ _ _ _ _ _ (let e = c.from.ensures in let x = c.if-from-gt-SITES.false in omega arith) (sym c.has_room.ensures ∙ c.if-not-has_room.true) c.refuse-then-not-has_room.ensures
 
 pub returns-then-not-has_room-clause-long : goal.returns-then-not-has_room-clause-long
 returns-then-not-has_room-clause-long c = long_self _ _ _ _ _ _
@@ -69,7 +69,7 @@ pub shape_of-eqs-then-count-gt-ITEMS : goal.shape_of-eqs-then-count-gt-ITEMS
 shape_of-eqs-then-count-gt-ITEMS c = refl
 
 pub returns-then-count-gt-ITEMS-clause-told : goal.returns-then-count-gt-ITEMS-clause-told
-returns-then-count-gt-ITEMS-clause-told c = told_many _ _ _ _ _ _ _ _ _ _ _ _ (let e = c.size16.ensures in let x = c.if-size16-gt-SITES.false in omega arith) (sym c.has_room.ensures ∙ c.if-not-has_room.false) c.if-count-gt-ITEMS.true c.refuse-then-count-gt-ITEMS.ensures
+returns-then-count-gt-ITEMS-clause-told c = told_many _ _ _ _ _ _ _ _ _ _ _ _ (let e = c.from.ensures in let x = c.if-from-gt-SITES.false in omega arith) (sym c.has_room.ensures ∙ c.if-not-has_room.false) c.if-count-gt-ITEMS.true c.refuse-then-count-gt-ITEMS.ensures
 
 pub returns-then-count-gt-ITEMS-clause-long : goal.returns-then-count-gt-ITEMS-clause-long
 returns-then-count-gt-ITEMS-clause-long c = long_self _ _ _ _ _ _
@@ -81,13 +81,13 @@ pub returns-then-count-gt-ITEMS-clause-rowed : goal.returns-then-count-gt-ITEMS-
 returns-then-count-gt-ITEMS-clause-rowed c = rowed_refused _ _ _ _ c.refuse-then-count-gt-ITEMS.ensures
 
 pub walk-p-requires-clause-n_le_max_sites : goal.walk-p-requires-clause-n_le_max_sites
-walk-p-requires-clause-n_le_max_sites c = ((let e = c.size16.ensures in let x = c.if-size16-gt-SITES.false in omega arith), (let x = c.if-count-gt-ITEMS.false in omega arith))
+walk-p-requires-clause-n_le_max_sites c = ((let e = c.from.ensures in let x = c.if-from-gt-SITES.false in omega arith), (let x = c.if-count-gt-ITEMS.false in omega arith))
 
 pub walk-p-requires-clause-eqs_value : goal.walk-p-requires-clause-eqs_value
 walk-p-requires-clause-eqs_value c = (sym c.has_room.ensures ∙ c.if-not-has_room.false)
 
 pub returns-in_default-clause-told : goal.returns-in_default-clause-told
-returns-in_default-clause-told c = told_stop _ _ _ _ _ _ _ _ _ _ _ _ (let e = c.size16.ensures in let x = c.if-size16-gt-SITES.false in omega arith) (sym c.has_room.ensures ∙ c.if-not-has_room.false) (let x = c.if-count-gt-ITEMS.false in omega arith) _ c.in_default.is c.walk-p.ensures.walk
+returns-in_default-clause-told c = told_stop _ _ _ _ _ _ _ _ _ _ _ _ (let e = c.from.ensures in let x = c.if-from-gt-SITES.false in omega arith) (sym c.has_room.ensures ∙ c.if-not-has_room.false) (let x = c.if-count-gt-ITEMS.false in omega arith) _ c.in_default.is c.walk-p.ensures.walk
 
 pub returns-in_default-clause-long : goal.returns-in_default-clause-long
 returns-in_default-clause-long c = record { tail_long = c.walk-p.auto.tail; sites_long = c.walk-p.auto.sites; rows_long = c.walk-p.auto.rows; words_long = c.walk-p.auto.words; kids_long = c.walk-p.auto.kids; eqs_long = c.walk-p.auto.eqs }
@@ -98,26 +98,26 @@ returns-in_default-clause-inside c = c.walk-p.ensures.inside
 pub returns-in_default-clause-rowed : goal.returns-in_default-clause-rowed
 returns-in_default-clause-rowed c = rowed_walk c.args.m.now c.args.n (held_items c.args.items.now (min c.args.count max_items)) _ _ _ _ _ _ _ _ c.walk-p.ensures.walk
 
-pub returns-in_default-found-clause-told : goal.returns-in_default-found-clause-told
-returns-in_default-found-clause-told c = told_fine _ _ _ _ _ _ _ _ _ _ _ _ (let e = c.size16.ensures in let x = c.if-size16-gt-SITES.false in omega arith) (sym c.has_room.ensures ∙ c.if-not-has_room.false) (let x = c.if-count-gt-ITEMS.false in omega arith) _ c.walk-p.ensures.walk c.in-Ok.is _ (few_items _ _ _ _ _ _ _ c.args.items.now c.args.count _ (let x = c.if-count-gt-ITEMS.false in omega arith) c.hanging-found.ensures) c.in_default-found.is refl
+pub returns-in-None-clause-told : goal.returns-in-None-clause-told
+returns-in-None-clause-told c = told_fine _ _ _ _ _ _ _ _ _ _ _ _ (let e = c.from.ensures in let x = c.if-from-gt-SITES.false in omega arith) (sym c.has_room.ensures ∙ c.if-not-has_room.false) (let x = c.if-count-gt-ITEMS.false in omega arith) _ c.walk-p.ensures.walk c.in-Ok.is _ (few_items _ _ _ _ _ _ _ c.args.items.now c.args.count _ (let x = c.if-count-gt-ITEMS.false in omega arith) c.hanging.ensures) c.in-None.is refl
 
-pub returns-in_default-found-clause-long : goal.returns-in_default-found-clause-long
-returns-in_default-found-clause-long c = record { tail_long = c.walk-p.auto.tail; sites_long = c.walk-p.auto.sites; rows_long = c.walk-p.auto.rows; words_long = c.walk-p.auto.words; kids_long = c.walk-p.auto.kids; eqs_long = c.walk-p.auto.eqs }
+pub returns-in-None-clause-long : goal.returns-in-None-clause-long
+returns-in-None-clause-long c = record { tail_long = c.walk-p.auto.tail; sites_long = c.walk-p.auto.sites; rows_long = c.walk-p.auto.rows; words_long = c.walk-p.auto.words; kids_long = c.walk-p.auto.kids; eqs_long = c.walk-p.auto.eqs }
 
-pub returns-in_default-found-clause-inside : goal.returns-in_default-found-clause-inside
-returns-in_default-found-clause-inside c = c.walk-p.ensures.inside
+pub returns-in-None-clause-inside : goal.returns-in-None-clause-inside
+returns-in-None-clause-inside c = c.walk-p.ensures.inside
 
-pub returns-in_default-found-clause-rowed : goal.returns-in_default-found-clause-rowed
-returns-in_default-found-clause-rowed c = rowed_walk c.args.m.now c.args.n (held_items c.args.items.now (min c.args.count max_items)) _ _ _ _ _ _ _ _ c.walk-p.ensures.walk
+pub returns-in-None-clause-rowed : goal.returns-in-None-clause-rowed
+returns-in-None-clause-rowed c = rowed_walk c.args.m.now c.args.n (held_items c.args.items.now (min c.args.count max_items)) _ _ _ _ _ _ _ _ c.walk-p.ensures.walk
 
-pub returns-clause-told : goal.returns-clause-told
-returns-clause-told c = told_hanging _ _ _ _ _ _ _ _ _ _ _ _ (let e = c.size16.ensures in let x = c.if-size16-gt-SITES.false in omega arith) (sym c.has_room.ensures ∙ c.if-not-has_room.false) (let x = c.if-count-gt-ITEMS.false in omega arith) _ c.walk-p.ensures.walk c.in-Ok.is _ (few_items _ _ _ _ _ _ _ c.args.items.now c.args.count _ (let x = c.if-count-gt-ITEMS.false in omega arith) c.hanging-found.ensures) _ c.in-Some.is c.refuse-2.ensures
+pub returns-in-Some-clause-told : goal.returns-in-Some-clause-told
+returns-in-Some-clause-told c = told_hanging _ _ _ _ _ _ _ _ _ _ _ _ (let e = c.from.ensures in let x = c.if-from-gt-SITES.false in omega arith) (sym c.has_room.ensures ∙ c.if-not-has_room.false) (let x = c.if-count-gt-ITEMS.false in omega arith) _ c.walk-p.ensures.walk c.in-Ok.is _ (few_items _ _ _ _ _ _ _ c.args.items.now c.args.count _ (let x = c.if-count-gt-ITEMS.false in omega arith) c.hanging.ensures) _ c.in-Some.is c.refuse-in-Some.ensures
 
-pub returns-clause-long : goal.returns-clause-long
-returns-clause-long c = record { tail_long = c.walk-p.auto.tail; sites_long = c.walk-p.auto.sites; rows_long = c.walk-p.auto.rows; words_long = c.walk-p.auto.words; kids_long = c.walk-p.auto.kids; eqs_long = c.walk-p.auto.eqs }
+pub returns-in-Some-clause-long : goal.returns-in-Some-clause-long
+returns-in-Some-clause-long c = record { tail_long = c.walk-p.auto.tail; sites_long = c.walk-p.auto.sites; rows_long = c.walk-p.auto.rows; words_long = c.walk-p.auto.words; kids_long = c.walk-p.auto.kids; eqs_long = c.walk-p.auto.eqs }
 
-pub returns-clause-inside : goal.returns-clause-inside
-returns-clause-inside c = c.walk-p.ensures.inside
+pub returns-in-Some-clause-inside : goal.returns-in-Some-clause-inside
+returns-in-Some-clause-inside c = c.walk-p.ensures.inside
 
-pub returns-clause-rowed : goal.returns-clause-rowed
-returns-clause-rowed c = rowed_refused _ _ _ _ c.refuse-2.ensures
+pub returns-in-Some-clause-rowed : goal.returns-in-Some-clause-rowed
+returns-in-Some-clause-rowed c = rowed_refused _ _ _ _ c.refuse-in-Some.ensures
