@@ -35,11 +35,9 @@ use Rattle.sheet_lines.specs.Cut.{cut_at}
 use Rattle.sheet_lines.specs.declared.Cut.{Cut}
 use Rattle.sheet_ended.specs.Sets.{verdict_as, may_begin}
 use Rattle.sheet_reader.specs.State.{Lent, lent, step_room}
-use Rattle.sheet_reader.specs.Answers.{is_outside, site_set, rule_set, open_rule, unread}
+use Rattle.sheet_reader.specs.Answers.{is_outside, site_set, Awaits, rule_set, open_rule, unread}
 use Rattle.sheet_reader.specs.Leaves.{After, after, gone_on, stop_answer, stop_in}
 use Rattle.sheet_reader.specs.declared.Awaited.{Awaited}
-use Rattle.sheet_reader.specs.declared.Awaits.{Awaits}
-use Rattle.sheet_reader.specs.declared.Awaits.TheVariants as awaits
 use Rattle.sheet_reader.specs.declared.Event.{Event}
 use Rattle.sheet_reader.specs.declared.Event.TheVariants as event
 use Rattle.sheet_reader.specs.declared.OpenSet.{OpenSet}
@@ -257,15 +255,19 @@ rule_open k (Sites g) s e M = let z : g ≡ s = cc in rw z at M
 rule_open k (Rules g) s e M = let z : g ≡ s = cc in rw z at M
 rule_open k (Items g w n) s e M = where_not (sym e)
 
-awaits_not : {A : Type 0} {s : OpenSet} {w : Awaited} {n : ℕ} → awaits.NoRule ≡ awaits.Rule s w n → A
+awaits_not : {A : Type 0} {s : OpenSet} {w : Awaited} {n : ℕ} → ◌≡◌ {A = Awaits} None (Some (s, w, n)) → A
 awaits_not e = let z : ◌≡◌ {A = ℕ} 0 1 = cc in absurd (omega arith)
 
-item_open : (k : Lent) (t : Stands) (s : OpenSet) (w : Awaited) (n : ℕ) → open_rule t ≡ awaits.Rule s w n → StaysAt k t →
+item_open : (k : Lent) (t : Stands) (s : OpenSet) (w : Awaited) (n : ℕ) → open_rule t ≡ Some (s, w, n) → StaysAt k t →
     InSet k.sites k.words s × RuleSmall w
 item_open k Outside s w n e M = awaits_not e
 item_open k (Sites g) s w n e M = awaits_not e
 item_open k (Rules g) s w n e M = awaits_not e
-item_open k (Items g v i) s w n e M = let z : g ≡ s = cc in let y : v ≡ w = cc in (rw z at M.0, rw y at M.1)
+item_open k (Items g v i) s w n e M =
+    let same : ◌≡◌ {A = OpenSet × Awaited × ℕ} (g, v, i) (s, w, n) = cc in
+    let z : g ≡ s = ap (λ o. o.0) same in
+    let y : v ≡ w = ap (λ o. o.1) same in
+    (rw z at M.0, rw y at M.1)
 
 abbrev with_added : Lent → OpenSet → Outcome Added → Lent
 with_added k s o = lent (after_add k.sites s.sites o) k.words k.items k.table
@@ -366,8 +368,8 @@ module _ (r : Reader) (room : List ℕ) (at : ℕ) where
       counts s w n N false = gone_stays (with_kept k w n i) (Items s w (n - 1)) event.Item at N
 
       go : (v : Awaits) → open_rule r.stands ≡ v → StaysIn (item_awaited r k room at i v)
-      go awaits.NoRule e = stop_stays k (Layout r.line) M
-      go (awaits.Rule s w n) e = counts s w n (item_open k r.stands s w n e M) (ltb n 2)
+      go None e = stop_stays k (Layout r.line) M
+      go (Some (s, w, n)) e = counts s w n (item_open k r.stands s w n e M) (ltb n 2)
 
   -- 06
   end_stays : (k : Lent) → StaysAt k r.stands → StaysIn (end_in r k room at)

@@ -19,7 +19,7 @@ use Rattle.term_table.specs.Table.{Square}
 use Rattle.rule_words.specs.Stored.{run}
 use Rattle.sheet_ended.specs.Holds.{Endable}
 use Rattle.sheet_reader.specs.State.{Lent, lent, Roomy, set_in, rule_in, stands_in, Tells, items_room}
-use Rattle.sheet_reader.specs.Answers.{Answers, Acts, Stops, went, act_event, rule_set, open_rule, rule_event, items_event, item_event}
+use Rattle.sheet_reader.specs.Answers.{Answers, Acts, Stops, went, act_event, Awaits, rule_set, open_rule, rule_event, items_event, item_event}
 use Rattle.sheet_rule.specs.Rules.{Reads, minus_of, item_kept}
 use Rattle.sheet_reader.specs.declared.OpenSet.{OpenSet}
 use Rattle.sheet_reader.specs.declared.Awaited.{Awaited}
@@ -30,14 +30,12 @@ use Rattle.sheet_reader.specs.declared.Event.{Event}
 use Rattle.sheet_reader.specs.declared.Event.TheVariants as event
 use Rattle.sheet_reader.specs.declared.Stepped.{Stepped}
 use Rattle.paper.specs.Answered.{Maybe}
-use Rattle.sheet_reader.specs.declared.Awaits.{Awaits}
-use Rattle.sheet_reader.specs.declared.Awaits.TheVariants.{Rule, NoRule}
 use Rattle.item_words.specs.Items.{Ranged, put_item, items_in}
 use Rattle.item_words.proofs.Laws.{item_held, no_items}
 use Rattle.sheet_reader.proofs.Acts.{stopped, goes_on}
 use Rattle.sheet_reader.proofs.Standing.{rule_out, inside}
 
-awaits_not : {A : Type 0} {x : OpenSet} {r : Awaited} {n : ℕ} → Rule x r n ≡ NoRule → A
+awaits_not : {A : Type 0} {x : OpenSet} {r : Awaited} {n : ℕ} → ◌≡◌ {A = Awaits} (Some (x, r, n)) None → A
 awaits_not e = let z : ◌≡◌ {A = ℕ} 0 1 = cc in absurd (omega arith)
 
 -- ---- a rule without items, with items
@@ -152,21 +150,22 @@ item_more m ws it it' t rule n i h e q = go (ltb n max_items) refl
         let w : it' ≡ it = e ∙ rw x in
         rw (y, z, w) (with_many (record { place = rule.place; priority = rule.priority; count = rule.count; items = items_in it max_items }) i (omega arith))
 
-pub item_out : (p : paper.Ended) (at : ℕ) (k : Lent) (s : Stands) (i : Item) → open_rule s ≡ NoRule → act p at (stands_in k s) (an_item i) ≡ refused (Layout at)
+pub item_out : (p : paper.Ended) (at : ℕ) (k : Lent) (s : Stands) (i : Item) → open_rule s ≡ None → act p at (stands_in k s) (an_item i) ≡ refused (Layout at)
 unfolding act
 item_out p at k Outside i e = refl
 item_out p at k (Sites s) i e = refl
 item_out p at k (Rules s) i e = refl
 item_out p at k (Items s r n) i e = awaits_not e
 
-awaits_is : (s : Stands) (g : OpenSet) (r : Awaited) (n : ℕ) → open_rule s ≡ Rule g r n → s ≡ Items g r n
+awaits_is : (s : Stands) (g : OpenSet) (r : Awaited) (n : ℕ) → open_rule s ≡ Some (g, r, n) → s ≡ Items g r n
 awaits_is Outside g r n e = awaits_not (sym e)
 awaits_is (Sites s) g r n e = awaits_not (sym e)
 awaits_is (Rules s) g r n e = awaits_not (sym e)
 awaits_is (Items s q m) g r n e =
-    let x : s ≡ g = cc in
-    let y : q ≡ r = cc in
-    let z : m ≡ n = cc in
+    let same : ◌≡◌ {A = OpenSet × Awaited × ℕ} (s, q, m) (g, r, n) = cc in
+    let x : s ≡ g = ap (λ o. o.0) same in
+    let y : q ≡ r = ap (λ o. o.1) same in
+    let z : m ≡ n = ap (λ o. o.2) same in
     rw (x, y, z)
 
 item_acts : (p : paper.Ended) (at : ℕ) (k : Lent) (g : OpenSet) (r : Awaited) (n : ℕ) (i : Item) → 0 < n → act p at (stands_in k (Items g r n)) (an_item i) ≡ items_left p (set_in k g) (with_item (rule_in k r (r.count - n)) i) (n - 1)
@@ -180,10 +179,10 @@ item_events k g r zero i h = absurd (omega arith)
 item_events k g r (suc n) i h = let e : suc n - 1 ≡ n = omega arith in rw e
 
 module _ (r : Reader) (item : Item) (m ws it room : List ℕ) (at : ℕ) (a : Stepped) (v : Awaits) (ev : v ≡ open_rule r.stands) where
-  pub item_not : (room' : List ℕ) → v ≡ NoRule → Stops r (Layout r.line) room room' at a → (t : Square) (p : paper.Ended) → Tells r (lent m ws it t) p → Acts r (lent m ws it t) (lent m ws it t) room room' at p (an_item item) a
+  pub item_not : (room' : List ℕ) → v ≡ None → Stops r (Layout r.line) room room' at a → (t : Square) (p : paper.Ended) → Tells r (lent m ws it t) p → Acts r (lent m ws it t) (lent m ws it t) room room' at p (an_item item) a
   item_not room' e S t p T = stopped (Layout r.line) (item_out p r.line (lent m ws it t) r.stands item (sym ev ∙ e)) S
 
-  module _ (g : OpenSet) (rule : Awaited) (left : ℕ) (eg : v ≡ Rule g rule left) (it' : List ℕ) (n : ℕ) (en : n ≡ minus_of rule.count left) (ei : (it' ≡ item_kept it n item) × (n < max_items → Ranged item)) (li : length it' ≡ length it) where
+  module _ (g : OpenSet) (rule : Awaited) (left : ℕ) (eg : v ≡ Some (g, rule, left)) (it' : List ℕ) (n : ℕ) (en : n ≡ minus_of rule.count left) (ei : (it' ≡ item_kept it n item) × (n < max_items → Ranged item)) (li : length it' ≡ length it) where
     is : r.stands ≡ Items g rule left
     is = awaits_is r.stands g rule left (sym ev ∙ eg)
 

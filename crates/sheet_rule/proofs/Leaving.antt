@@ -19,7 +19,7 @@ use Rattle.sheet_findings.specs.Written.{room_said, room_after}
 use Rattle.paper.specs.Answered.{Maybe}
 use Rattle.sheet_ended.specs.Sets.{to_or}
 use Rattle.sheet_reader.specs.State.{Lent, lent}
-use Rattle.sheet_reader.specs.Answers.{rule_set, open_rule}
+use Rattle.sheet_reader.specs.Answers.{Awaits, rule_set, open_rule}
 use Rattle.sheet_reader.specs.Leaves.{after, gone_on, stop_in}
 use Rattle.sheet_reader.specs.declared.OpenSet.{OpenSet}
 use Rattle.sheet_reader.specs.declared.Awaited.{Awaited}
@@ -27,8 +27,6 @@ use Rattle.sheet_reader.specs.declared.Reader.{Reader}
 use Rattle.sheet_reader.specs.declared.Event.TheVariants as event
 use Rattle.sheet_reader.specs.declared.Stands.TheVariants.{Rules, Items}
 use Rattle.sheet_reader.specs.declared.Stepped.{Stepped}
-use Rattle.sheet_reader.specs.declared.Awaits.{Awaits}
-use Rattle.sheet_reader.specs.declared.Awaits.TheVariants.{Rule, NoRule}
 use Rattle.sheet_reader.proofs.Leaving.{if_yes, if_no}
 use Rattle.sheet_rule.specs.Rules.{next_rule_of, minus_of, item_kept}
 use Rattle.sheet_rule.specs.Leaves.{one_rule_more, rule_loaded, loaded_memory, load_of, read_in, rule_where, rule_in, with_kept, item_awaited, item_in}
@@ -94,11 +92,11 @@ module _ (r : Reader) (w : Awaited) (m ws it room : List ℕ) (at : ℕ) (a : St
 
 -- ---- an item
 module _ (r : Reader) (item : Item) (m ws it room : List ℕ) (at : ℕ) (a : Stepped) (v : Awaits) (ev : v ≡ open_rule r.stands) where
-  pub items_not : (room' : List ℕ) → v ≡ NoRule → ((k : Lent) → after a k room' ≡ stop_in r k room at (Layout r.line)) → (t : Square) → after a (lent m ws it t) room' ≡ item_in r (lent m ws it t) room at item
+  pub items_not : (room' : List ℕ) → v ≡ None → ((k : Lent) → after a k room' ≡ stop_in r k room at (Layout r.line)) → (t : Square) → after a (lent m ws it t) room' ≡ item_in r (lent m ws it t) room at item
   unfolding item_in
   items_not room' e S t = S (lent m ws it t) ∙ ap (item_awaited r (lent m ws it t) room at item) (sym e ∙ ev)
 
-  module _ (g : OpenSet) (w : Awaited) (left : ℕ) (eg : v ≡ Rule g w left) (it' : List ℕ) (n : ℕ) (en : n ≡ minus_of w.count left) (ei : it' ≡ item_kept it n item) where
+  module _ (g : OpenSet) (w : Awaited) (left : ℕ) (eg : v ≡ Some (g, w, left)) (it' : List ℕ) (n : ℕ) (en : n ≡ minus_of w.count left) (ei : it' ≡ item_kept it n item) where
     held : it' ≡ item_kept it (minus_of w.count left) item
     held = ei ∙ ap (λ c. item_kept it c item) en
 

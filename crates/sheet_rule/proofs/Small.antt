@@ -1,7 +1,11 @@
 -- Numbers.
-use mathlib.Core.Path.{◌≡◌}
+use mathlib.Core.Path.{◌≡◌, refl}
+use mathlib.Core.Bool.{Bool, true, false}
+use native.Mathlib.Omega.{arith}
+use lib.Dec.{leb}
+use Rattle.std.specs.Prelude.{if◌then◌else◌}
 use Prim.Native.Nat.{ℕ, ◌+◌, ◌-◌, ◌≤◌, ◌<◌}
-use borrow.Author.Tests.{lt-ltb, le-ltb, le-leb, lt-leb}
+use borrow.Author.Tests.{lt-ltb, le-ltb, leb-false}
 use Rattle.paper.specs.Numbers.{max_rules}
 use Rattle.sheet_rule.specs.Rules.{next_rule_of, minus_of}
 
@@ -11,8 +15,9 @@ rule_more n h = rw (lt-ltb n max_rules h)
 pub rule_same : (n : ℕ) → max_rules ≤ n → n ≡ next_rule_of n
 rule_same n h = rw (le-ltb n max_rules h)
 
-pub minus_so : (a b : ℕ) → b ≤ a → a - b ≡ minus_of a b
-minus_so a b h = rw (le-leb b a h)
-
-pub minus_none : (a b : ℕ) → a < b → 0 ≡ minus_of a b
-minus_none a b h = rw (lt-leb b a h)
+pub sub_is : (a b n : ℕ) → n ≡ a - b → n ≡ minus_of a b
+sub_is a b n e = go (leb b a) refl
+  where
+    go : (t : Bool) → leb b a ≡ t → n ≡ (if t then a - b else 0)
+    go true q = e
+    go false q = let h = leb-false b a q in omega arith

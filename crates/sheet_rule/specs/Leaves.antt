@@ -15,7 +15,7 @@ use Rattle.paper.specs.Answered.{Answer}
 use Rattle.sheet_findings.specs.Written.{room_said, room_after}
 use Rattle.sheet_ended.specs.Sets.{to_or}
 use Rattle.sheet_reader.specs.State.{Lent, lent}
-use Rattle.sheet_reader.specs.Answers.{rule_set, open_rule}
+use Rattle.sheet_reader.specs.Answers.{Awaits, rule_set, open_rule}
 use Rattle.sheet_reader.specs.Leaves.{After, after, gone_on, stop_in}
 use Rattle.sheet_reader.specs.declared.OpenSet.{OpenSet}
 use Rattle.sheet_reader.specs.declared.Awaited.{Awaited}
@@ -23,8 +23,6 @@ use Rattle.sheet_reader.specs.declared.Reader.{Reader}
 use Rattle.sheet_reader.specs.declared.Event.TheVariants as event
 use Rattle.sheet_reader.specs.declared.Stands.TheVariants.{Rules, Items}
 use Rattle.paper.specs.Answered.{Maybe}
-use Rattle.sheet_reader.specs.declared.Awaits.{Awaits}
-use Rattle.sheet_reader.specs.declared.Awaits.TheVariants.{Rule, NoRule}
 use Rattle.sheet_rule.specs.Rules.{next_rule_of, minus_of, item_kept}
 
 -- ---- a rule with all its items: it is loaded, and kept; or an 11, "11 place, number (1)"
@@ -62,8 +60,8 @@ abbrev pub with_kept : Lent → Awaited → ℕ → Item → Lent
 with_kept k w left i = lent k.sites k.words (item_kept k.items (minus_of w.count left) i) k.table
 
 abbrev pub item_awaited : Reader → Lent → List ℕ → ℕ → Item → Awaits → After
-item_awaited r k room at i NoRule = stop_in r k room at (Layout r.line)
-item_awaited r k room at i (Rule s w left) =
+item_awaited r k room at i None = stop_in r k room at (Layout r.line)
+item_awaited r k room at i (Some (s, w, left)) =
     if ltb left 2 then read_in r (with_kept k w left i) room at s w
     else after (gone_on r (Items s w (left - 1)) event.Item at) (with_kept k w left i) room
 

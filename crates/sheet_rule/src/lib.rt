@@ -10,30 +10,22 @@ ghost use Rattle.item_words.specs.Items.{Ranged};
 ghost use Rattle.sheet_reader.specs.State.{lent, Tells, Ready};
 ghost use Rattle.sheet_reader.specs.Answers.{Acts};
 ghost use Rattle.sheet_reader.specs.Leaves.{after};
-ghost use Rattle.sheet_rule.specs.Rules.{Reads, next_rule_of, minus_of, item_kept};
+ghost use Rattle.sheet_rule.specs.Rules.{Reads, next_rule_of, item_kept};
 ghost use Rattle.sheet_rule.specs.Leaves.{read_in, rule_in, item_in};
 
 use item_words::hold_item;
 use paper::{ITEMS, Item, RULES, Refusal};
 use rule_load::load_handed;
-use sheet_ended::to_or;
 use sheet_findings::write_refusal;
-use sheet_reader::{Awaited, Awaits, Event, OpenSet, Reader, Stands, Stepped, on, open_rule, rule_set, stop};
+use sheet_reader::{
+    Awaited, Event, OpenSet, Reader, Stands, Stepped, on, open_rule, rule_set, stop,
+};
 
-// One kept rule more; a set has no more than RULES.
+// One kept rule more; a set has no more than RULES. No `min`: a number that is past RULES stays (`next_rule_of`).
 fn next_rule(n: u32) -> u32
     ensures { result ≡ next_rule_of n }
 {
-    if RULES <= n as usize {
-        return n;
-    }
-    n + 1
-}
-
-fn minus(a: u8, b: u8) -> u8
-    ensures { result ≡ minus_of a b }
-{
-    if b <= a { a - b } else { 0 }
+    if RULES <= n as usize { n } else { n + 1 }
 }
 
 // Does nothing: it tells what the types of the two numbers say of them.
@@ -71,16 +63,14 @@ fn read_rule(
     ) {
         Ok(n) => {
             let more = OpenSet {
-                term: set.term,
-                flags: set.flags,
                 sites: n,
                 rules: next_rule(set.rules),
+                ..set
             };
             on(r, Stands::Rules(more), Event::Kept { place, priority }, at)
         }
         Err(why) => {
-            let w = write_refusal(place, why, room, at);
-            let to = to_or(w, at);
+            let to = write_refusal(place, why, room, at).unwrap_or(at);
             on(
                 r,
                 Stands::Rules(set),
@@ -114,10 +104,8 @@ pub fn rule_frame(
         let k' = lent m.new words.new items.now t in
         Tells r k p → Acts r k k' room.old room.new at p (a_rule rule.place rule.priority rule.count) result }
 {
-    let line = r.line;
-    let stands = r.stands;
-    let Some(set) = rule_set(stands) else {
-        return stop(r, Refusal::Layout { line }, room, at);
+    let Some(set) = rule_set(r.stands) else {
+        return stop(r, Refusal::Layout { line: r.line }, room, at);
     };
     let left = rule.count;
     if left == 0 {
@@ -130,10 +118,9 @@ pub fn rule_frame(
 fn keep_item(items: &mut [u64], k: u8, item: Item)
     ensures { (items.new ≡ item_kept items.old k item) × (k < max_items → Ranged item) }
 {
-    if ITEMS <= k as usize {
-        return;
+    if usize::from(k) < ITEMS {
+        hold_item(items, k, item);
     }
-    hold_item(items, k, item);
 }
 
 // 04 and 05: with the last item the rule is read.
@@ -155,24 +142,13 @@ pub fn item_frame(
         let k' = lent m.new words.new items.new t in
         Tells r k p → Acts r k k' room.old room.new at p (an_item item) result }
 {
-    let line = r.line;
-    let stands = r.stands;
-    let Awaits::Rule { set, rule, left } = open_rule(stands) else {
-        return stop(r, Refusal::Layout { line }, room, at);
+    let Some((set, rule, left)) = open_rule(r.stands) else {
+        return stop(r, Refusal::Layout { line: r.line }, room, at);
     };
-    keep_item(items, minus(rule.count, left), item);
+    keep_item(items, rule.count.saturating_sub(left), item);
     if left < 2 {
         return read_rule(r, set, rule, m, words, items, room, at);
     }
-    let fewer = left - 1;
-    on(
-        r,
-        Stands::Items {
-            set,
-            rule,
-            left: fewer,
-        },
-        Event::Item,
-        at,
-    )
+    let left = left - 1;
+    on(r, Stands::Items { set, rule, left }, Event::Item, at)
 }
