@@ -16,12 +16,12 @@ use Rattle.paper.specs.declared.Refusal.TheVariants.{Unknown, Itself}
 use Rattle.std.specs.Prelude.{if◌then◌else◌}
 use Rattle.paper.specs.Words.{has, keep, below}
 use Rattle.paper.specs.Numbers.{max_sites, Outcome, done, ◌>>=◌, demand}
-use Rattle.paper.specs.Classes.{Classes, classes, no_classes, up, Trail, find_in, flatten_in, Flattened, flattened, find, find_mut, one_more, most_rank, most_count, Rooted, alone, rooted, enter, under, raised, link, unite, merge, is_at, in_same_set, Swept, sweep, unjoin, Removed, removed, remove_at, remove_set_of, len, is_empty}
+use Rattle.paper.specs.Classes.{Classes, classes, no_classes, up, Trail, find_in, flatten_in, Flattened, flattened, find, find_mut, one_more, most_rank, most_count, Rooted, rooted, enter, under, raised, link, unite, merge, is_at, in_same_set, Swept, sweep, unjoin, Removed, removed, remove_at, remove_set_of, len, is_empty}
 use Rattle.classes.specs.Called.{Looked}
 use Rattle.classes.specs.Called.{Taken}
 use Rattle.classes.specs.declared.Untaken.TheVariants as X
 use Rattle.classes.specs.Answers.{looked, sought_by, two_classes, joined_by, same, over, taken_by, taken_if}
-use Rattle.classes.specs.Well.{Well, WellMade, rank, members, in_class, rep_of, turned, dropped, joined_in}
+use Rattle.classes.specs.Well.{Well, WellMade, rank, in_class, rep_of, turned, dropped, joined_in}
 use Rattle.classes.specs.Equal.{sites_below}
 use Rattle.classes.proofs.Counting.{cnt_ext}
 use Rattle.classes.proofs.Leading.{find_leads}

@@ -1,11 +1,11 @@
 // A script of class calls: a line is a call, and gets one answer. specs/Script.antt has the words.
 #![tactic(auto)]
 
-ghost use Rattle.std.specs.Prelude.{◌≡◌, ◌≤◌, length};
+ghost use Rattle.std.specs.Prelude.{◌≡◌, ◌≢◌, ◌≤◌, ◌<◌, ℕ, length, get_or};
 ghost use Rattle.paper.specs.Classes as C;
-ghost use Rattle.class_script.specs.Script.{number_in, space_in, starts, pair_in, to_merge, to_same, to_find, to_find_mut, to_remove, call_in, stepped};
+ghost use Rattle.class_script.specs.Script.{number_in, pair_in, call_in, stepped};
 
-use classes::{Untaken, Trail};
+use classes::{Trail, Untaken};
 use paper::{Refusal, SITES};
 
 #[derive(Clone, Copy)]
@@ -37,56 +37,26 @@ pub enum Reply {
 fn number_of(text: &[u8]) -> Option<u16>
     ensures { result ≡ number_in text.now }
 {
-    if text.len() == 0 {
+    if text.is_empty() {
         return None;
     }
-    let mut value: u32 = 0;
-    let mut i: usize = 0;
-    while i < text.len() {
-        let d = text[i];
-        if d < b'0' {
+    let mut value: u16 = 0;
+    for &d in text {
+        if !d.is_ascii_digit() {
             return None;
         }
-        if b'9' < d {
-            return None;
-        }
-        value = value * 10 + (d - b'0') as u32;
-        if 65535 < value {
-            return None;
-        }
-        i += 1;
+        value = value.checked_mul(10)?.checked_add(u16::from(d - b'0'))?;
     }
-    Some(value as u16)
+    Some(value)
 }
 
 // The place of the first space, or the end.
 fn space(text: &[u8]) -> usize
-    ensures { (result ≡ space_in text.now) × (result ≤ length text.now) }
+    ensures within { result ≤ length text.now }
+    ensures here { result < length text.now → get_or text.now result 0 ≡ 32 }
+    ensures first { (i : ℕ) → i < result → get_or text.now i 0 ≢ 32 }
 {
-    let mut i: usize = 0;
-    while i < text.len() {
-        if text[i] == b' ' {
-            return i;
-        }
-        i += 1;
-    }
-    i
-}
-
-fn starts_with(line: &[u8], word: &[u8]) -> bool
-    ensures { result ≡ starts line.now word.now }
-{
-    let mut i: usize = 0;
-    while i < word.len() {
-        if line.len() <= i {
-            return false;
-        }
-        if line[i] != word[i] {
-            return false;
-        }
-        i += 1;
-    }
-    true
+    text.iter().position(|b| *b == b' ').unwrap_or(text.len())
 }
 
 // Two numbers with a space between.
@@ -94,94 +64,41 @@ fn pair(text: &[u8]) -> Option<(u16, u16)>
     ensures { result ≡ pair_in text.now }
 {
     let k = space(text);
-    if k == text.len() {
-        return None;
-    }
-    let a = number_of(&text[..k]);
-    let Some(x) = a else {
-        return None;
-    };
-    let b = number_of(&text[k + 1..]);
-    let Some(y) = b else {
-        return None;
-    };
+    let x = number_of(&text[..k])?;
+    let y = number_of(text.get(k + 1..)?)?;
     Some((x, y))
-}
-
-fn to_merge(n: Option<(u16, u16)>) -> Call
-    ensures { result ≡ to_merge n }
-{
-    match n {
-        Some((x, y)) => Call::Merge(x, y),
-        None => Call::Bad,
-    }
-}
-
-fn to_same(n: Option<(u16, u16)>) -> Call
-    ensures { result ≡ to_same n }
-{
-    match n {
-        Some((x, y)) => Call::SameSet(x, y),
-        None => Call::Bad,
-    }
-}
-
-fn to_find(n: Option<u16>) -> Call
-    ensures { result ≡ to_find n }
-{
-    match n {
-        Some(x) => Call::Find(x),
-        None => Call::Bad,
-    }
-}
-
-fn to_find_mut(n: Option<u16>) -> Call
-    ensures { result ≡ to_find_mut n }
-{
-    match n {
-        Some(x) => Call::FindMut(x),
-        None => Call::Bad,
-    }
-}
-
-fn to_remove(n: Option<u16>) -> Call
-    ensures { result ≡ to_remove n }
-{
-    match n {
-        Some(x) => Call::Remove(x),
-        None => Call::Bad,
-    }
 }
 
 // The call that a line is, LF left out.
 pub fn call_of(line: &[u8]) -> Call
     ensures { result ≡ call_in line.now }
 {
-    if starts_with(line, b"merge ") {
-        return to_merge(pair(&line[6..]));
+    if let Some(rest) = line.strip_prefix(b"merge ") {
+        let Some((x, y)) = pair(rest) else {
+            return Call::Bad;
+        };
+        return Call::Merge(x, y);
     }
-    if starts_with(line, b"find ") {
-        return to_find(number_of(&line[5..]));
+    if let Some(rest) = line.strip_prefix(b"find ") {
+        return number_of(rest).map_or(Call::Bad, Call::Find);
     }
-    if starts_with(line, b"findmut ") {
-        return to_find_mut(number_of(&line[8..]));
+    if let Some(rest) = line.strip_prefix(b"findmut ") {
+        return number_of(rest).map_or(Call::Bad, Call::FindMut);
     }
-    if starts_with(line, b"same ") {
-        return to_same(pair(&line[5..]));
+    if let Some(rest) = line.strip_prefix(b"same ") {
+        let Some((x, y)) = pair(rest) else {
+            return Call::Bad;
+        };
+        return Call::SameSet(x, y);
     }
-    if starts_with(line, b"remove ") {
-        return to_remove(number_of(&line[7..]));
+    if let Some(rest) = line.strip_prefix(b"remove ") {
+        return number_of(rest).map_or(Call::Bad, Call::Remove);
     }
-    if line.len() == 3 {
-        if starts_with(line, b"len") {
-            return Call::Len;
-        }
-        return Call::Bad;
+    if line == b"len".as_slice() {
+        return Call::Len;
     }
-    if line.len() == 5 {
-        if starts_with(line, b"empty") {
-            return Call::Empty;
-        }
+    if line == b"empty".as_slice() {
+        return Call::Empty;
     }
     Call::Bad
 }
@@ -198,8 +115,7 @@ pub fn step(
         let after = C.classes parents.new ranks.new count.new in
         (after, members.new, result) ≡ stepped before members.old (call_in line.now) }
 {
-    let call = call_of(line);
-    match call {
+    match call_of(line) {
         Call::Merge(x, y) => Reply::Merged(classes::merge_in(parents, ranks, count, x, y)),
         Call::Find(x) => Reply::Found(classes::find_in(parents, x)),
         Call::FindMut(x) => Reply::FoundMut(classes::find_mut_in(parents, x)),

@@ -1,22 +1,15 @@
 -- `class_script::pair` meets its contract. Assumes nothing.
-use borrow.Author.Rules.{rules}
-use mathlib.Core.Path.{sym}
-use lib.Seq.{length-take-le}
-use native.Mathlib.Omega.{arith}
-use Rattle.class_script.proofs.Reading.{pair_end, pair_first, pair_told}
+use Rattle.class_script.proofs.Reading.{space_is, pair_end, pair_first, pair_second, pair_told}
 use Rattle.class_script.proofs.pair.Goals as goal
 
-pub returns-then-k-text : goal.returns-then-k-text
-returns-then-k-text c = pair_end _ _ c.space-k.ensures.0 c.if-k-text.true
+pub returns-in_err-x : goal.returns-in_err-x
+returns-in_err-x c = rw c.from_residual.ensures (pair_first _ _ (space_is _ _ c.space-k.ensures.within c.space-k.ensures.here c.space-k.ensures.first) c.in_err-x.ensures)
 
-pub slice_bounds-number_of-end : goal.slice_bounds-number_of-end
-slice_bounds-number_of-end c = sym (length-take-le _ _ (omega (arith, c.space-k.ensures.1)))
+pub returns-in_err-get : goal.returns-in_err-get
+returns-in_err-get c = rw c.from_residual-in_err-get.ensures (pair_end _ _ (space_is _ _ c.space-k.ensures.within c.space-k.ensures.here c.space-k.ensures.first) c.in_err-get.ensures.lookup.0)
 
-pub returns-in_default : goal.returns-in_default
-returns-in_default c = pair_first _ _ c.space-k.ensures.0 _ c.number_of-a.ensures c.in_default.is
-
-pub returns-in_default-b : goal.returns-in_default-b
-returns-in_default-b c = pair_told _ _ c.space-k.ensures.0 _ _ c.number_of-a.ensures c.number_of-b.ensures (omega (arith, c.space-k.ensures.1)) c.in-Some.is c.in_default-b.is
+pub returns-in_err-y : goal.returns-in_err-y
+returns-in_err-y c = rw c.from_residual-in_err-y.ensures (pair_second _ _ (space_is _ _ c.space-k.ensures.within c.space-k.ensures.here c.space-k.ensures.first) c.in_ok-get.ensures.lookup.0.2 c.in_err-y.ensures)
 
 pub returns : goal.returns
-returns c = pair_told _ _ c.space-k.ensures.0 _ _ c.number_of-a.ensures c.number_of-b.ensures (omega (arith, c.space-k.ensures.1)) c.in-Some.is c.in-Some-b.is
+returns c = pair_told _ _ (space_is _ _ c.space-k.ensures.within c.space-k.ensures.here c.space-k.ensures.first) c.in_ok-get.ensures.lookup.0.2 c.in_ok-x.ensures c.in_ok-y.ensures
