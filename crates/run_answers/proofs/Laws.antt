@@ -2,43 +2,36 @@
 use mathlib.Core.Path.{◌≡◌, refl, sym, ap, subst, ◌∙◌}
 use mathlib.Core.Bool.{Bool, true, false}
 use mathlib.Core.List.{List, [], ◌∷◌, ◌++◌, append_assoc, append-nil}
-use Prim.Native.Nat.{ℕ, zero, suc, ◌+◌, ◌-◌, ◌≤◌, ◌<◌, max}
+use Prim.Native.Nat.{ℕ, zero, suc, ◌+◌, ◌-◌, ◌*◌, ◌/◌, ◌≤◌, ◌<◌, max}
 use native.Mathlib.Omega.{arith}
 use native.Mathlib.Numerals.{add-one}
 use lib.ListN.{length, get_or, take, drop, set, replicate, length-append, length-drop, length-set}
 use lib.Seq.{drop-cons, take_at, take-suc-set}
 use lib.Dec.{eqb, ltb, leb}
-use borrow.Author.Tests.{lt-ltb, le-ltb, eq-eqb, ne_eqb, ltb-true, ltb-false, leb-true, leb-false}
-use Rattle.std.specs.declared.result.Result.TheVariants.{Err, Ok}
+use borrow.Author.Tests.{ltb-true, ltb-false, leb-true, leb-false}
 use Rattle.std.specs.declared.option.Option.TheVariants.{None, Some}
 use Rattle.std.specs.Prelude.{if◌then◌else◌}
-use Rattle.paper.specs.Words.{same_list, four}
-use Rattle.paper.specs.Numbers.{number}
-use Rattle.paper.specs.Answered.{Verdict}
 use Rattle.paper.specs.declared.Refusal.{Refusal}
 use Rattle.paper.specs.Loading.{Kept}
 use Rattle.paper.specs.Layout.{Lines, nothing, unended, line, lines}
 use Rattle.paper.specs.Answered.{Maybe}
 use Rattle.sheet_lines.specs.Ends.{line_end}
-use Rattle.sheet_lines.specs.Cut.{part_of, first_there, drop_all, LeftOf, open_left, line_split}
+use Rattle.sheet_lines.specs.Cut.{part_of, first_there, LeftOf, open_left, line_split}
 use Rattle.sheet_findings.specs.Written.{room_said}
-use Rattle.sheet_ended.specs.Sets.{to_or}
-use Rattle.sites.specs.Slots.{sites_in}
+use Rattle.std.specs.Option.{unwrap_or}
+use Rattle.std.specs.List.{starts_with}
+use Rattle.std.proofs.lemmas.List.{take-append-drop}
+use Rattle.std.proofs.lemmas.Bool.Decides.{Decides-eqb}
+use Rattle.std.proofs.lemmas.Slice.Eq.{starts_is}
+use Rattle.paper.proofs.Laws.{same_list_true, same_list_refl}
 use Rattle.rule_words.specs.Stored.{run, kept_in, kept_first}
 use Rattle.term_table.specs.Table.{Square, cyclic_terms, listed, terms}
 use Rattle.term_table.specs.declared.Listed.{Listed}
-use Rattle.sheet_reader.specs.declared.OpenSet.{OpenSet}
-use Rattle.sheet_reader.specs.declared.Stands.{Stands}
-use Rattle.sheet_reader.specs.declared.Stands.TheVariants.{Outside}
-use Rattle.sheet_reader.specs.declared.Event.{Event}
-use Rattle.sheet_reader.specs.declared.Event.TheVariants as event
 use Rattle.tell_english.specs.Said.{said}
-use Rattle.tell_kept.specs.Listed.{set_line, kept_lines, refused_line, pair_line, cyclic_line}
+use Rattle.tell_kept.specs.Listed.{pair_line, cyclic_line}
 use Rattle.tell_text.specs.Written as texts
 use Rattle.tell_text.specs.Written.{Room, with_byte, wrote, after, follows, fits, one_fits, one_past, past}
-use Rattle.run_answers.specs.declared.How.{How}
-use Rattle.run_answers.specs.declared.How.TheVariants as how
-use Rattle.run_answers.specs.Told.{asked_for, asker, first_limit, told_bytes, why_of, why_said, said_by, byte_of, bytes_in, finding_room, finding_in, lines_said, in_words, pairs_with, pair_lines, set_of, event_text, answer, is_clean, last_room, is_stop, last_text, last_answer}
+use Rattle.run_answers.specs.Told.{told_bytes, why_said, byte_of, bytes_in, finding_room, finding_in, lines_said, in_words, pairs_with, pair_lines, is_stop, last_text}
 
 -- ---- what is left of a text
 pub wrote_more : (q r F : Room) (a b c : List ℕ) → c ≡ a ++ b → wrote q c ≡ F → r ≡ wrote q a → wrote r b ≡ F
@@ -47,56 +40,18 @@ wrote_more q r F a b c e f g = ap (λ z. wrote z b) g ∙ (after q a b ∙ (ap (
 pub wrote_all : (q F : Room) (c : List ℕ) → c ≡ [] → wrote q c ≡ F → q ≡ F
 wrote_all q F c e f = texts.nothing q ∙ (ap (λ z. wrote q z) (sym e) ∙ f)
 
--- ---- texts of few bytes
-pub first_same : (x y : ℕ) (s t : List ℕ) → x ≡ y → same_list (x ∷ s) (y ∷ t) ≡ same_list s t
-unfolding same_list
-first_same x y s t e = rw (eq-eqb x y e, same_list)
-
-pub first_other : (x y : ℕ) (s t : List ℕ) → (x ≡ y → ⊥) → same_list (x ∷ s) (y ∷ t) ≡ false
-unfolding same_list
-first_other x y s t e = rw (ne_eqb x y e, same_list)
-
-pub one_same : (x y : ℕ) → eqb x y ≡ same_list (x ∷ []) (y ∷ [])
-unfolding same_list
-one_same x y = go (eqb x y)
-  where
-    go : (t : Bool) → t ≡ elim t as (λ _. Bool) [ true ↦ true | false ↦ false ]
-    go true = refl
-    go false = refl
-
-pub other_length : (s t : List ℕ) → (length s ≡ length t → ⊥) → same_list s t ≡ false
-unfolding same_list
-other_length [] [] h = absurd (h refl)
-other_length [] (y ∷ t) h = refl
-other_length (x ∷ s) [] h = refl
-other_length (x ∷ s) (y ∷ t) h = go (eqb x y) (other_length s t (λ e. h (omega arith)))
-  where
-    go : (b : Bool) → same_list s t ≡ false → elim b as (λ _. Bool) [ true ↦ same_list s t | false ↦ false ] ≡ false
-    go true e = e
-    go false e = refl
-
 -- ---- the end of a sheet
-pub clean_last : (b : Bool) (s : List ℕ) → b ≡ false → leb (length s) last_room ≡ is_clean b s
-clean_last true s e = absurd (let z : ◌≡◌ {A = ℕ} 0 1 = cc in omega arith)
-clean_last false s e = refl
-
-pub stop_short : (s : List ℕ) → length s < 2 → false ≡ is_stop s
+pub stop_is : (s : List ℕ) (b : Bool) → b ≡ starts_with eqb s (49 ∷ 70 ∷ []) → b ≡ is_stop s
 unfolding is_stop
-stop_short [] h = sym (other_length [] _ (λ e. omega arith))
-stop_short (x ∷ []) h = sym (other_length (x ∷ []) _ (λ e. omega arith))
-stop_short (x ∷ y ∷ s) h = absurd (omega arith)
-
-pub stop_first : (s : List ℕ) → 2 ≤ length s → (get_or s 0 0 ≡ 49 → ⊥) → false ≡ is_stop s
-unfolding is_stop
-stop_first [] h g = absurd (omega arith)
-stop_first (x ∷ []) h g = absurd (omega arith)
-stop_first (x ∷ y ∷ s) h g = sym (first_other x 49 _ _ g)
-
-pub stop_second : (s : List ℕ) → 2 ≤ length s → get_or s 0 0 ≡ 49 → eqb (get_or s 1 0) 70 ≡ is_stop s
-unfolding is_stop
-stop_second [] h g = absurd (omega arith)
-stop_second (x ∷ []) h g = absurd (omega arith)
-stop_second (x ∷ y ∷ s) h g = one_same y 70 ∙ sym (first_same x 49 _ _ g)
+stop_is s b e = go b (is_stop s) refl refl
+  where
+    go : (x y : Bool) → b ≡ x → is_stop s ≡ y → b ≡ is_stop s
+    go true true f g = f ∙ sym g
+    go false false f g = f ∙ sym g
+    go true false f g = let w = starts_is Decides-eqb s (49 ∷ 70 ∷ []) b e in f ∙ sym (ap is_stop (w.0 f) ∙ same_list_refl (49 ∷ 70 ∷ []))
+    go false true f g =
+        let w = starts_is Decides-eqb s (49 ∷ 70 ∷ []) b e in
+        w.1 (drop 2 s) (sym (take-append-drop 2 s) ∙ ap (λ (z : List ℕ). z ++ drop 2 s) (same_list_true (take 2 s) (49 ∷ 70 ∷ []) g)) ∙ sym g
 
 pub last_stop : (p q : Room) (t : Square) (found : List ℕ) (b : Bool) → b ≡ is_stop found → b ≡ true → q ≡ wrote p found → q ≡ wrote p (last_text t found)
 unfolding last_text
@@ -114,15 +69,17 @@ unfolding last_text
 last_cyclic p q t found b l s e f g h k = rw (sym e ∙ f) (k ∙ ap (λ z. wrote p (cyclic_line z)) (all_terms (cyclic_terms t) l s g h))
 
 -- ---- the bytes of a line
-pub bytes_turn : (q r F : Room) (s : List ℕ) (i left b : ℕ) → i + left ≡ length s → 1 < left → b ≡ byte_of (get_or s i 0) (get_or s (i + 1) 0) → wrote q (bytes_in (drop i s)) ≡ F → r ≡ wrote q (b ∷ []) → wrote r (bytes_in (drop (i + 2) s)) ≡ F
+pub bytes_turn : (q r F : Room) (s : List ℕ) (n b : ℕ) → n < length s / 2 → b ≡ byte_of (get_or s (2 * n) 0) (get_or s (2 * n + 1) 0) → wrote q (bytes_in (drop (2 * n) s)) ≡ F
+    → r ≡ wrote q (b ∷ []) → wrote r (bytes_in (drop (2 * (n + 1)) s)) ≡ F
 unfolding bytes_in
-bytes_turn q r F s i left b n h e f g =
-    let two_on : i + 2 ≡ suc (i + 1) = omega arith in
+bytes_turn q r F s n b h e f g =
+    let i = 2 * n in
+    let two_on : 2 * (n + 1) ≡ suc (i + 1) = omega arith in
     let x : drop i s ≡ get_or s i 0 ∷ drop (i + 1) s = rw add-one (drop-cons s i 0 (omega arith)) in
-    let y : drop (i + 1) s ≡ get_or s (i + 1) 0 ∷ drop (i + 2) s = rw two_on (drop-cons s (i + 1) 0 (omega arith)) in
-    let z : drop i s ≡ get_or s i 0 ∷ get_or s (i + 1) 0 ∷ drop (i + 2) s = x ∙ ap (λ t. get_or s i 0 ∷ t) y in
-    let w : bytes_in (drop i s) ≡ (b ∷ []) ++ bytes_in (drop (i + 2) s) = ap bytes_in z ∙ ap (λ t. t ∷ bytes_in (drop (i + 2) s)) (sym e) in
-    wrote_more q r F (b ∷ []) (bytes_in (drop (i + 2) s)) (bytes_in (drop i s)) w f g
+    let y : drop (i + 1) s ≡ get_or s (i + 1) 0 ∷ drop (2 * (n + 1)) s = rw two_on (drop-cons s (i + 1) 0 (omega arith)) in
+    let z : drop i s ≡ get_or s i 0 ∷ get_or s (i + 1) 0 ∷ drop (2 * (n + 1)) s = x ∙ ap (λ t. get_or s i 0 ∷ t) y in
+    let w : bytes_in (drop i s) ≡ (b ∷ []) ++ bytes_in (drop (2 * (n + 1)) s) = ap bytes_in z ∙ ap (λ t. t ∷ bytes_in (drop (2 * (n + 1)) s)) (sym e) in
+    wrote_more q r F (b ∷ []) (bytes_in (drop (2 * (n + 1)) s)) (bytes_in (drop i s)) w f g
 
 bytes_short : (s : List ℕ) → length s ≤ 1 → bytes_in s ≡ []
 unfolding bytes_in
@@ -130,8 +87,8 @@ bytes_short [] h = refl
 bytes_short (x ∷ []) h = refl
 bytes_short (x ∷ y ∷ s) h = absurd (omega arith)
 
-pub bytes_done : (q F : Room) (s : List ℕ) (i left : ℕ) → i + left ≡ length s → left ≤ 1 → wrote q (bytes_in (drop i s)) ≡ F → q ≡ F
-bytes_done q F s i left n h f = let l = length-drop i s in wrote_all q F (bytes_in (drop i s)) (bytes_short (drop i s) (omega arith)) f
+pub bytes_done : (q F : Room) (s : List ℕ) (n : ℕ) → length s / 2 ≤ n → wrote q (bytes_in (drop (2 * n) s)) ≡ F → q ≡ F
+bytes_done q F s n h f = let l = length-drop (2 * n) s in wrote_all q F (bytes_in (drop (2 * n) s)) (bytes_short (drop (2 * n) s) (omega arith)) f
 
 -- ---- what a room holds of a text
 pub holds_first : (s m : List ℕ) (at : ℕ) → at ≤ length m → take (wrote (m, at) s).1 (wrote (m, at) s).0 ≡ take at m ++ take (length m - at) s
@@ -197,12 +154,12 @@ finding_is : (bytes bytes' l f : List ℕ) (k : ℕ) → length bytes ≡ findin
 unfolding finding_in
 finding_is bytes bytes' l f k n e g = first_is bytes bytes' (bytes_in l) f k n e g
 
-said_in : (m m' s : List ℕ) (at most r : ℕ) (w : Maybe ℕ) → most ≡ max at (length m) → w ≡ room_said m at s → m' ≡ (wrote (m, at) s).0 → r ≡ to_or w most → (m', r) ≡ wrote (m, at) s
+pub said_in : (m m' s : List ℕ) (at most r : ℕ) (w : Maybe ℕ) → most ≡ max at (length m) → w ≡ room_said m at s → m' ≡ (wrote (m, at) s).0 → r ≡ unwrap_or w most → (m', r) ≡ wrote (m, at) s
 unfolding room_said
 said_in m m' s at most r w e f g h = go (leb (at + length s) (length m)) refl
   where
-    to : (t : Bool) → leb (at + length s) (length m) ≡ t → r ≡ to_or (if t then Some (at + length s) else None) most
-    to t q = h ∙ ap (λ (z : Maybe ℕ). to_or z most) (f ∙ ap (λ (b : Bool). if b then Some (at + length s) else None) q)
+    to : (t : Bool) → leb (at + length s) (length m) ≡ t → r ≡ unwrap_or (if t then Some (at + length s) else None) most
+    to t q = h ∙ ap (λ (z : Maybe ℕ). unwrap_or z most) (f ∙ ap (λ (b : Bool). if b then Some (at + length s) else None) q)
 
     end : (t : Bool) → leb (at + length s) (length m) ≡ t → r ≡ (wrote (m, at) s).1
     end true q = to true q ∙ sym (ap (λ (p : Room). p.1) (fits s m at (leb-true (at + length s) (length m) q)))
@@ -211,33 +168,16 @@ said_in m m' s at most r w e f g h = go (leb (at + length s) (length m)) refl
     go : (t : Bool) → leb (at + length s) (length m) ≡ t → (m', r) ≡ wrote (m, at) s
     go t q = ap (λ (x : List ℕ). (x, r)) g ∙ ap (λ (x : ℕ). ((wrote (m, at) s).0, x)) (end t q)
 
-pub explained_put : (m m' bytes bytes' l f : List ℕ) (clean : Bool) (at k most r : ℕ) (w : Maybe ℕ) → length bytes ≡ finding_room → (bytes', k) ≡ wrote (bytes, 0) (bytes_in l) → f ≡ part_of bytes' 0 k → most ≡ max at (length m) → w ≡ room_said m at (said clean f) → m' ≡ (wrote (m, at) (said clean f)).0 → r ≡ to_or w most → (m', r) ≡ wrote (m, at) (said clean (finding_in l))
-explained_put m m' bytes bytes' l f clean at k most r w n e g a b c d =
-    said_in m m' (said clean f) at most r w a b c d ∙ ap (λ z. wrote (m, at) (said clean z)) (finding_is bytes bytes' l f k n e g)
+pub explained_put : (p q : Room) (bytes bytes' l f : List ℕ) (clean : Bool) (k : ℕ) → length bytes ≡ finding_room → (bytes', k) ≡ wrote (bytes, 0) (bytes_in l) → f ≡ part_of bytes' 0 k
+    → q ≡ wrote p (said clean f) → q ≡ wrote p (said clean (finding_in l))
+explained_put p q bytes bytes' l f clean k n e g h = h ∙ ap (λ z. wrote p (said clean z)) (finding_is bytes bytes' l f k n e g)
 
 -- ---- a limit that is passed
-pub none_told : (p : Room) (x : Refusal) (n : ℕ) → n ≡ number x → n < first_limit → p ≡ wrote p (told_bytes x)
-unfolding told_bytes
-none_told p x n e h = let k : number x < first_limit = omega arith in rw (lt-ltb (number x) first_limit k) (texts.nothing p)
-
-pub both_told : (p q r : Room) (x : Refusal) (n a b : ℕ) → n ≡ number x → first_limit ≤ n → a ≡ asked_for x → b ≡ asker x → q ≡ wrote p (four a) → r ≡ wrote q (four b) → r ≡ wrote p (told_bytes x)
-unfolding told_bytes
-both_told p q r x n a b e h f g u v =
-    let k : first_limit ≤ number x = omega arith in
-    rw (le-ltb (number x) first_limit k) (follows p q r (four (asked_for x)) (four (asker x)) (u ∙ ap (λ z. wrote p (four z)) f) (v ∙ ap (λ z. wrote q (four z)) g))
-
-pub why_put : (m m' bytes bytes' bytes'' l f : List ℕ) (x : Refusal) (at k j most r : ℕ) (w : Maybe ℕ) → length bytes ≡ finding_room → (bytes', k) ≡ wrote (bytes, 0) (bytes_in l) → (bytes'', j) ≡ wrote (bytes', k) (told_bytes x) → f ≡ part_of bytes'' 0 j → most ≡ max at (length m) → w ≡ room_said m at (said false f) → m' ≡ (wrote (m, at) (said false f)).0 → r ≡ to_or w most → (m', r) ≡ wrote (m, at) (why_said x l)
+pub why_put : (p q : Room) (bytes bytes' bytes'' l f : List ℕ) (x : Refusal) (k j : ℕ) → length bytes ≡ finding_room → (bytes', k) ≡ wrote (bytes, 0) (bytes_in l) → (bytes'', j) ≡ wrote (bytes', k) (told_bytes x)
+    → f ≡ part_of bytes'' 0 j → q ≡ wrote p (said false f) → q ≡ wrote p (why_said x l)
 unfolding why_said
-why_put m m' bytes bytes' bytes'' l f x at k j most r w n e h g a b c d =
-    said_in m m' (said false f) at most r w a b c d ∙ ap (λ z. wrote (m, at) (said false z))
-    (first_is bytes bytes'' (bytes_in l ++ told_bytes x) f j n (follows (bytes, 0) (bytes', k) (bytes'', j) (bytes_in l) (told_bytes x) e h) g)
-
-module _ (p q : Room) (e : Event) (v : Verdict) (f : List ℕ) (g : v ≡ why_of e) where
-  pub why_line : {x : Refusal} → v ≡ Err x → q ≡ wrote p (why_said x f) → q ≡ wrote p (said_by (why_of e) f)
-  why_line h k = k ∙ ap (λ z. wrote p (said_by z f)) (sym h ∙ g)
-
-  pub other_line : v ≡ Ok tt → q ≡ wrote p (in_words false f) → q ≡ wrote p (said_by (why_of e) f)
-  other_line h k = k ∙ ap (λ z. wrote p (said_by z f)) (sym h ∙ g)
+why_put p q bytes bytes' bytes'' l f x k j n e h g d =
+    d ∙ ap (λ z. wrote p (said false z)) (first_is bytes bytes'' (bytes_in l ++ told_bytes x) f j n (follows (bytes, 0) (bytes', k) (bytes'', j) (bytes_in l) (told_bytes x) e h) g)
 
 -- ---- the lines of the findings
 none_said : (clean : Bool) (x : Lines) (l : List ℕ) → LeftOf x l → lines_said clean x ≡ []
@@ -256,10 +196,6 @@ pub said_open : (q F : Room) (clean : Bool) (s : List ℕ) (from : ℕ) (v : May
 unfolding in_words
 said_open q F clean s from v a b f =
     wrote_all q F (lines_said clean (lines (drop from s))) (none_said clean (lines (drop from s)) (drop from s) (open_left s from (sym a ∙ b))) f
-
-pub said_done : (q F : Room) (clean : Bool) (s : List ℕ) (from : ℕ) → length s ≤ from → wrote q (in_words clean (drop from s)) ≡ F → q ≡ F
-unfolding in_words lines
-said_done q F clean s from h f = wrote_all q F (lines_said clean (lines (drop from s))) (ap (λ z. lines_said clean (lines z)) (drop_all s from h)) f
 
 -- ---- pairs
 run_more : {A : Type 0} (f : ℕ → A) (i k : ℕ) → i < k → run f i (k - i) ≡ f i ∷ run f (i + 1) (k - (i + 1))
@@ -296,79 +232,3 @@ pairs_turn q r F ws rules i h f g =
 pub pairs_done : (q F : Room) (ws : List ℕ) (rules i : ℕ) → rules ≤ i → wrote q (pair_lines (run (kept_in ws) i (rules - i))) ≡ F → q ≡ F
 unfolding pair_lines
 pairs_done q F ws rules i h f = wrote_all q F (pair_lines (run (kept_in ws) i (rules - i))) (ap pair_lines (run_none (kept_in ws) i rules h)) f
-
--- ---- what a line was
-pub none_open : (s : Stands) → s ≡ Outside → record { term = 0; flags = 0; sites = 0; rules = 0 } ≡ set_of s
-none_open s e = sym (ap set_of e)
-
-module _ (p q : Room) (e : Event) (b b' a a' : OpenSet) (m w f : List ℕ) (sb : b ≡ b') (sa : a ≡ a') where
-  as_event : (u : Event) → e ≡ u → q ≡ wrote p (event_text u b a m w f) → q ≡ wrote p (event_text e b' a' m w f)
-  as_event u g l = l ∙ (ap (λ z. wrote p (event_text u z a m w f)) sb ∙ (ap (λ z. wrote p (event_text u b' z m w f)) sa ∙ ap (λ z. wrote p (event_text z b' a' m w f)) (sym g)))
-
-  pub begun_put : e ≡ event.Begun → q ≡ wrote p (set_line a.term a.flags) → q ≡ wrote p (event_text e b' a' m w f)
-  unfolding event_text
-  begun_put g l = as_event event.Begun g l
-
-  pub kept_put : {x y : ℕ} → e ≡ event.Kept x y → q ≡ wrote p (kept_lines (sites_in m a.sites) (kept_in w b.rules)) → q ≡ wrote p (event_text e b' a' m w f)
-  unfolding event_text
-  kept_put {x} {y} g l = as_event (event.Kept x y) g l
-
-  pub refused_put : {x y : ℕ} {r : Refusal} → e ≡ event.Refused x y r → q ≡ wrote p (refused_line x y r) → q ≡ wrote p (event_text e b' a' m w f)
-  unfolding event_text
-  refused_put {x} {y} {r} g l = as_event (event.Refused x y r) g l
-
-  pub ended_put : {r : Room} → e ≡ event.Ended → r ≡ wrote p (pair_lines (kept_first w b.rules)) → q ≡ wrote r f → q ≡ wrote p (event_text e b' a' m w f)
-  unfolding event_text
-  ended_put {r} g l n = as_event event.Ended g (follows p r q (pair_lines (kept_first w b.rules)) f l n)
-
-  pub stopped_put : {r : Refusal} → e ≡ event.Stopped r → q ≡ wrote p f → q ≡ wrote p (event_text e b' a' m w f)
-  unfolding event_text
-  stopped_put {r} g l = as_event (event.Stopped r) g l
-
--- no line of its own
-module _ (p : Room) (e : Event) (b a : OpenSet) (m w f : List ℕ) where
-  pub site_put : e ≡ event.Site → p ≡ wrote p (event_text e b a m w f)
-  unfolding event_text
-  site_put g = texts.nothing p ∙ ap (λ z. wrote p (event_text z b a m w f)) (sym g)
-
-  pub item_put : e ≡ event.Item → p ≡ wrote p (event_text e b a m w f)
-  unfolding event_text
-  item_put g = texts.nothing p ∙ ap (λ z. wrote p (event_text z b a m w f)) (sym g)
-
-  pub unread_put : e ≡ event.NoRoom → p ≡ wrote p (event_text e b a m w f)
-  unfolding event_text
-  unread_put g = texts.nothing p ∙ ap (λ z. wrote p (event_text z b a m w f)) (sym g)
-
--- ---- a line's answer
-module _ (p q : Room) (h : How) (e : Event) (s t : Stands) (m w f : List ℕ) where
-  as_answer : (u : How) → h ≡ u → q ≡ wrote p (answer u e s t m w f) → q ≡ wrote p (answer h e s t m w f)
-  as_answer u g k = k ∙ ap (λ z. wrote p (answer z e s t m w f)) (sym g)
-
-  pub check_put : h ≡ how.Check → q ≡ wrote p f → q ≡ wrote p (answer h e s t m w f)
-  unfolding answer
-  check_put g k = as_answer how.Check g k
-
-  pub explain_put : h ≡ how.Explain → q ≡ wrote p (said_by (why_of e) f) → q ≡ wrote p (answer h e s t m w f)
-  unfolding answer
-  explain_put g k = as_answer how.Explain g k
-
-  pub show_put : h ≡ how.Kept → q ≡ wrote p (event_text e (set_of s) (set_of t) m w f) → q ≡ wrote p (answer h e s t m w f)
-  unfolding answer
-  show_put g k = as_answer how.Kept g k
-
--- ---- an end's answer
-module _ (p q : Room) (h : How) (before : Bool) (t : Square) (f : List ℕ) where
-  as_last : (u : How) → h ≡ u → q ≡ wrote p (last_answer u before t f) → q ≡ wrote p (last_answer h before t f)
-  as_last u g k = k ∙ ap (λ z. wrote p (last_answer z before t f)) (sym g)
-
-  pub check_last : h ≡ how.Check → q ≡ wrote p f → q ≡ wrote p (last_answer h before t f)
-  unfolding last_answer
-  check_last g k = as_last how.Check g k
-
-  pub explain_last : {b : Bool} → h ≡ how.Explain → b ≡ is_clean before f → q ≡ wrote p (in_words b f) → q ≡ wrote p (last_answer h before t f)
-  unfolding last_answer
-  explain_last g e k = as_last how.Explain g (k ∙ ap (λ z. wrote p (in_words z f)) e)
-
-  pub show_last : h ≡ how.Kept → q ≡ wrote p (last_text t f) → q ≡ wrote p (last_answer h before t f)
-  unfolding last_answer
-  show_last g k = as_last how.Kept g k

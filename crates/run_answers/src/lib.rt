@@ -11,7 +11,6 @@ ghost use Rattle.sheet_lines.specs.Cut.{part_of};
 ghost use Rattle.run_answers.specs.Told.{asked_for, asker, byte_of, bytes_in, finding_in, in_words, why_of, told_bytes, why_said, said_by, pairs_with, pair_lines, set_of, event_text, answer, is_clean, is_stop, last_text, last_answer};
 
 use paper::{Refusal, TERMS};
-use sheet_ended::to_or;
 use sheet_findings::number_of;
 use sheet_frames::digits::value_of;
 use sheet_lines::{line_end, part};
@@ -42,22 +41,19 @@ fn byte(a: u8, b: u8) -> u8
 fn bytes_of(line: &[u8], bytes: &mut [u8]) -> usize
     ensures { (bytes.new, result) ≡ wrote (bytes.old, 0) (bytes_in line.now) }
 {
-    let mut k: usize = 0;
-    let mut i: usize = 0;
-    let mut left = line.len();
-    while 1 < left {
-        let next = put(bytes, k, byte(line[i], line[i + 1]));
-        k = next;
-        i += 2;
-        left -= 2;
+    let mut k = 0;
+    for n in 0..line.len() / 2 {
+        k = put(bytes, k, byte(line[2 * n], line[2 * n + 1]));
     }
     k
 }
 
-fn later(a: usize, b: usize) -> usize
-    ensures { result ≡ max a b }
+// The bytes of a finding in words.
+fn put_said(bytes: &[u8], clean: bool, out: &mut [u8], at: usize) -> usize
+    ensures { (out.new, result) ≡ wrote (out.old, at) (said clean bytes.now) }
 {
-    if a <= b { b } else { a }
+    let most = at.max(out.len());
+    tell_english::explain(bytes, clean, out, at).unwrap_or(most)
 }
 
 // One finding in words.
@@ -66,9 +62,7 @@ fn put_explained(line: &[u8], clean: bool, out: &mut [u8], at: usize) -> usize
 {
     let mut bytes = [0u8; FINDING];
     let k = bytes_of(line, &mut bytes);
-    let most = later(at, out.len());
-    let r = tell_english::explain(part(&bytes, 0, k), clean, out, at);
-    to_or(r, most)
+    put_said(part(&bytes, 0, k), clean, out, at)
 }
 
 // The lines of digits in the room, each in words.
@@ -76,13 +70,9 @@ fn put_all_explained(room: &[u8], clean: bool, out: &mut [u8], at: usize) -> usi
     ensures { (out.new, result) ≡ wrote (out.old, at) (in_words clean room.now) }
 {
     let mut n = at;
-    let mut from: usize = 0;
-    while from < room.len() {
-        let Some(e) = line_end(room, from) else {
-            return n;
-        };
-        let next = put_explained(part(room, from, e), clean, out, n);
-        n = next;
+    let mut from = 0;
+    while let Some(e) = line_end(room, from) {
+        n = put_explained(part(room, from, e), clean, out, n);
         from = e + 1;
     }
     n
@@ -98,24 +88,17 @@ fn asked_of(r: Refusal) -> u32
     ensures { result ≡ asked_for r }
 {
     match r {
-        Refusal::Layout { line: _ } => 0,
-        Refusal::Unknown { site: _ } => 0,
-        Refusal::Itself { site: _ } => 0,
-        Refusal::Unreachable { site: _, other: _ } => 0,
-        Refusal::Hanging { site: _ } => 0,
-        Refusal::Endless { site: _ } => 0,
-        Refusal::TooManySites { asked, at: _ } => asked,
-        Refusal::TooManySources { asked, at: _ } => asked,
-        Refusal::TooManyFields { asked, at: _ } => asked,
-        Refusal::TooManyRules { asked } => asked,
-        Refusal::TooManyItems { asked } => asked,
-        Refusal::TooManyConstrained { asked } => asked,
-        Refusal::TooManyEqual { asked } => asked,
-        Refusal::TooManySets { asked } => asked,
-        Refusal::TermTooHigh { asked } => asked,
-        Refusal::UnfoldingTooLong { asked } => asked,
-        Refusal::PlaceUsed { place: _ } => 0,
-        Refusal::Repeated { line: _ } => 0,
+        Refusal::TooManySites { asked, at: _ }
+        | Refusal::TooManySources { asked, at: _ }
+        | Refusal::TooManyFields { asked, at: _ }
+        | Refusal::TooManyRules { asked }
+        | Refusal::TooManyItems { asked }
+        | Refusal::TooManyConstrained { asked }
+        | Refusal::TooManyEqual { asked }
+        | Refusal::TooManySets { asked }
+        | Refusal::TermTooHigh { asked }
+        | Refusal::UnfoldingTooLong { asked } => asked,
+        _ => 0,
     }
 }
 
@@ -124,24 +107,10 @@ fn asker_of(r: Refusal) -> u32
     ensures { result ≡ asker r }
 {
     match r {
-        Refusal::Layout { line: _ } => 0,
-        Refusal::Unknown { site: _ } => 0,
-        Refusal::Itself { site: _ } => 0,
-        Refusal::Unreachable { site: _, other: _ } => 0,
-        Refusal::Hanging { site: _ } => 0,
-        Refusal::Endless { site: _ } => 0,
-        Refusal::TooManySites { asked: _, at } => at,
-        Refusal::TooManySources { asked: _, at } => at,
-        Refusal::TooManyFields { asked: _, at } => at,
-        Refusal::TooManyRules { asked: _ } => 0,
-        Refusal::TooManyItems { asked: _ } => 0,
-        Refusal::TooManyConstrained { asked: _ } => 0,
-        Refusal::TooManyEqual { asked: _ } => 0,
-        Refusal::TooManySets { asked: _ } => 0,
-        Refusal::TermTooHigh { asked: _ } => 0,
-        Refusal::UnfoldingTooLong { asked: _ } => 0,
-        Refusal::PlaceUsed { place: _ } => 0,
-        Refusal::Repeated { line: _ } => 0,
+        Refusal::TooManySites { asked: _, at }
+        | Refusal::TooManySources { asked: _, at }
+        | Refusal::TooManyFields { asked: _, at } => at,
+        _ => 0,
     }
 }
 
@@ -159,6 +128,7 @@ fn put_word(bytes: &mut [u8], at: usize, v: u32) -> usize
 }
 
 // What is told with a limit, behind its finding.
+#[tactic(auto, using(tell_text::specs::Written::follows), unfolding(crate::specs::Told::told_bytes, tell_text::specs::Written::wrote))]
 fn put_told(bytes: &mut [u8], at: usize, why: Refusal) -> usize
     ensures { (bytes.new, result) ≡ wrote (bytes.old, at) (told_bytes why) }
 {
@@ -176,9 +146,7 @@ fn put_why(found: &[u8], why: Refusal, out: &mut [u8], at: usize) -> usize
     let mut bytes = [0u8; FINDING];
     let k = bytes_of(found, &mut bytes);
     let e = put_told(&mut bytes, k, why);
-    let most = later(at, out.len());
-    let r = tell_english::explain(part(&bytes, 0, e), false, out, at);
-    to_or(r, most)
+    put_said(part(&bytes, 0, e), false, out, at)
 }
 
 // Why a rule was refused, or the sheet stopped.
@@ -186,21 +154,13 @@ fn why_of(e: Event) -> Result<(), Refusal>
     ensures { result ≡ why_of e }
 {
     match e {
-        Event::Begun => Ok(()),
-        Event::Site => Ok(()),
-        Event::Item => Ok(()),
-        Event::Kept {
-            place: _,
-            priority: _,
-        } => Ok(()),
         Event::Refused {
             place: _,
             priority: _,
             why,
-        } => Err(why),
-        Event::Ended => Ok(()),
-        Event::Stopped(why) => Err(why),
-        Event::NoRoom => Ok(()),
+        }
+        | Event::Stopped(why) => Err(why),
+        _ => Ok(()),
     }
 }
 
@@ -208,11 +168,10 @@ fn why_of(e: Event) -> Result<(), Refusal>
 fn put_line_explained(e: Event, found: &[u8], out: &mut [u8], at: usize) -> usize
     ensures { (out.new, result) ≡ wrote (out.old, at) (said_by (why_of e) found.now) }
 {
-    let v = why_of(e);
-    if let Err(why) = v {
-        return put_why(found, why, out, at);
+    match why_of(e) {
+        Err(why) => put_why(found, why, out, at),
+        Ok(()) => put_all_explained(found, false, out, at),
     }
-    put_all_explained(found, false, out, at)
 }
 
 // ---- what is kept, in words
@@ -246,8 +205,7 @@ fn put_pairs_of(words: &[u64], i: u32, rules: u32, out: &mut [u8], at: usize) ->
 {
     let mut n = at;
     for j in i + 1..rules {
-        let next = tell_kept::put_pair(out, n, words, i, j);
-        n = next;
+        n = tell_kept::put_pair(out, n, words, i, j);
     }
     n
 }
@@ -257,13 +215,13 @@ fn put_pairs(words: &[u64], rules: u32, out: &mut [u8], at: usize) -> usize
 {
     let mut n = at;
     for i in 0..rules {
-        let next = put_pairs_of(words, i, rules, out, n);
-        n = next;
+        n = put_pairs_of(words, i, rules, out, n);
     }
     n
 }
 
 // What a line was, for `kept`: where the reader stood before it and after it, and the findings that it gave.
+#[tactic(auto, using(tell_text::specs::Written::follows), unfolding(crate::specs::Told::event_text, tell_text::specs::Written::wrote))]
 fn put_event(
     e: Event,
     stood: Stands,
@@ -281,8 +239,7 @@ fn put_event(
     let after = open_set(stands);
     match e {
         Event::Begun => tell_kept::put_set(out, at, after.term, after.flags),
-        Event::Site => at,
-        Event::Item => at,
+        Event::Site | Event::Item | Event::NoRoom => at,
         Event::Kept {
             place: _,
             priority: _,
@@ -297,11 +254,11 @@ fn put_event(
             put_text(out, n, found)
         }
         Event::Stopped(_) => put_text(out, at, found),
-        Event::NoRoom => at,
     }
 }
 
 // What a line is answered.
+#[tactic(auto, unfolding(crate::specs::Told::answer))]
 pub fn put_step(
     how: How,
     e: Event,
@@ -332,13 +289,11 @@ const LAST: usize = 11;
 fn is_clean(before: bool, found: &[u8]) -> bool
     ensures { result ≡ is_clean before found.now }
 {
-    if before {
-        return false;
-    }
-    found.len() <= LAST
+    !before && found.len() <= LAST
 }
 
 // For `kept` a sheet that was read to its end closes with all its cyclic terms, and one that stopped with its last finding.
+#[tactic(auto, unfolding(crate::specs::Told::last_text))]
 fn put_last(table: &[[u64; WORDS]; TERMS], found: &[u8], out: &mut [u8], at: usize) -> usize
     ensures { (out.new, result) ≡ wrote (out.old, at) (last_text table.now found.now) }
 {
@@ -353,27 +308,19 @@ fn put_last(table: &[[u64; WORDS]; TERMS], found: &[u8], out: &mut [u8], at: usi
 fn is_stop(found: &[u8]) -> bool
     ensures { result ≡ is_stop found.now }
 {
-    if found.len() < 2 {
-        return false;
-    }
-    if found[0] != b'1' {
-        return false;
-    }
-    found[1] == b'F'
+    found.starts_with(b"1F")
 }
 
 // The first n of the terms; none where they are fewer.
+#[tactic(auto, unfolding(sheet_lines::specs::Cut::part_of))]
 fn terms_of(terms: &[u16], n: u16) -> &[u16]
     ensures { result.now ≡ part_of terms.now 0 n }
 {
-    let k = usize::from(n);
-    if k <= terms.len() {
-        return &terms[..k];
-    }
-    &terms[..0]
+    terms.get(..usize::from(n)).unwrap_or(&[])
 }
 
 // What the end of a sheet is answered, where `before` says whether it had a finding.
+#[tactic(auto, unfolding(crate::specs::Told::last_answer))]
 pub fn put_end(
     how: How,
     before: bool,
