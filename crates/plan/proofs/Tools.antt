@@ -54,10 +54,6 @@ pub or_so : (a b : Bool) → b ≡ true → (a || b) ≡ true
 or_so true b e = refl
 or_so false b e = e
 
-pub or_not : (a b : Bool) → (a ≡ true → ⊥) → (b ≡ true → ⊥) → (a || b) ≡ false
-or_not true b f k = absurd (f refl)
-or_not false b f k = is_false b k
-
 -- ---- the first that is found
 
 abbrev or_next : {A : Type 0} → Option A → Option A → Option A

@@ -1,27 +1,24 @@
 -- What the functions' proofs cite: the line's numbers, the line anew, and the answer.
 use mathlib.Core.Path.{◌≡◌, refl, sym, ap, ◌∙◌}
-use mathlib.Core.Bool.{Bool, true, false}
+use mathlib.Core.Bool.{Bool, true, false, ◌&&◌}
 use mathlib.Core.List.{List, [], ◌∷◌, ◌++◌, append_assoc}
-use Prim.Native.Nat.{ℕ, zero, suc, ◌+◌, ◌-◌, ◌*◌, ◌/◌, ◌%◌, ◌≤◌, ◌<◌}
+use Prim.Native.Nat.{ℕ, ◌+◌, ◌-◌, ◌*◌, ◌≤◌, ◌<◌}
 use native.Mathlib.Omega.{arith}
-use native.Mathlib.Numerals.{add-one}
-use lib.ListN.{length, get_or, take, drop, replicate, length-replicate, length-append}
-use lib.Seq.{drop-cons, sets, sets-eq, length-sets, length-take-le, take_at}
-use lib.Dec.{eqb, ltb}
-use borrow.Author.Tests.{lt-ltb, le-ltb, eq-eqb, ne_eqb}
-use Rattle.std.specs.Prelude.{if◌then◌else◌}
+use lib.ListN.{length, get_or, take, drop}
+use lib.Seq.{sets, sets-eq, length-sets, length-take-le, take_at}
+use lib.Dec.{eqb}
+use Rattle.std.specs.Cmp.Lexicographic.{pointwise}
+use borrow.Author.Tests.{lt-ltb, le-ltb}
 use Rattle.paper.specs.Words.{same_list, two, four, eight}
 use Rattle.paper.specs.Layout.{digit}
 use Rattle.paper.specs.Text.{unended}
-use Rattle.paper.proofs.Lists.{drop_all}
 use Rattle.sheet_digits.specs.Digits.{digits_of}
 use Rattle.plan.specs.Plans.{by_mask, by_sameness}
 use Rattle.tell_text.specs.Written.{Room, wrote, follows, fits}
 use Rattle.tell_plan.specs.PlanText.{set_head, rule_line, two_places}
-use Rattle.plan_text.specs.declared.Spoken.{Spoken}
 use Rattle.plan_text.specs.declared.Spoken.TheVariants.{Set, Rule, None, Bad}
 use Rattle.plan_text.specs.Lines.{set_line, none_words, digit_at, term_at, place_at, priority_at, term_from, first_from, second_from, line_of}
-use Rattle.plan_text.proofs.Laws.{digit_bound, term_bound, place_bound, reads_rule, reads_set, reads_mask, reads_same, reads_bad}
+use Rattle.plan_text.proofs.Laws.{reads_rule, reads_set, reads_mask, reads_same, reads_bad}
 
 -- ---- a digit
 pub value_below : (b : ℕ) → b < 48 → (0 ≡ digit_at (b ∷ []) 0) × (0 < 16)
@@ -48,15 +45,6 @@ pub digit_there : (l : List ℕ) (i r : ℕ) → (r ≡ digit_at (get_or l i 0 �
 unfolding digit_at
 digit_there l i r e = e
 
-get_past : (l : List ℕ) (i : ℕ) → length l ≤ i → get_or l i 0 ≡ 0
-get_past [] i h = refl
-get_past (x ∷ l) zero h = absurd (omega arith)
-get_past (x ∷ l) (suc i) h = get_past l i (omega arith)
-
-pub digit_past : (l : List ℕ) (i : ℕ) → length l ≤ i → (0 ≡ digit_at l i) × (0 < 16)
-unfolding digit_at digit
-digit_past l i h = (rw (get_past l i h) refl, omega arith)
-
 -- ---- numbers
 pub term_is : (l : List ℕ) (i a b c d : ℕ) → (a ≡ digit_at l i) × (a < 16) → (b ≡ digit_at l (i + 1)) × (b < 16) → (c ≡ digit_at l (i + 2)) × (c < 16) → (d ≡ digit_at l (i + 3)) × (d < 16) → a * 4096 + b * 256 + c * 16 + d ≡ term_at l i
 unfolding term_at
@@ -71,47 +59,16 @@ unfolding priority_at
 priority_is l i a b e f = rw (e, f) refl
 
 -- ---- two texts
-pub other_length : (s t : List ℕ) → (length s ≡ length t → ⊥) → false ≡ same_list s t
+pub same_as : (s t : List ℕ) → pointwise eqb s t ≡ same_list s t
 unfolding same_list
-other_length [] [] h = absurd (h refl)
-other_length [] (y ∷ t) h = refl
-other_length (x ∷ s) [] h = refl
-other_length (x ∷ s) (y ∷ t) h = go (eqb x y) (other_length s t (λ e. h (omega arith)))
+same_as [] [] = refl
+same_as [] (y ∷ t) = refl
+same_as (x ∷ s) [] = refl
+same_as (x ∷ s) (y ∷ t) = go (eqb x y) (same_as s t)
   where
-    go : (b : Bool) → false ≡ same_list s t → false ≡ elim b as (λ _. Bool) [ true ↦ same_list s t | false ↦ false ]
+    go : (b : Bool) → pointwise eqb s t ≡ same_list s t → (b && pointwise eqb s t) ≡ elim b as (λ _. Bool) [ true ↦ same_list s t | false ↦ false ]
     go true e = e
     go false e = refl
-
-first_same : (x y : ℕ) (s t : List ℕ) → x ≡ y → same_list (x ∷ s) (y ∷ t) ≡ same_list s t
-unfolding same_list
-first_same x y s t e = rw (eq-eqb x y e, same_list)
-
-first_other : (x y : ℕ) (s t : List ℕ) → (x ≡ y → ⊥) → same_list (x ∷ s) (y ∷ t) ≡ false
-unfolding same_list
-first_other x y s t e = rw (ne_eqb x y e, same_list)
-
--- what is left of two texts of one length
-module _ (s t : List ℕ) (long : length s ≡ length t) (i : ℕ) (F : Bool) (so : same_list (drop i s) (drop i t) ≡ F) where
-  left_s : i < length s → drop i s ≡ get_or s i 0 ∷ drop (i + 1) s
-  left_s h = rw (add-one i) (drop-cons s i 0 h)
-
-  left_t : i < length s → drop i t ≡ get_or t i 0 ∷ drop (i + 1) t
-  left_t h = rw (add-one i) (drop-cons t i 0 (omega arith))
-
-  lefts : i < length s → same_list (get_or s i 0 ∷ drop (i + 1) s) (get_or t i 0 ∷ drop (i + 1) t) ≡ F
-  lefts h = sym (let a = left_s h in let b = left_t h in ap (λ x. same_list x (drop i t)) a ∙ ap (λ x. same_list (get_or s i 0 ∷ drop (i + 1) s) x) b) ∙ so
-
-  pub go_on : i < length s → get_or s i 0 ≡ get_or t i 0 → same_list (drop (i + 1) s) (drop (i + 1) t) ≡ F
-  go_on h e = sym (first_same (get_or s i 0) (get_or t i 0) (drop (i + 1) s) (drop (i + 1) t) e) ∙ lefts h
-
-  pub differs : i < length s → (get_or s i 0 ≡ get_or t i 0 → ⊥) → false ≡ F
-  differs h e = sym (first_other (get_or s i 0) (get_or t i 0) (drop (i + 1) s) (drop (i + 1) t) e) ∙ lefts h
-
-  pub all_same : length s ≤ i → true ≡ F
-  all_same h = sym (ends (drop i s) (drop i t) (drop_all s i h) (drop_all t i (omega arith))) ∙ so
-    where
-      ends : (x y : List ℕ) → x ≡ [] → y ≡ [] → same_list x y ≡ true
-      ends x y e f = unfold same_list in (ap (λ z. same_list z y) e ∙ ap (λ z. same_list [] z) f)
 
 -- ---- the line anew
 pub anew : (m room s : List ℕ) (e : ℕ) → (room, e) ≡ wrote (m, 0) s → length s ≤ length m → (take e room ≡ s) × (e ≤ length room)
@@ -161,8 +118,8 @@ module _ (m : List ℕ) (long : length m ≡ 32) where
       lines : (room, e) ≡ wrote (m, 0) (unended "none " ++ (two_places x y ++ w))
       lines = unfold two_places in (chain5 (m, 0) q r s t (room, e) (unended "none ") (digits_of (four x)) (unended " ") (digits_of (four y)) w a b c d f ∙ ap (λ z. wrote (m, 0) (unended "none " ++ z)) (sym (append_assoc (digits_of (four x)) (unended " " ++ digits_of (four y)) w)))
 
-pub same_then : (l s t : List ℕ) (r : Bool) → r ≡ same_list l s → s ≡ t → r ≡ same_list l t
-same_then l s t r e f = e ∙ ap (λ x. same_list l x) f
+pub same_then : (l s t : List ℕ) (r : Bool) → r ≡ pointwise eqb l s → s ≡ t → r ≡ same_list l t
+same_then l s t r e f = e ∙ (same_as l s ∙ ap (λ x. same_list l x) f)
 
 -- ---- the answer
 module _ (l : List ℕ) (p q : ℕ) (ep : p ≡ place_at l first_from) (eq : q ≡ priority_at l second_from) (a : Bool) (ea : a ≡ same_list l (rule_line p q)) where

@@ -2,11 +2,11 @@
 -- (`says_exactly`).
 use mathlib.Core.Path.{◌≡◌, refl, sym, ap, subst, ◌∙◌}
 use mathlib.Core.Bool.{Bool, true, false}
-use mathlib.Core.List.{List, [], ◌∷◌, ◌++◌}
-use Prim.Native.Nat.{ℕ, zero, suc, ◌+◌, ◌-◌, ◌*◌, ◌/◌, ◌%◌, ◌≤◌, ◌<◌}
+use mathlib.Core.List.{List}
+use Prim.Native.Nat.{ℕ, ◌+◌, ◌*◌, ◌/◌, ◌%◌, ◌≤◌, ◌<◌}
 use native.Mathlib.Omega.{arith}
-use lib.ListN.{length, get_or}
-use lib.Dec.{eqb, ltb}
+use lib.ListN.{get_or}
+use lib.Dec.{ltb}
 use borrow.Author.Tests.{lt-ltb, le-ltb, ltb-true, ltb-false}
 use Rattle.std.specs.Prelude.{if◌then◌else◌}
 use Rattle.paper.specs.Words.{same_list, two, four, eight}
@@ -17,7 +17,7 @@ use Rattle.paper.proofs.Laws.{same_list_true, same_list_refl}
 use Rattle.sheet_digits.specs.Digits.{digits_of}
 use Rattle.sheet_digits.proofs.DigitLaws.{digit_low, digit_high}
 use Rattle.plan.specs.Plans.{Obstacle, by_mask, by_sameness, Obstructed}
-use Rattle.tell_plan.specs.PlanText.{set_head, rule_line, two_places, why_text, none_line}
+use Rattle.tell_plan.specs.PlanText.{set_head, rule_line, two_places, none_line}
 use Rattle.plan_text.specs.declared.Spoken.{Spoken}
 use Rattle.plan_text.specs.declared.Spoken.TheVariants.{Set, Rule, None, Bad}
 use Rattle.plan_text.specs.Lines.{set_line, none_words, terms, places, priorities, Nones, Rules, Sets, Others, Says, digit_at, term_at, place_at, priority_at, term_from, first_from, second_from, is_none, line_of}

@@ -1,25 +1,22 @@
 -- What the loops' proofs cite: a line of a text, and what one turn does.
-use mathlib.Core.Path.{◌≡◌, refl, sym, ap, subst, ◌∙◌}
-use mathlib.Core.Bool.{Bool, true, false, not}
-use mathlib.Core.Option.{Option, none, some}
+use mathlib.Core.Path.{◌≡◌, refl, sym, ap, ◌∙◌}
+use mathlib.Core.Bool.{Bool, true, false}
+use mathlib.Core.Option.{Option, none}
 use mathlib.Core.List.{List, [], ◌∷◌, ◌++◌, map}
 use Prim.Native.Nat.{ℕ, zero, suc, ◌+◌, ◌-◌, ◌≤◌, ◌<◌}
 use native.Mathlib.Omega.{arith}
 use native.Mathlib.Numerals.{add-one}
 use lib.ListN.{length, get_or, take, drop, set, length-drop, length-append, length-set, replicate}
 use lib.Seq.{take-suc, get_or_at, drop-length, set_out, sets, length-sets}
-use lib.Dec.{eqb}
 use Rattle.std.specs.declared.option.Option.TheVariants as option
 use Rattle.paper.specs.Layout.{Lines, nothing, unended, line, lines}
 use Rattle.paper.proofs.Lists.{drop_all}
 use Rattle.sheet_digits.proofs.DigitLaws.{sets_append}
 use Rattle.paper.specs.Answered.{Maybe}
-use Rattle.sheet_lines.specs.Ends.{line_end, Ending, ends_at}
+use Rattle.sheet_lines.specs.Ends.{line_end, ends_at}
 use Rattle.sheet_lines.specs.Cut.{part_of, part_there, LeftOf, open_left, line_inside, line_split}
 use Rattle.plan_text.specs.declared.Spoken.{Spoken}
 use Rattle.plan_text.specs.declared.Spoken.TheVariants.{Set, Rule, None, Bad}
-use Rattle.plan_text.specs.declared.Laid.{Laid}
-use Rattle.plan_text.specs.declared.Laid.TheVariants.{Well, BadAt}
 use Rattle.plan_text.specs.Lines.{terms, line_of}
 use Rattle.plan_text.specs.Proposal.{spoken, first_bad, Row}
 use Rattle.plan_text.proofs.Walks.{by_bad, by_well, bad_is}
@@ -78,17 +75,17 @@ next_open text from h g =
 abbrev pub Rest : List ℕ → ℕ → List Spoken
 Rest text from = spoken (lines (drop from text))
 
-pub scan_bad : (text marks : List ℕ) (any : Bool) (at from to : ℕ) (s : Spoken) (b : Bool) (F : Option ℕ) → Begins text from to s → b ≡ misplaced_by marks any s → b ≡ true → bad_by marks any at (Rest text from) ≡ F → BadAt at ≡ laid F
+pub scan_bad : (text : List ℕ) (marks : List Bool) (any : Bool) (at from to : ℕ) (s : Spoken) (b : Bool) (F : Option ℕ) → Begins text from to s → b ≡ misplaced_by marks any s → b ≡ true → bad_by marks any at (Rest text from) ≡ F → option.Some at ≡ laid F
 scan_bad text marks any at from to s b F B e f g = ap laid (sym (ap (bad_by marks any at) B.says ∙ by_bad marks any at s (Rest text to) (sym e ∙ f)) ∙ g)
 
-pub scan_on : (text marks after : List ℕ) (any : Bool) (at from to : ℕ) (s : Spoken) (b : Bool) (F : Option ℕ) → Begins text from to s → b ≡ misplaced_by marks any s → b ≡ false → after ≡ marks_with marks s → bad_by marks any at (Rest text from) ≡ F → bad_by after true (at + 1) (Rest text to) ≡ F
+pub scan_on : (text : List ℕ) (marks after : List Bool) (any : Bool) (at from to : ℕ) (s : Spoken) (b : Bool) (F : Option ℕ) → Begins text from to s → b ≡ misplaced_by marks any s → b ≡ false → after ≡ marks_with marks s → bad_by marks any at (Rest text from) ≡ F → bad_by after true (at + 1) (Rest text to) ≡ F
 scan_on text marks after any at from to s b F B e f m g = ap (λ x. bad_by x true (at + 1) (Rest text to)) m ∙ (sym (ap (bad_by marks any at) B.says ∙ (by_well marks any at s (Rest text to) (sym e ∙ f) ∙ ap (λ i. bad_by (marks_with marks s) true i (Rest text to)) (sym (add-one at)))) ∙ g)
 
 rest_none : (text : List ℕ) (from : ℕ) → length text ≤ from → Rest text from ≡ []
 unfolding spoken lines
 rest_none text from h = ap (λ x. spoken (lines x)) (drop_all text from h)
 
-pub scan_end : (text marks : List ℕ) (any : Bool) (at from : ℕ) (F : Option ℕ) → length text ≤ from → bad_by marks any at (Rest text from) ≡ F → Well ≡ laid F
+pub scan_end : (text : List ℕ) (marks : List Bool) (any : Bool) (at from : ℕ) (F : Option ℕ) → length text ≤ from → bad_by marks any at (Rest text from) ≡ F → option.None ≡ laid F
 scan_end text marks any at from F h g = ap laid (sym (ap (bad_by marks any at) (rest_none text from h) ∙ none_left) ∙ g)
   where
     none_left : bad_by marks any at [] ≡ none
@@ -164,28 +161,11 @@ pub row_fits : (text : List ℕ) (n n' from to at : ℕ) (inside : Bool) (s : Sp
 row_fits text n n' from to at inside s B k h = let r = row_short inside at s in let o = B.onward in omega arith
 
 -- ---- marks
-get_past : (l : List ℕ) (i : ℕ) → length l ≤ i → get_or l i 0 ≡ 0
-get_past [] i h = refl
-get_past (x ∷ l) zero h = absurd (omega arith)
-get_past (x ∷ l) (suc i) h = get_past l i (omega arith)
-
-pub no_mark : (marks : List ℕ) (t : ℕ) → length marks ≤ t → false ≡ eqb (get_or marks t 0) 1
-no_mark marks t h = ap (λ z. eqb z 1) (sym (get_past marks t h))
-
-pub no_store : (m : List ℕ) (t v : ℕ) → length m ≤ t → m ≡ set m t v
+pub no_store : {A : Type 0} (m : List A) (t : ℕ) (v : A) → length m ≤ t → m ≡ set m t v
 no_store m t v h = sym (set_out m t v h)
 
-pub marked_as : (marks : List ℕ) (any r : Bool) (s : Spoken) (t : ℕ) → s ≡ Set t → r ≡ eqb (get_or marks t 0) 1 → r ≡ misplaced_by marks any s
-marked_as marks any r s t e f = f ∙ ap (misplaced_by marks any) (sym e)
-
-pub marks_as : (m after : List ℕ) (s : Spoken) (t : ℕ) → s ≡ Set t → after ≡ set m t 1 → after ≡ marks_with m s
-marks_as m after s t e f = f ∙ ap (marks_with m) (sym e)
-
-pub marks_keep : (m : List ℕ) (s r : Spoken) → m ≡ marks_with m r → s ≡ r → m ≡ marks_with m s
-marks_keep m s r f e = f ∙ ap (marks_with m) (sym e)
-
-with_long : (m : List ℕ) (s : Spoken) → length (marks_with m s) ≡ length m
-with_long m (Set t) = length-set m t 1
+with_long : (m : List Bool) (s : Spoken) → length (marks_with m s) ≡ length m
+with_long m (Set t) = length-set m t true
 with_long m (Rule p q) = refl
 with_long m None = refl
 with_long m Bad = refl
@@ -193,47 +173,13 @@ with_long m Bad = refl
 pub line_fits : (text : List ℕ) (from e : ℕ) → line_end from (drop from text) ≡ option.Some e → e < length text
 line_fits text from e g = (line_inside text from e g).1
 
-pub first_so : (text marks : List ℕ) (r : Laid) → marks ≡ replicate terms 0 → r ≡ laid (bad_by marks false 1 (spoken (lines text))) → r ≡ laid (first_bad text)
+pub first_so : (text : List ℕ) (marks : List Bool) (r : Maybe ℕ) → marks ≡ replicate terms false → r ≡ laid (bad_by marks false 1 (spoken (lines text))) → r ≡ laid (first_bad text)
 first_so text marks r e f = f ∙ ap laid (bad_is text marks e)
 
-pub still_long : (text m after : List ℕ) (n from to : ℕ) (s : Spoken) → Begins text from to s → after ≡ marks_with m s → length m ≡ n → length after ≡ n
+pub still_long : (text : List ℕ) (m after : List Bool) (n from to : ℕ) (s : Spoken) → Begins text from to s → after ≡ marks_with m s → length m ≡ n → length after ≡ n
 still_long text m after n from to s B e f = ap length e ∙ (with_long m s ∙ f)
 
 -- ---- one line of a set
-row_set : (b : Bool) (at t : ℕ) → row_of b at (Set t) ≡ []
-row_set true at t = refl
-row_set false at t = refl
-
-row_none : (b : Bool) (at : ℕ) → row_of b at None ≡ []
-row_none true at = refl
-row_none false at = refl
-
-row_bad : (b : Bool) (at : ℕ) → row_of b at Bad ≡ []
-row_bad true at = refl
-row_bad false at = refl
-
-pub row_out : (b : Bool) (at p q : ℕ) → b ≡ false → row_of b at (Rule p q) ≡ []
-row_out b at p q e = ap (λ x. row_of x at (Rule p q)) e
-
-pub kept_same : (P Q L : List ℕ) (n at : ℕ) (b : Bool) (s r : Spoken) → s ≡ r → row_of b at r ≡ [] → KeptRow P Q L P Q L n n (row_of b at s)
-kept_same P Q L n at b s r e f = subst (λ (xs : List Row). KeptRow P Q L P Q L n n xs) (sym (ap (row_of b at) e ∙ f)) (omega arith, (refl, (refl, refl)))
-
-pub kept_one : (P Q L P' Q' L' : List ℕ) (n at p q : ℕ) (b : Bool) (s : Spoken) → s ≡ Rule p q → b ≡ true → P' ≡ set P n p → Q' ≡ set Q n q → L' ≡ set L n at → KeptRow P Q L P' Q' L' n (n + 1) (row_of b at s)
-kept_one P Q L P' Q' L' n at p q b s e i f g h =
-    subst (λ (xs : List Row). KeptRow P Q L P' Q' L' n (n + 1) xs) (sym (ap (row_of b at) e ∙ ap (λ x. row_of x at (Rule p q)) i)) (omega arith, (f, (g, h)))
-
-pub kept_set : (P Q L : List ℕ) (n at : ℕ) (b : Bool) (s : Spoken) (t : ℕ) → s ≡ Set t → KeptRow P Q L P Q L n n (row_of b at s)
-kept_set P Q L n at b s t e = kept_same P Q L n at b s (Set t) e (row_set b at t)
-
-pub kept_none : (P Q L : List ℕ) (n at : ℕ) (b : Bool) (s : Spoken) → s ≡ None → KeptRow P Q L P Q L n n (row_of b at s)
-kept_none P Q L n at b s e = kept_same P Q L n at b s None e (row_none b at)
-
-pub kept_bad : (P Q L : List ℕ) (n at : ℕ) (b : Bool) (s : Spoken) → s ≡ Bad → KeptRow P Q L P Q L n n (row_of b at s)
-kept_bad P Q L n at b s e = kept_same P Q L n at b s Bad e (row_bad b at)
-
-pub inside_as : (w t : ℕ) (b : Bool) (s : Spoken) → s ≡ Set t → eqb t w ≡ inside_after w b s
-inside_as w t b s e = ap (inside_after w b) (sym e)
-
 -- ---- all of them
 rows_none : (wanted at : ℕ) (b : Bool) (text : List ℕ) (from : ℕ) → length text ≤ from → rows_from wanted b at (Rest text from) ≡ []
 rows_none wanted at b text from h = ap (rows_from wanted b at) (rest_none text from h) ∙ empty

@@ -1,9 +1,9 @@
 -- One walk over the lines finds what the proposal has: the first bad line (`bad_is`), and the rule lines of each set (`rows_are`).
 use mathlib.Core.Path.{◌≡◌, refl, sym, ap, ◌∙◌}
-use mathlib.Core.Bool.{Bool, true, false, ◌||◌, not}
+use mathlib.Core.Bool.{Bool, true, false}
 use mathlib.Core.Option.{Option, none, some}
-use mathlib.Core.List.{List, [], ◌∷◌, ◌++◌, map}
-use Prim.Native.Nat.{ℕ, zero, suc, ◌+◌, ◌≤◌, ◌<◌}
+use mathlib.Core.List.{List, [], ◌∷◌, ◌++◌}
+use Prim.Native.Nat.{ℕ, zero, suc, ◌<◌}
 use native.Mathlib.Omega.{arith}
 use lib.ListN.{length, get_or, set, replicate, length-set, length-replicate}
 use lib.Seq.{get_or-set_same, get_or-set_other}
@@ -16,7 +16,7 @@ use Rattle.plan_text.specs.declared.Spoken.{Spoken}
 use Rattle.plan_text.specs.declared.Spoken.TheVariants.{Set, Rule, None, Bad}
 use Rattle.plan_text.specs.Lines.{terms, line_of}
 use Rattle.plan_text.specs.Proposal.{spoken, misplaced, with_set, bad_from, first_bad, Row, rows_here, sets_from, rows_in, bad_at, sets, told, proposal}
-use Rattle.plan_text.specs.Walk.{misplaced_by, marks_with, bad_by, row_of, inside_after, rows_from, rows_of}
+use Rattle.plan_text.specs.Walk.{misplaced_by, marks_with, bad_by, rows_from, rows_of}
 use Rattle.plan_text.proofs.Laws.{says_exactly}
 
 -- ---- terms fit
@@ -40,8 +40,8 @@ spoken_fit (line l rest) = go (line_of (l ++ (10 ∷ []))) refl (spoken_fit rest
     go Bad e f = f
 
 -- ---- marks
-Marked : List ℕ → List ℕ → Type 0
-Marked marks named = (t : ℕ) → t < terms → eqb (get_or marks t 0) 1 ≡ has named t
+Marked : List Bool → List ℕ → Type 0
+Marked marks named = (t : ℕ) → t < terms → get_or marks t false ≡ has named t
 
 has_first : (t : ℕ) (named : List ℕ) → has (t ∷ named) t ≡ true
 unfolding has any
@@ -58,24 +58,23 @@ has_more t u named h = go (eqb u t) refl
     go true e = ap (λ z. has (t ∷ named) z) (eqb-true u t e) ∙ has_first t named
     go false e = has_other t u named (eqb-false u t e) ∙ h
 
-marked_set : (marks named : List ℕ) (t : ℕ) → length marks ≡ terms → t < terms → Marked marks named → Marked (set marks t 1) (t ∷ named)
+marked_set : (marks : List Bool) (named : List ℕ) (t : ℕ) → length marks ≡ terms → t < terms → Marked marks named → Marked (set marks t true) (t ∷ named)
 unfolding Marked
 marked_set marks named t L h M u k = go (eqb u t) refl
   where
-    go : (b : Bool) → eqb u t ≡ b → eqb (get_or (set marks t 1) u 0) 1 ≡ has (t ∷ named) u
+    go : (b : Bool) → eqb u t ≡ b → get_or (set marks t true) u false ≡ has (t ∷ named) u
     go true e =
         let w : u ≡ t = eqb-true u t e in
-        let a : get_or (set marks t 1) u 0 ≡ 1 = ap (λ z. get_or (set marks t 1) z 0) w ∙ get_or-set_same marks t 1 0 (omega arith) in
-        eq-eqb (get_or (set marks t 1) u 0) 1 a ∙ sym (ap (λ z. has (t ∷ named) z) w ∙ has_first t named)
+        ap (λ z. get_or (set marks t true) z false) w ∙ (get_or-set_same marks t true false (omega arith) ∙ sym (ap (λ z. has (t ∷ named) z) w ∙ has_first t named))
     go false e =
         let w = eqb-false u t e in
-        ap (λ z. eqb z 1) (get_or-set_other marks t u 1 0 w) ∙ (M u k ∙ sym (has_other t u named w))
+        get_or-set_other marks t u true false w ∙ (M u k ∙ sym (has_other t u named w))
 
 abbrev some_named : List ℕ → Bool
 some_named [] = false
 some_named (t ∷ named) = true
 
-same_place : (s : Spoken) (ss : List Spoken) (named marks : List ℕ) → Marked marks named → Fit (s ∷ ss) → misplaced_by marks (some_named named) s ≡ misplaced named s
+same_place : (s : Spoken) (ss : List Spoken) (named : List ℕ) (marks : List Bool) → Marked marks named → Fit (s ∷ ss) → misplaced_by marks (some_named named) s ≡ misplaced named s
 unfolding Marked
 same_place (Set t) ss named marks M F = M t F.0
 same_place (Rule p q) ss [] marks M F = refl
@@ -92,14 +91,14 @@ then_some None [] e = no_way e
 then_some None (t ∷ named) e = refl
 then_some Bad named e = no_way e
 
-then_marked : (s : Spoken) (ss : List Spoken) (named marks : List ℕ) → length marks ≡ terms → Marked marks named → Fit (s ∷ ss) → Marked (marks_with marks s) (with_set named s)
+then_marked : (s : Spoken) (ss : List Spoken) (named : List ℕ) (marks : List Bool) → length marks ≡ terms → Marked marks named → Fit (s ∷ ss) → Marked (marks_with marks s) (with_set named s)
 then_marked (Set t) ss named marks L M F = marked_set marks named t L F.0 M
 then_marked (Rule p q) ss named marks L M F = M
 then_marked None ss named marks L M F = M
 then_marked Bad ss named marks L M F = M
 
-then_long : (s : Spoken) (marks : List ℕ) → length marks ≡ terms → length (marks_with marks s) ≡ terms
-then_long (Set t) marks L = length-set marks t 1 ∙ L
+then_long : (s : Spoken) (marks : List Bool) → length marks ≡ terms → length (marks_with marks s) ≡ terms
+then_long (Set t) marks L = length-set marks t true ∙ L
 then_long (Rule p q) marks L = L
 then_long None marks L = L
 then_long Bad marks L = L
@@ -111,11 +110,11 @@ then_fit None ss F = F
 then_fit Bad ss F = F
 
 -- ---- one line
-pub by_bad : (marks : List ℕ) (any : Bool) (at : ℕ) (s : Spoken) (ss : List Spoken) → misplaced_by marks any s ≡ true → bad_by marks any at (s ∷ ss) ≡ some at
+pub by_bad : (marks : List Bool) (any : Bool) (at : ℕ) (s : Spoken) (ss : List Spoken) → misplaced_by marks any s ≡ true → bad_by marks any at (s ∷ ss) ≡ some at
 unfolding bad_by
 by_bad marks any at s ss e = ap (λ (t : Bool). elim t as (λ _. Option ℕ) [ true ↦ some at | false ↦ bad_by (marks_with marks s) true (suc at) ss ]) e
 
-pub by_well : (marks : List ℕ) (any : Bool) (at : ℕ) (s : Spoken) (ss : List Spoken) → misplaced_by marks any s ≡ false → bad_by marks any at (s ∷ ss) ≡ bad_by (marks_with marks s) true (suc at) ss
+pub by_well : (marks : List Bool) (any : Bool) (at : ℕ) (s : Spoken) (ss : List Spoken) → misplaced_by marks any s ≡ false → bad_by marks any at (s ∷ ss) ≡ bad_by (marks_with marks s) true (suc at) ss
 unfolding bad_by
 by_well marks any at s ss e = ap (λ (t : Bool). elim t as (λ _. Option ℕ) [ true ↦ some at | false ↦ bad_by (marks_with marks s) true (suc at) ss ]) e
 
@@ -127,7 +126,7 @@ from_well : (named : List ℕ) (at : ℕ) (s : Spoken) (ss : List Spoken) → mi
 unfolding bad_from
 from_well named at s ss e = ap (λ (t : Bool). elim t as (λ _. Option ℕ) [ true ↦ some at | false ↦ bad_from (with_set named s) (suc at) ss ]) e
 
-bad_same : (ss : List Spoken) (at : ℕ) (named marks : List ℕ) → length marks ≡ terms → Marked marks named → Fit ss → bad_by marks (some_named named) at ss ≡ bad_from named at ss
+bad_same : (ss : List Spoken) (at : ℕ) (named : List ℕ) (marks : List Bool) → length marks ≡ terms → Marked marks named → Fit ss → bad_by marks (some_named named) at ss ≡ bad_from named at ss
 unfolding bad_by bad_from
 bad_same [] at named marks L M F = refl
 bad_same (s ∷ ss) at named marks L M F = go (misplaced named s) refl (bad_same ss (suc at) (with_set named s) (marks_with marks s) (then_long s marks L) (then_marked s ss named marks L M F) (then_fit s ss F))
@@ -137,18 +136,18 @@ bad_same (s ∷ ss) at named marks L M F = go (misplaced named s) refl (bad_same
     go true e I = by_bad marks (some_named named) at s ss (same_place s ss named marks M F ∙ e) ∙ sym (from_bad named at s ss e)
     go false e I = by_well marks (some_named named) at s ss (same_place s ss named marks M F ∙ e) ∙ (ap (λ b. bad_by (marks_with marks s) b (suc at) ss) (then_some s named e) ∙ (I ∙ sym (from_well named at s ss e)))
 
-get_none : (n t : ℕ) → get_or (replicate {A = ℕ} n 0) t 0 ≡ 0
+get_none : (n t : ℕ) → get_or (replicate {A = Bool} n false) t false ≡ false
 get_none zero t = refl
 get_none (suc n) zero = refl
 get_none (suc n) (suc t) = get_none n t
 
-none_marked : (marks : List ℕ) → marks ≡ replicate terms 0 → Marked marks []
+none_marked : (marks : List Bool) → marks ≡ replicate terms false → Marked marks []
 unfolding Marked has any
-none_marked marks e t h = ap (λ m. eqb (get_or m t 0) 1) e ∙ ap (λ z. eqb z 1) (get_none terms t)
+none_marked marks e t h = ap (λ m. get_or m t false) e ∙ get_none terms t
 
-pub bad_is : (text marks : List ℕ) → marks ≡ replicate terms 0 → bad_by marks false 1 (spoken (lines text)) ≡ first_bad text
+pub bad_is : (text : List ℕ) (marks : List Bool) → marks ≡ replicate terms false → bad_by marks false 1 (spoken (lines text)) ≡ first_bad text
 unfolding first_bad
-bad_is text marks e = bad_same (spoken (lines text)) 1 [] marks (ap length e ∙ length-replicate {A = ℕ} terms 0) (none_marked marks e) (spoken_fit (lines text))
+bad_is text marks e = bad_same (spoken (lines text)) 1 [] marks (ap length e ∙ length-replicate {A = Bool} terms false) (none_marked marks e) (spoken_fit (lines text))
 
 -- ---- the rule lines of a set
 not_bad : (named : List ℕ) (at : ℕ) (s : Spoken) (ss : List Spoken) → bad_from named at (s ∷ ss) ≡ none → (misplaced named s ≡ false) × (bad_from (with_set named s) (suc at) ss ≡ none)

@@ -1,6 +1,6 @@
 -- Change request [11], a line of a proposal: "set TERM", "rule PLACE PRIORITY", "none PLACE PLACE mask|same". "Words are split by one space, hexadecimal is
 -- upper case, every line ends with LF. TERM 4 digits, PLACE 8, PRIORITY 16." A line has its LF here.
-use Rattle.std.specs.Prelude.{◌≡◌, Bool, true, false, List, [], ◌∷◌, ◌++◌, ℕ, ◌+◌, ◌*◌, ◌%◌, ◌<◌, get_or}
+use Rattle.std.specs.Prelude.{◌≡◌, Bool, List, [], ◌∷◌, ◌++◌, ℕ, ◌+◌, ◌*◌, ◌%◌, ◌<◌, get_or}
 use Rattle.std.specs.Prelude.{if◌then◌else◌}
 use Rattle.paper.specs.Words.{same_list}
 use Rattle.paper.specs.Layout.{digit}

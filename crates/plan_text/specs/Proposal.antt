@@ -1,5 +1,5 @@
 -- Change request [11], a proposal: "a text of the lines above"; "`none` lines are passed over".
-use Rattle.std.specs.Prelude.{Bool, true, false, not, List, [], ◌∷◌, ◌++◌, ℕ, zero, suc, length, eqb}
+use Rattle.std.specs.Prelude.{Bool, true, false, List, [], ◌∷◌, ◌++◌, ℕ, suc}
 use Rattle.std.proofs.Math.Option.{Option, none, some}
 use Rattle.paper.specs.Words.{has, look, or_else}
 use Rattle.paper.specs.Layout.{Lines, nothing, unended, line, lines}

@@ -1,33 +1,34 @@
 -- The same, as one walk over the lines does it: what the contracts cite. Walks.antt has that it is the same (`bad_is`, `rows_are`).
-use Rattle.std.specs.Prelude.{◌≡◌, Bool, true, false, not, List, [], ◌∷◌, ◌++◌, map, ℕ, zero, suc, ◌≤◌, ◌<◌, length, get_or, set, drop, eqb}
+use Rattle.std.specs.Prelude.{◌≡◌, Bool, true, false, not, List, [], ◌∷◌, ◌++◌, ℕ, suc, ◌≤◌, ◌<◌, length, get_or, set, drop, eqb}
 use Rattle.std.proofs.Math.Option.{Option, none, some}
 use Rattle.paper.specs.Layout.{lines}
 use Rattle.plan_text.specs.declared.Spoken.{Spoken}
 use Rattle.plan_text.specs.declared.Spoken.TheVariants.{Set, Rule, None, Bad}
-use Rattle.plan_text.specs.declared.Laid.{Laid}
-use Rattle.plan_text.specs.declared.Laid.TheVariants.{Well, BadAt}
+use Rattle.std.specs.declared.option.Option.TheVariants as option
+use Rattle.paper.specs.Answered.{Maybe}
 use Rattle.plan_text.specs.Proposal.{spoken, Row}
 
 -- ---- the first bad line: a mark for each term that was named, and whether one was
-abbrev pub misplaced_by : List ℕ → Bool → Spoken → Bool
-misplaced_by marks any (Set term) = eqb (get_or marks term 0) 1
+abbrev pub misplaced_by : List Bool → Bool → Spoken → Bool
+misplaced_by marks any (Set term) = get_or marks term false
 misplaced_by marks any (Rule place priority) = not any
 misplaced_by marks any None = not any
 misplaced_by marks any Bad = true
 
-abbrev pub marks_with : List ℕ → Spoken → List ℕ
-marks_with marks (Set term) = set marks term 1
+abbrev pub marks_with : List Bool → Spoken → List Bool
+marks_with marks (Set term) = set marks term true
 marks_with marks (Rule place priority) = marks
 marks_with marks None = marks
 marks_with marks Bad = marks
 
-unfoldable pub bad_by : List ℕ → Bool → ℕ → List Spoken → Option ℕ
+unfoldable pub bad_by : List Bool → Bool → ℕ → List Spoken → Option ℕ
 bad_by marks any at [] = none
 bad_by marks any at (s ∷ ss) = elim (misplaced_by marks any s) [ true ↦ some at | false ↦ bad_by (marks_with marks s) true (suc at) ss ]
 
-abbrev pub laid : Option ℕ → Laid
-laid none = Well
-laid (some at) = BadAt at
+-- as the code answers it
+abbrev pub laid : Option ℕ → Maybe ℕ
+laid none = option.None
+laid (some at) = option.Some at
 
 -- ---- the rule lines of one set
 abbrev pub row_of : Bool → ℕ → Spoken → List Row

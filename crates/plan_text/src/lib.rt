@@ -1,7 +1,7 @@
 // A proposal's text (change request [11]), read back. A line is taken for its numbers, written anew, and compared: what differs is not as laid out.
 #![tactic(auto)]
 
-ghost use Rattle.std.specs.Prelude.{◌≡◌, Bool, true, false, List, [], ◌∷◌, ◌++◌, map, ℕ, ◌+◌, ◌<◌, ◌≤◌, length, get_or, set, eqb};
+ghost use Rattle.std.specs.Prelude.{◌≡◌, false, [], ◌∷◌, ◌++◌, map, ◌+◌, ◌<◌, ◌≤◌, length, get_or, set};
 ghost use Rattle.std.proofs.lemmas.List.Edits.{sets};
 ghost use Rattle.paper.specs.Words.{same_list};
 ghost use Rattle.paper.specs.Text.{unended};
@@ -42,28 +42,17 @@ const TERMS: usize = 65536;
 fn value(b: u8) -> u16
     ensures { (result ≡ digit_at (b ∷ []) 0) × (result < 16) }
 {
-    if b < 48 {
-        return 0;
+    match b {
+        b'0'..=b'9' => u16::from(b - 48),
+        b'A'..=b'F' => u16::from(b - 55),
+        _ => 0,
     }
-    if b < 58 {
-        return (b - 48) as u16;
-    }
-    if b < 65 {
-        return 0;
-    }
-    if b < 71 {
-        return (b - 55) as u16;
-    }
-    0
 }
 
 fn digit(text: &[u8], i: usize) -> u16
     ensures { (result ≡ digit_at text.now i) × (result < 16) }
 {
-    if i < text.len() {
-        return value(text[i]);
-    }
-    0
+    value(text.get(i).copied().unwrap_or(0))
 }
 
 fn term(text: &[u8], i: usize) -> u16
@@ -83,7 +72,7 @@ fn place(text: &[u8], i: usize) -> u32
 {
     let high = term(text, i);
     let low = term(text, i + 4);
-    high as u32 * 65536 + low as u32
+    u32::from(high) * 65536 + u32::from(low)
 }
 
 fn priority(text: &[u8], i: usize) -> u64
@@ -92,26 +81,10 @@ fn priority(text: &[u8], i: usize) -> u64
 {
     let high = place(text, i);
     let low = place(text, i + 8);
-    high as u64 * 4294967296 + low as u64
+    u64::from(high) * 4294967296 + u64::from(low)
 }
 
 // ---- the line anew
-
-fn same(a: &[u8], b: &[u8]) -> bool
-    ensures { result ≡ same_list a.now b.now }
-{
-    if a.len() != b.len() {
-        return false;
-    }
-    let mut i: usize = 0;
-    while i < a.len() {
-        if a[i] != b[i] {
-            return false;
-        }
-        i += 1;
-    }
-    true
-}
 
 fn is_set(text: &[u8], term: u16) -> bool
     ensures { result ≡ same_list text.now (set_line term) }
@@ -120,7 +93,7 @@ fn is_set(text: &[u8], term: u16) -> bool
     let a = put_text(&mut room, 0, b"set ");
     let b = put_two(&mut room, a, term);
     let e = put_text(&mut room, b, b"\n");
-    same(text, &room[..e])
+    text == &room[..e]
 }
 
 fn is_rule(text: &[u8], place: u32, priority: u64) -> bool
@@ -132,7 +105,7 @@ fn is_rule(text: &[u8], place: u32, priority: u64) -> bool
     let c = put_text(&mut room, b, b" ");
     let d = put_eight(&mut room, c, priority);
     let e = put_text(&mut room, d, b"\n");
-    same(text, &room[..e])
+    text == &room[..e]
 }
 
 // Two places, and why no proposal mends their rules: " mask" or " same", with the LF.
@@ -146,7 +119,7 @@ fn is_none(text: &[u8], one: u32, other: u32, why: &[u8]) -> bool
     let c = put_text(&mut room, b, b" ");
     let d = put_four(&mut room, c, other);
     let e = put_text(&mut room, d, why);
-    same(text, &room[..e])
+    text == &room[..e]
 }
 
 // What a line says, its LF with it.
@@ -177,13 +150,6 @@ pub fn line_of(text: &[u8]) -> Spoken
 
 // ---- a proposal's text
 
-// Whether a text is as laid out, or its first line that is not, counted from 1.
-#[derive(Clone, Copy)]
-pub enum Laid {
-    Well,
-    BadAt { line: u64 },
-}
-
 // A line, and where the next one begins.
 #[derive(Clone, Copy)]
 struct Line {
@@ -196,11 +162,10 @@ fn line_from(text: &[u8], from: usize) -> Line
     requires { from < length text.now }
     ensures { Begins text.now from result.to result.said }
 {
-    let end = line_end(text, from);
-    match end {
-        Some(e) => Line {
-            to: e + 1,
-            said: line_of(part(text, from, e + 1)),
+    match line_end(text, from) {
+        Some(end) => Line {
+            to: end + 1,
+            said: line_of(part(text, from, end + 1)),
         },
         None => Line {
             to: text.len(),
@@ -209,86 +174,68 @@ fn line_from(text: &[u8], from: usize) -> Line
     }
 }
 
-fn is_marked(marks: &[u8], term: u16) -> bool
-    ensures { result ≡ eqb (get_or marks.now term 0) 1 }
+fn is_marked(marks: &[bool], term: u16) -> bool
+    ensures { result ≡ get_or marks.now term false }
 {
-    let i = term as usize;
-    if i < marks.len() {
-        return marks[i] == 1;
-    }
-    false
+    marks.get(usize::from(term)).copied().unwrap_or(false)
 }
 
-fn set_mark(marks: &mut [u8], term: u16)
-    ensures { marks.new ≡ set marks.old term 1 }
+// Stores v at k; past the end there is nothing to store it in.
+fn store<T: Copy>(xs: &mut [T], k: usize, v: T)
+    ensures { xs.new ≡ set xs.old k v }
 {
-    let i = term as usize;
-    if i < marks.len() {
-        marks[i] = 1;
+    if k < xs.len() {
+        xs[k] = v;
     }
 }
 
-fn mark(marks: &mut [u8], said: Spoken)
+fn mark(marks: &mut [bool], said: Spoken)
     ensures { marks.new ≡ marks_with marks.old said }
 {
-    match said {
-        Spoken::Set { term } => set_mark(marks, term),
-        Spoken::Rule { place, priority } => {}
-        Spoken::None => {}
-        Spoken::Bad => {}
+    if let Spoken::Set { term } = said {
+        store(marks, usize::from(term), true);
     }
 }
 
 // "not as laid out (also: no LF; a rule or none line before any set; a set named twice)"
-fn is_misplaced(marks: &[u8], any: bool, said: Spoken) -> bool
+fn is_misplaced(marks: &[bool], any: bool, said: Spoken) -> bool
     ensures { result ≡ misplaced_by marks.now any said }
 {
     match said {
         Spoken::Set { term } => is_marked(marks, term),
-        Spoken::Rule { place, priority } => !any,
-        Spoken::None => !any,
+        Spoken::Rule { .. } | Spoken::None => !any,
         Spoken::Bad => true,
     }
 }
 
-// Behind the first line that is well a set was named.
-fn scan(text: &[u8], marks: &mut [u8]) -> Laid
+// The first line that is not as laid out, counted from 1. Behind the first line that is well a set was named. The walk goes on where a line ended.
+fn scan(text: &[u8], marks: &mut [bool]) -> Option<u64>
     ensures { result ≡ laid (bad_by marks.old false 1 (spoken (lines text.now))) }
 {
     let mut from: usize = 0;
     let mut line: u64 = 1;
     let mut any = false;
     while from < text.len() {
-        let n = line_from(text, from);
-        let said = n.said;
+        let Line { to, said } = line_from(text, from);
         if is_misplaced(marks, any, said) {
-            return Laid::BadAt { line: line };
+            return Some(line);
         }
         mark(marks, said);
         any = true;
-        from = n.to;
+        from = to;
         line += 1;
     }
-    Laid::Well
+    None
 }
 
 // "bad LINE: alone, before all else"
-pub fn first_bad(text: &[u8]) -> Laid
+pub fn first_bad(text: &[u8]) -> Option<u64>
     ensures { result ≡ laid (first_bad text.now) }
 {
-    let mut marks = [0u8; TERMS];
-    scan(text, &mut marks)
+    scan(text, &mut [false; TERMS])
 }
 
 // ---- the rule lines of one set
-
-fn store(out: &mut [u64], at: usize, v: u64)
-    ensures { out.new ≡ set out.old at v }
-{
-    if at < out.len() {
-        out[at] = v;
-    }
-}
 
 // A line of the wanted set: if it is a rule's, its place, priority and number go to n of what is lent. Answers where the next goes.
 fn keep_row(
@@ -308,18 +255,13 @@ fn keep_row(
         (numbers.new ≡ sets numbers.old n (map (λ (x : Row). x.line) rows)))) }
 {
     match said {
-        Spoken::Set { term } => n,
-        Spoken::Rule { place, priority } => {
-            if inside {
-                store(places, n, place as u64);
-                store(priorities, n, priority);
-                store(numbers, n, line);
-                return n + 1;
-            }
-            n
+        Spoken::Rule { place, priority } if inside => {
+            store(places, n, u64::from(place));
+            store(priorities, n, priority);
+            store(numbers, n, line);
+            n + 1
         }
-        Spoken::None => n,
-        Spoken::Bad => n,
+        _ => n,
     }
 }
 
@@ -329,9 +271,7 @@ fn is_inside(wanted: u16, inside: bool, said: Spoken) -> bool
 {
     match said {
         Spoken::Set { term } => term == wanted,
-        Spoken::Rule { place, priority } => inside,
-        Spoken::None => inside,
-        Spoken::Bad => inside,
+        Spoken::Rule { .. } | Spoken::None | Spoken::Bad => inside,
     }
 }
 
@@ -354,13 +294,10 @@ pub fn read_rows(
     let mut inside = false;
     let mut n: usize = 0;
     while from < text.len() {
-        let l = line_from(text, from);
-        let said = l.said;
-        let more = keep_row(places, priorities, numbers, n, line, inside, said);
-        n = more;
-        let still = is_inside(wanted, inside, said);
-        inside = still;
-        from = l.to;
+        let Line { to, said } = line_from(text, from);
+        n = keep_row(places, priorities, numbers, n, line, inside, said);
+        inside = is_inside(wanted, inside, said);
+        from = to;
         line += 1;
     }
     n

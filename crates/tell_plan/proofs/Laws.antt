@@ -288,9 +288,6 @@ module _ (ws : List ℕ) (n flags : ℕ) (m : List ℕ) (long : length m ≡ max
 pub break_put : (p q : Room) (b c : Break) → b ≡ c → q ≡ wrote p (break_text c) → q ≡ wrote p (break_text b)
 break_put p q b c e f = f ∙ ap (λ z. wrote p (break_text z)) (sym e)
 
-pub judged_put : (p q : Room) (ws : List ℕ) (v u : Judged) → v ≡ u → q ≡ wrote p (judged_words ws u) → q ≡ wrote p (judged_words ws v)
-judged_put p q ws v u e f = f ∙ ap (λ z. wrote p (judged_words ws z)) (sym e)
-
 judged_same : (ws ps : List ℕ) (n flags : ℕ) (v : Judged) → check (set_in ws n flags) ps ≡ v → judged_words ws v ≡ judged_rest (set_in ws n flags) v
 judged_same ws ps n flags (Ok _) e = refl
 judged_same ws ps n flags (Err (Bad b i j)) e =

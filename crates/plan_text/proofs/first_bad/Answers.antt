@@ -1,6 +1,5 @@
 use Rattle.plan_text.proofs.Turns.{first_so}
 use mathlib.Core.Path.{refl}
-use borrow.Author.Rules.{rules}
 use Rattle.plan_text.proofs.first_bad.Goals as goal
 
 pub returns : goal.returns

@@ -1,5 +1,4 @@
 use Rattle.plan_text.proofs.Anew.{is_rule, is_set, is_mask, is_same, is_bad}
-use borrow.Author.Rules.{rules}
 use Rattle.plan_text.proofs.line_of.Goals as goal
 
 pub returns-then-is_rule : goal.returns-then-is_rule

@@ -1,9 +1,7 @@
-use Rattle.plan_text.proofs.Turns.{Rest, Reading, reading_start, reading_turn, reading_end, row_fits, places_long, priorities_long, numbers_long}
-use mathlib.Core.Path.{◌≡◌, refl}
-use native.Mathlib.Omega.{arith}
+use Rattle.plan_text.proofs.Turns.{Rest, Reading}
+use mathlib.Core.Path.{◌≡◌}
 use Prim.Native.Nat.{◌+◌, ◌-◌, ◌≤◌}
 use lib.ListN.{length}
-use borrow.Author.Rules.{rules}
 use Rattle.plan_text.specs.Walk.{rows_from, rows_of}
 use Rattle.plan_text.proofs.read_rows.Given as goal
 

@@ -1,10 +1,8 @@
-use Rattle.plan_text.proofs.Turns.{Rest, scan_bad, scan_on, scan_end, still_long}
-use mathlib.Core.Path.{◌≡◌, refl}
-use native.Mathlib.Omega.{arith}
+use Rattle.plan_text.proofs.Turns.{Rest}
+use mathlib.Core.Path.{◌≡◌}
 use mathlib.Core.Bool.{false}
 use Prim.Native.Nat.{◌+◌, ◌-◌, ◌≤◌}
 use lib.ListN.{length}
-use borrow.Author.Rules.{rules}
 use Rattle.plan_text.specs.Walk.{bad_by}
 use Rattle.plan_text.proofs.scan.Given as goal
 

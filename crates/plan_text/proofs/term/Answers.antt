@@ -1,5 +1,4 @@
 use Rattle.plan_text.proofs.Anew.{term_is}
-use borrow.Author.Rules.{rules}
 use Rattle.plan_text.proofs.term.Goals as goal
 
 pub returns : goal.returns
