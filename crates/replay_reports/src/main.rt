@@ -21,7 +21,7 @@ const KEPT_ROOM: usize = RULES * STRIDE;
 
 const SHAPES_ROOM: usize = 3 * CONSTRAINED;
 
-#[derive(Clone, Copy)]
+#[derive(Clone, Copy, Default)]
 struct State {
     value: u64,
     a: u64,
@@ -33,46 +33,19 @@ struct State {
     rules: u32,
 }
 
-fn begin() -> State {
-    State {
-        value: 0,
-        a: 0,
-        b: 0,
-        c: 0,
-        d: 0,
-        sites: 0,
-        equal: 0,
-        rules: 0,
+// A digit's value.
+fn digit(x: u8) -> Option<u64> {
+    match x {
+        b'0'..=b'9' => Some(u64::from(x - b'0')),
+        b'A'..=b'F' => Some(u64::from(x - b'A') + 10),
+        _ => None,
     }
-}
-
-// A digit's value, 16 where it is none.
-fn digit(x: u8) -> u64 {
-    if x < 48 {
-        return 16;
-    }
-    if x < 58 {
-        return u64::from(x - 48);
-    }
-    if x < 65 {
-        return 16;
-    }
-    if x < 71 {
-        return u64::from(x - 55);
-    }
-    16
 }
 
 fn with_digit(s: State, v: u64) -> State {
     State {
         value: ((s.value % 1152921504606846976) * 16).wrapping_add(v),
-        a: s.a,
-        b: s.b,
-        c: s.c,
-        d: s.d,
-        sites: s.sites,
-        equal: s.equal,
-        rules: s.rules,
+        ..s
     }
 }
 
@@ -84,34 +57,29 @@ fn pushed(s: State) -> State {
         b: s.c,
         c: s.d,
         d: s.value,
-        sites: s.sites,
-        equal: s.equal,
-        rules: s.rules,
+        ..s
     }
 }
 
 fn with_counts(s: State, sites: usize, equal: usize, rules: u32) -> State {
     State {
         value: 0,
-        a: s.a,
-        b: s.b,
-        c: s.c,
-        d: s.d,
-        sites: sites,
-        equal: equal,
-        rules: rules,
+        sites,
+        equal,
+        rules,
+        ..s
     }
 }
 
 fn put16(xs: &mut [u16], k: usize, v: u64) {
-    if k < xs.len() {
-        xs[k] = (v % 65536) as u16;
+    if let Some(x) = xs.get_mut(k) {
+        *x = (v % 65536) as u16;
     }
 }
 
 fn put64(xs: &mut [u64], k: usize, v: u64) {
-    if k < xs.len() {
-        xs[k] = v;
+    if let Some(x) = xs.get_mut(k) {
+        *x = v;
     }
 }
 
@@ -152,13 +120,7 @@ fn keep(
     let n = s.sites;
     let m = s.equal;
     let i = s.rules;
-    if n > sites.len() {
-        return s;
-    }
-    if m > equal.len() {
-        return s;
-    }
-    if i >= 64 {
+    if n > sites.len() || m > equal.len() || i >= 64 {
         return s;
     }
     if rule_words::write(
@@ -177,8 +139,7 @@ fn keep(
 }
 
 fn compared<W: io::Write>(output: &mut W, s: State, words: &[u64]) -> io::Result<()> {
-    let o = overlap::may_overlap(words, low32(s.c), low32(s.d));
-    match o {
+    match overlap::may_overlap(words, low32(s.c), low32(s.d)) {
         Overlap::No => output.write_all(b"No\n"),
         Overlap::Yes => output.write_all(b"Yes\n"),
         Overlap::Subset => output.write_all(b"Subset\n"),
@@ -196,15 +157,8 @@ fn reported<W: io::Write>(
     words: &[u64],
     room: &mut [u8],
 ) -> io::Result<()> {
-    let r = report::report(words, s.rules, (s.d % 256) as u8, room);
-    match r {
-        Ok(n) => {
-            let k = n as usize;
-            if room.len() < k {
-                return Ok(());
-            }
-            output.write_all(&room[..k])
-        }
+    match report::report(words, s.rules, (s.d % 256) as u8, room) {
+        Ok(n) => output.write_all(room.get(..n as usize).unwrap_or(&[])),
         Err(Unreported::TooManyRules(_)) => output.write_all(b"too many rules\n"),
         Err(Unreported::NoRoom) => output.write_all(b"no room\n"),
     }
@@ -221,8 +175,7 @@ fn step<W: io::Write>(
     low: &mut [u16],
     room: &mut [u8],
 ) -> io::Result<State> {
-    let v = digit(x);
-    if v < 16 {
+    if let Some(v) = digit(x) {
         return Ok(with_digit(s, v));
     }
     match x {
@@ -256,7 +209,7 @@ fn run<W: io::Write>(
     low: &mut [u16],
     room: &mut [u8],
 ) -> io::Result<()> {
-    let mut s = begin();
+    let mut s = State::default();
     for x in text {
         s = step(output, s, *x, words, sites, shapes, equal, low, room)?;
     }

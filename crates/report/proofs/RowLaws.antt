@@ -17,12 +17,7 @@ use borrow.Author.Tests.{eq-eqb, ne_eqb, eqb-true, lt-ltb, le-ltb}
 use Rattle.paper.specs.Numbers.{max_rules}
 use Rattle.std.specs.Prelude.{if◌then◌else◌}
 use Rattle.paper.specs.Words.{flag}
-use Rattle.paper.specs.Rules.{edge}
-use Rattle.rule_words.specs.Stored.{kept_in}
-use Rattle.report.specs.Rows.{place_in, named, earlier, lower_word, row_word, bits, bit_at, filled, either, degree_of, better_of, busiest_of, cleared, take_from}
-
-pub upto : {A : Type 0} (f : ℕ → A) (r : A) (k n : ℕ) → k ≤ n → n ≤ k → r ≡ f k → r ≡ f n
-upto f r k n h l e = let z : k ≡ n = omega arith in e ∙ ap f z
+use Rattle.report.specs.Rows.{place_in, named, bits, bit_at, filled, degree_of, better_of, busiest_of, cleared, take_from}
 
 -- ---- arrays
 pub filled_none : (f : ℕ → ℕ) → replicate max_rules 0 ≡ filled f 0
@@ -79,11 +74,9 @@ module _ (f : ℕ → Bool) (j r b : ℕ) (t : Bool) (e : r ≡ bits f j) (g : t
   unfolding bits
   bits_next = rw (add-one, e, h, g)
 
-  pub bits_fit : j < 64 → r + b < 18446744073709551616
-  bits_fit l =
-      let q : suc j ≤ 64 = omega arith in
-      let m : 2 ^ suc j ≤ 2 ^ 64 = pow_mono q in
-      omega (arith, bits_bound f j, bit_bound t j, double j)
+-- a word of j bits and one more
+pub word_more : (j r b : ℕ) (t : Bool) → r < 2 ^ j → b ≡ bit_of t j → r + b < 2 ^ (j + 1)
+word_more j r b t h e = rw add-one (omega (arith, bit_bound t j, double j))
 
 pub bits_same : (f g : ℕ → Bool) (n : ℕ) → ((j : ℕ) → j < n → f j ≡ g j) → bits f n ≡ bits g n
 unfolding bits
@@ -227,18 +220,6 @@ module _ (rows : List ℕ) (left : ℕ) where
 pub named_so : (ws os : List ℕ) (q i p : ℕ) → i ≡ get_or os q 0 → p ≡ place_in ws i → p ≡ named ws os q
 unfolding named
 named_so ws os q i p e f = f ∙ ap (place_in ws) e
-
-pub earlier_so : (ws os : List ℕ) (p q i j : ℕ) (t : Bool) → i ≡ get_or os q 0 → j ≡ get_or os p 0 → t ≡ edge (kept_in ws i) (kept_in ws j) → t ≡ earlier ws os p q
-unfolding earlier
-earlier_so ws os p q i j t e f g = g ∙ rw (e, f)
-
-pub lower_all : (ws os : List ℕ) (p q r : ℕ) → q ≤ p → p ≤ q → r ≡ bits (earlier ws os p) q → r ≡ lower_word ws os p
-unfolding lower_word
-lower_all ws os p q r h k e = upto (bits (earlier ws os p)) r q p h k e
-
-pub row_all : (low : List ℕ) (n p q r : ℕ) → q ≤ n → n ≤ q → r ≡ bits (either low p) q → r ≡ row_word low n p
-unfolding row_word
-row_all low n p q r h k e = upto (bits (either low p)) r q n h k e
 
 pub busiest_fits : (rows : List ℕ) (left best k r : ℕ) → best ≡ busiest_of rows left k → r ≡ better_of rows left best k → k < 64 → r < 64
 busiest_fits rows left best k r e f h = rw (busiest_next rows left best k r e f) (busiest_small rows left (k + 1) 64 (omega arith) (omega arith))
