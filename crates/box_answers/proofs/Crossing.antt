@@ -4,7 +4,7 @@ use mathlib.Core.Bool.{Bool, true, false, not}
 use mathlib.Core.List.{List, [], ◌∷◌}
 use Prim.Native.Nat.{ℕ, ◌+◌, ◌<◌, ◌≤◌}
 use native.Mathlib.Omega.{arith}
-use lib.ListN.{length, get_or, set}
+use lib.ListN.{length, get_or}
 use lib.Dec.{ltb}
 use borrow.Author.Tests.{le-leb, lt-leb, lt-ltb, le-ltb, eq-eqb, ne_eqb}
 use Rattle.std.specs.declared.result.Result.TheVariants.{Err, Ok}
@@ -37,10 +37,6 @@ use Rattle.box_answers.specs.Border.{short, said, said_by, left_by, has_room, bo
 pub too_short : (m : List ℕ) (s : Said) (b : Bool) → b ≡ false → (m, short) ≡ answered b m s
 unfolding answered
 too_short m s b e = rw e
-
-pub said_out : (m : List ℕ) (s : Said) (b : Bool) → b ≡ true → (set (set m 0 s.one) 1 s.two, s.number) ≡ answered b m s
-unfolding answered
-said_out m s b e = rw e
 
 pub stayed : {A : Type 0} (b : Bool) (old new : A) → b ≡ false → old ≡ after b old new
 unfolding after

@@ -1,13 +1,13 @@
 -- What crosses to C: 01's number as the result, and two words in a lent slice, the answer where the number is 0 and else "Told with it".
 use Rattle.std.specs.declared.result.Result.TheVariants.{Err, Ok}
 use Rattle.std.specs.declared.option.Option.TheVariants.{None, Some}
-use Rattle.std.specs.Prelude.{Bool, true, false, ◌&&◌, not, List, [], ◌∷◌, ◌++◌, ℕ, ◌+◌, ◌*◌, length, get_or, set, drop, ltb, leb}
+use Rattle.std.specs.Prelude.{Bool, true, false, ◌&&◌, not, List, [], ◌∷◌, ◌++◌, ℕ, ◌+◌, length, get_or, set, drop, ltb, leb}
 use Rattle.paper.specs.Answered.{Maybe}
 use Rattle.paper.specs.declared.Overlap.{Overlap}
 use Rattle.paper.specs.declared.Overlap.TheVariants.{No, Yes, Subset}
 use Rattle.paper.specs.declared.Refusal.{Refusal}
-use Rattle.paper.specs.Numbers.{max_sites, max_term, number, told, Outcome, done, refused}
-use Rattle.paper.specs.Classes.{Classes, Trail, Flattened, Removed}
+use Rattle.paper.specs.Numbers.{number, told, Outcome, done, refused}
+use Rattle.paper.specs.Classes.{Trail, Flattened, Removed}
 use Rattle.paper.specs.Sites.{Added}
 use Rattle.rule_words.specs.Stored.{base, stride}
 use Rattle.classes.specs.Called.{Looked}

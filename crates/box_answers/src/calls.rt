@@ -1,71 +1,62 @@
 // What the calls beneath answer, each kind of answer as a number with its words.
+// (Each kind has a function of its own, with a contract that the exported calls cite; `same_said` and `joined_said` differ in which call they answer.)
 ghost use Rattle.std.specs.Prelude.{◌≡◌};
 ghost use Rattle.box_answers.specs.Border.{looked_said, sought_said, joined_said, same_said, taken_said, numbered_said, unfolded_said, added_said, overlap_word, reported_said};
 ghost use Rattle.box_answers.specs.Loads.{loaded_said};
 
-use crate::{SHORT, Said, bit, crowded, done, found_word, refused};
-use classes::{Untaken, Trail};
+use crate::{Said, bit, crowded, done, found_word, refused};
+use classes::{Trail, Untaken};
 use paper::{Overlap, Refusal};
 use report::Unreported;
 use sites::Numbered;
 
+#[tactic(auto, unfolding(crate::specs::Border::looked_said))]
 fn trail_said(t: Trail) -> Said
     ensures { result ≡ looked_said (Ok t) }
 {
-    let f = t.found;
-    done(found_word(f), u64::from(t.links))
+    done(found_word(t.found), u64::from(t.links))
 }
 
+#[tactic(auto, unfolding(crate::specs::Border::looked_said))]
 pub fn looked_said(l: Result<Trail, Refusal>) -> Said
     ensures { result ≡ looked_said l }
 {
-    match l {
-        Ok(t) => trail_said(t),
-        Err(r) => refused(r),
-    }
+    l.map_or_else(refused, trail_said)
 }
 
+#[tactic(auto, unfolding(crate::specs::Border::sought_said))]
 pub fn sought_said(l: Result<Option<u16>, Refusal>) -> Said
     ensures { result ≡ sought_said l }
 {
-    match l {
-        Ok(f) => done(found_word(f), 0),
-        Err(r) => refused(r),
-    }
+    l.map_or_else(refused, |f| done(found_word(f), 0))
 }
 
+#[tactic(auto, unfolding(crate::specs::Border::joined_said))]
 pub fn joined_said(j: Result<bool, Refusal>) -> Said
     ensures { result ≡ joined_said j }
 {
-    match j {
-        Ok(b) => done(bit(b), 0),
-        Err(r) => refused(r),
-    }
+    j.map_or_else(refused, |b| done(bit(b), 0))
 }
 
+#[tactic(auto, unfolding(crate::specs::Border::same_said))]
 pub fn same_said(e: Result<bool, Refusal>) -> Said
     ensures { result ≡ same_said e }
 {
-    match e {
-        Ok(b) => done(bit(b), 0),
-        Err(r) => refused(r),
-    }
+    e.map_or_else(refused, |b| done(bit(b), 0))
 }
 
+#[tactic(auto, unfolding(crate::specs::Border::taken_said))]
 pub fn taken_said(t: Result<usize, Untaken>) -> Said
     ensures { result ≡ taken_said t }
 {
     match t {
         Ok(n) => done(n as u64, 0),
         Err(Untaken::Refused(r)) => refused(r),
-        Err(Untaken::Short) => Said {
-            number: SHORT,
-            one: 0,
-            two: 0,
-        },
+        Err(Untaken::Short) => crowded(),
     }
 }
 
+#[tactic(auto, unfolding(crate::specs::Border::numbered_said))]
 pub fn numbered_said(n: Result<Numbered, Refusal>) -> Said
     ensures { result ≡ numbered_said n }
 {
@@ -76,22 +67,18 @@ pub fn numbered_said(n: Result<Numbered, Refusal>) -> Said
     }
 }
 
+#[tactic(auto, unfolding(crate::specs::Border::unfolded_said))]
 pub fn unfolded_said(u: Result<usize, Refusal>) -> Said
     ensures { result ≡ unfolded_said u }
 {
-    match u {
-        Ok(n) => done(n as u64, 0),
-        Err(r) => refused(r),
-    }
+    u.map_or_else(refused, |n| done(n as u64, 0))
 }
 
+#[tactic(auto, unfolding(crate::specs::Border::added_said))]
 pub fn added_said(a: Result<(), Refusal>) -> Said
     ensures { result ≡ added_said a }
 {
-    match a {
-        Ok(()) => done(0, 0),
-        Err(r) => refused(r),
-    }
+    a.map_or_else(refused, |()| done(0, 0))
 }
 
 pub fn overlap_word(o: Overlap) -> u64
@@ -104,6 +91,7 @@ pub fn overlap_word(o: Overlap) -> u64
     }
 }
 
+#[tactic(auto, unfolding(crate::specs::Border::reported_said, paper::specs::Numbers::number, paper::specs::Numbers::told))]
 pub fn reported_said(r: Result<u32, Unreported>) -> Said
     ensures { result ≡ reported_said r }
 {
@@ -114,11 +102,9 @@ pub fn reported_said(r: Result<u32, Unreported>) -> Said
     }
 }
 
+#[tactic(auto, unfolding(crate::specs::Loads::loaded_said))]
 pub fn loaded_said(l: Result<u16, Refusal>) -> Said
     ensures { result ≡ loaded_said l }
 {
-    match l {
-        Ok(n) => done(u64::from(n), 0),
-        Err(r) => refused(r),
-    }
+    l.map_or_else(refused, |n| done(u64::from(n), 0))
 }

@@ -33,24 +33,23 @@ fn told_one(r: Refusal) -> u64
     ensures { result ≡ one_told r }
 {
     match r {
-        Refusal::Layout { line } => u64::from(line),
-        Refusal::Unknown { site } => u64::from(site),
-        Refusal::Itself { site } => u64::from(site),
-        Refusal::Unreachable { site, other: _ } => u64::from(site),
-        Refusal::Hanging { site } => u64::from(site),
-        Refusal::Endless { site } => u64::from(site),
-        Refusal::TooManySites { asked, at: _ } => u64::from(asked),
-        Refusal::TooManySources { asked, at: _ } => u64::from(asked),
-        Refusal::TooManyFields { asked, at: _ } => u64::from(asked),
-        Refusal::TooManyRules { asked } => u64::from(asked),
-        Refusal::TooManyItems { asked } => u64::from(asked),
-        Refusal::TooManyConstrained { asked } => u64::from(asked),
-        Refusal::TooManyEqual { asked } => u64::from(asked),
-        Refusal::TooManySets { asked } => u64::from(asked),
-        Refusal::TermTooHigh { asked } => u64::from(asked),
-        Refusal::UnfoldingTooLong { asked } => u64::from(asked),
+        Refusal::Layout { line } | Refusal::Repeated { line } => u64::from(line),
+        Refusal::Unknown { site }
+        | Refusal::Itself { site }
+        | Refusal::Unreachable { site, .. }
+        | Refusal::Hanging { site }
+        | Refusal::Endless { site } => u64::from(site),
+        Refusal::TooManySites { asked, .. }
+        | Refusal::TooManySources { asked, .. }
+        | Refusal::TooManyFields { asked, .. }
+        | Refusal::TooManyRules { asked }
+        | Refusal::TooManyItems { asked }
+        | Refusal::TooManyConstrained { asked }
+        | Refusal::TooManyEqual { asked }
+        | Refusal::TooManySets { asked }
+        | Refusal::TermTooHigh { asked }
+        | Refusal::UnfoldingTooLong { asked } => u64::from(asked),
         Refusal::PlaceUsed { place } => u64::from(place),
-        Refusal::Repeated { line } => u64::from(line),
     }
 }
 
@@ -59,39 +58,26 @@ fn told_two(r: Refusal) -> u64
     ensures { result ≡ two_told r }
 {
     match r {
-        Refusal::Layout { line: _ } => 0,
-        Refusal::Unknown { site: _ } => 0,
-        Refusal::Itself { site: _ } => 0,
-        Refusal::Unreachable { site: _, other } => u64::from(other),
-        Refusal::Hanging { site: _ } => 0,
-        Refusal::Endless { site: _ } => 0,
-        Refusal::TooManySites { asked: _, at } => u64::from(at),
-        Refusal::TooManySources { asked: _, at } => u64::from(at),
-        Refusal::TooManyFields { asked: _, at } => u64::from(at),
-        Refusal::TooManyRules { asked: _ } => 0,
-        Refusal::TooManyItems { asked: _ } => 0,
-        Refusal::TooManyConstrained { asked: _ } => 0,
-        Refusal::TooManyEqual { asked: _ } => 0,
-        Refusal::TooManySets { asked: _ } => 0,
-        Refusal::TermTooHigh { asked: _ } => 0,
-        Refusal::UnfoldingTooLong { asked: _ } => 0,
-        Refusal::PlaceUsed { place: _ } => 0,
-        Refusal::Repeated { line: _ } => 0,
+        Refusal::Unreachable { other, .. } => u64::from(other),
+        Refusal::TooManySites { at, .. }
+        | Refusal::TooManySources { at, .. }
+        | Refusal::TooManyFields { at, .. } => u64::from(at),
+        _ => 0,
     }
 }
 
 pub fn refused(r: Refusal) -> Said
     ensures { result ≡ said (number r) (told r) }
 {
-    let n = sheet_findings::number_of(r);
     Said {
-        number: n as u32,
+        number: u32::from(sheet_findings::number_of(r)),
         one: told_one(r),
         two: told_two(r),
     }
 }
 
 // The answer into its slice, and the number. Where the slice is too short, nothing and SHORT.
+#[tactic(auto, unfolding(crate::specs::Border::answered, crate::specs::Border::has_room))]
 pub fn say(answer: &mut [u64], s: Said) -> u32
     ensures { (answer.new, result) ≡ answered (has_room answer.old answer_words) answer.old s }
 {
@@ -128,14 +114,11 @@ pub fn crowded() -> Said
 pub fn found_word(f: Option<u16>) -> u64
     ensures { result ≡ found_word f }
 {
-    match f {
-        Some(s) => u64::from(s),
-        None => NONE,
-    }
+    f.map_or(NONE, u64::from)
 }
 
 pub fn bit(b: bool) -> u64
     ensures { result ≡ bit b }
 {
-    if b { 1 } else { 0 }
+    u64::from(b)
 }
