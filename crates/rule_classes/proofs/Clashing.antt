@@ -1,10 +1,10 @@
 -- What the code finds over roots is what paper says over labels: check 4.
-use mathlib.Core.Path.{◌≡◌, refl, sym, ap, ◌∙◌, subst}
+use mathlib.Core.Path.{◌≡◌, refl, ap, ◌∙◌, subst}
 use mathlib.Core.Bool.{Bool, true, false}
 use mathlib.Core.Option.{Option, none, some}
 use mathlib.Core.Logic.{◌↔◌}
 use mathlib.Core.List.{List, [], ◌∷◌, ◌++◌, Memᴰ}
-use Prim.Native.Nat.{ℕ, zero, suc, ◌+◌, ◌<◌}
+use Prim.Native.Nat.{ℕ, zero, suc, ◌<◌}
 use native.Mathlib.Omega.{arith}
 use native.Mathlib.Nat.{not-suc-le-zero}
 use native.Mathlib.Decide.{ℕ_discrete}
@@ -12,7 +12,7 @@ use lib.Dec.{eqb}
 use borrow.Author.Tests.{eq-eqb, ne_eqb}
 use Rattle.std.specs.declared.option.Option.TheVariants.{Some}
 use Rattle.paper.specs.declared.Refusal.TheVariants.{Unreachable}
-use Rattle.paper.specs.Words.{below, first, least, one}
+use Rattle.paper.specs.Words.{below, first}
 use Rattle.paper.specs.Numbers.{max_sites, done, refused}
 use Rattle.paper.proofs.Labels.{Sound}
 use Rattle.paper.specs.Loading.{Holder, Labels, Together, lowest, closure_of, first_holder, differs, conflict, told_4, check_4}

@@ -1,10 +1,10 @@
 -- The whole: the classes that the code makes, and what it answers of them.
-use mathlib.Core.Path.{◌≡◌, refl, sym, ap, ◌∙◌, subst, subst⁻¹}
+use mathlib.Core.Path.{◌≡◌, refl, ap, ◌∙◌, subst, subst⁻¹}
 use mathlib.Core.Bool.{Bool, true, false}
 use mathlib.Core.Logic.{◌↔◌}
 use mathlib.Core.List.{List, [], ◌++◌}
 use mathlib.Core.Option.{none}
-use Prim.Native.Nat.{ℕ, ◌/◌, ◌≤◌, ◌<◌, min}
+use Prim.Native.Nat.{ℕ, ◌/◌}
 use native.Mathlib.Omega.{arith}
 use lib.ListN.{length}
 use Rattle.std.specs.declared.result.Result.TheVariants.{Err, Ok}
@@ -12,7 +12,7 @@ use Rattle.std.specs.declared.option.Option.TheVariants.{Some}
 use Rattle.paper.specs.declared.Refusal.TheVariants.{Unknown, Unreachable}
 use Rattle.paper.specs.Answered.{Verdict}
 use Rattle.paper.specs.Words.{or_else, below, pairs}
-use Rattle.paper.specs.Numbers.{max_sites, refused}
+use Rattle.paper.specs.Numbers.{refused}
 use Rattle.paper.specs.Classes.{Classes, classes, no_classes}
 use Rattle.paper.specs.Loading.{Holder, Labels, Together, lowest, join_all, pass, same_classes, close, closure_of}
 use Rattle.paper.proofs.Closure.{closure_of_is}

@@ -9,9 +9,10 @@ use native.Mathlib.Numerals.{add-one}
 use native.Mathlib.Decide.{ℕ_discrete, dec_lt}
 use lib.ListN.{length, replicate, get_or-replicate}
 use lib.Dec.{eqb}
-use borrow.Author.Tests.{lt-ltb, eqb-true, eqb-false, not-true, not-false}
+use borrow.Author.Tests.{eqb-true, eqb-false, not-true, not-false}
 use borrow.Author.Count.{below_more}
 use Rattle.std.specs.declared.result.Result.TheVariants.{Err, Ok}
+use Rattle.std.specs.Result.{result_unwrap_or}
 use Rattle.paper.specs.declared.Refusal.{Refusal}
 use Rattle.paper.specs.declared.Refusal.TheVariants.{Itself}
 use Rattle.paper.specs.Words.{below}
@@ -61,33 +62,28 @@ answer c x y W hx hy = go (ℕ_discrete x y)
     k = not (eqb (enter c x).root (enter (enter c x).after y).root)
 
     go : Dec (x ≡ y) → Answered c x y (joined c x y)
-    go (yes e) = rw (← merge_same c x y (lt-ltb x max_sites hx) (lt-ltb y max_sites hy) e) (was_one (Itself x) (self_equates c x y W e))
+    go (yes e) = rw (← merge_same c x y hx hy e) (was_one (Itself x) (self_equates c x y W e))
     go (no n) =
-        rw (← merge_done c x y (lt-ltb x max_sites hx) (lt-ltb y max_sites hy) n (enter c x) (enter (enter c x).after y) (unite c x y) refl refl refl)
+        rw (← merge_done c x y hx hy n (enter c x) (enter (enter c x).after y) (unite c x y) refl refl refl)
         (now_one (unite c x y) k (unites_equates c (unite c x y) x y k
         (unites c W x y hx hy k (λ e. eqb-true _ _ (not-false _ e)) (λ e. eqb-false _ _ (not-true _ e)))))
 
-pub equate_done : (p r : List ℕ) (n x y : ℕ) → Well p r n → x < max_sites → y < max_sites → (q s : List ℕ) (m : ℕ) (j : Answer Bool) (k : Bool)
-    → ◌≡◌ {A = Classes × Answer Bool} (classes q s m, j) (joined (classes p r n) x y) → j ≡ Ok k → Equates p q s m x y k
-equate_done p r n x y W hx hy q s m j k e o = go (answer (classes p r n) x y W hx hy) e
+-- what was joined, or false where the join is refused
+pub equated : (p r : List ℕ) (n x y : ℕ) → Well p r n → x < max_sites → y < max_sites → (q s : List ℕ) (m : ℕ) (j : Answer Bool) (k : Bool)
+    → ◌≡◌ {A = Classes × Answer Bool} (classes q s m, j) (joined (classes p r n) x y) → k ≡ result_unwrap_or j false → Equates p q s m x y k
+equated p r n x y W hx hy q s m j k e o = go (answer (classes p r n) x y W hx hy) e
   where
     go : {w : Classes × Answer Bool} → Answered (classes p r n) x y w → ◌≡◌ {A = Classes × Answer Bool} (classes q s m, j) w → Equates p q s m x y k
-    go (was_one f E) w = let j' : Err f ≡ Ok k = sym (ap (λ (u : Classes × Answer Bool). u.1) w) ∙ o in cc
+    go (was_one f E) w =
+        let ed : classes q s m ≡ classes p r n = ap (λ (u : Classes × Answer Bool). u.0) w in
+        let ej : j ≡ Err f = ap (λ (u : Classes × Answer Bool). u.1) w in
+        let ek : k ≡ false = o ∙ ap (λ (u : Answer Bool). result_unwrap_or u false) ej in
+        rw ek (subst⁻¹ (λ (u : Classes). Equates p u.parents u.ranks u.count x y false) ed E)
     go (now_one d h E) w =
         let ed : classes q s m ≡ d = ap (λ (u : Classes × Answer Bool). u.0) w in
-        let j' : Ok h ≡ Ok k = sym (ap (λ (u : Classes × Answer Bool). u.1) w) ∙ o in
-        let eh : h ≡ k = cc in
-        rw (← eh) (subst⁻¹ (λ (u : Classes). Equates p u.parents u.ranks u.count x y h) ed E)
-
-pub equate_not : (p r : List ℕ) (n x y : ℕ) → Well p r n → x < max_sites → y < max_sites → (q s : List ℕ) (m : ℕ) (j : Answer Bool) (f : Refusal)
-    → ◌≡◌ {A = Classes × Answer Bool} (classes q s m, j) (joined (classes p r n) x y) → j ≡ Err f → Equates p q s m x y false
-equate_not p r n x y W hx hy q s m j f e o = go (answer (classes p r n) x y W hx hy) e
-  where
-    go : {w : Classes × Answer Bool} → Answered (classes p r n) x y w → ◌≡◌ {A = Classes × Answer Bool} (classes q s m, j) w → Equates p q s m x y false
-    go (was_one g E) w =
-        let ed : classes q s m ≡ classes p r n = ap (λ (u : Classes × Answer Bool). u.0) w in
-        subst⁻¹ (λ (u : Classes). Equates p u.parents u.ranks u.count x y false) ed E
-    go (now_one d h E) w = let j' : Ok h ≡ Err f = sym (ap (λ (u : Classes × Answer Bool). u.1) w) ∙ o in cc
+        let ej : j ≡ Ok h = ap (λ (u : Classes × Answer Bool). u.1) w in
+        let ek : k ≡ h = o ∙ ap (λ (u : Answer Bool). result_unwrap_or u false) ej in
+        rw ek (subst⁻¹ (λ (u : Classes). Equates p u.parents u.ranks u.count x y h) ed E)
 
 -- ---- growths
 

@@ -1,5 +1,5 @@
 -- The loop of check 4.
-use mathlib.Core.Path.{◌≡◌, refl, sym, ap, ◌∙◌, subst, subst⁻¹}
+use mathlib.Core.Path.{◌≡◌, refl, sym, ap, ◌∙◌, subst⁻¹}
 use mathlib.Core.Bool.{Bool, true, false}
 use mathlib.Core.List.{List}
 use Prim.Native.Nat.{ℕ, ◌+◌, ◌≤◌, ◌<◌}
@@ -111,8 +111,8 @@ module _ (H : Held) (p : List ℕ) where
       pub in_range : z < max_sites
       in_range = let e = is_root in let i = root_in in omega arith
 
-      pub seat_new : max_sites ≤ get_or boss z 0 → (max_sites ≤ max_sites → Seated H p (set boss z h) (h + 1)) × (max_sites < max_sites → Unlike H p h max_sites)
-      seat_new n = (λ _. rw is_root (new (rw is_root at n)), λ l. absurd (omega arith))
+      pub seat_new : max_sites ≤ get_or boss z 0 → Seated H p (set boss z h) (h + 1)
+      seat_new n = rw is_root (new (rw is_root at n))
 
       module _ (g : get_or boss z 0 < max_sites) (i j v : ℕ) (t : Bool) (ei : i ≡ get_or H.rows k 0) (ev : v ≡ get_or boss z 0) (ej : j ≡ get_or H.rows v 0)
           (et : t ≡ same_constraint (shape_in H.words i) (shape_in H.words j)) where
@@ -122,15 +122,15 @@ module _ (H : Held) (p : List ℕ) where
             let b : j ≡ row_of H (get_or boss root 0) = ej ∙ ap (λ (u : ℕ). get_or H.rows u 0) (ev ∙ ap (λ (u : ℕ). get_or boss u 0) is_root) in
             rw (a, b) at et
 
-        pub seat_like : t ≡ true → (max_sites ≤ max_sites → Seated H p boss (h + 1)) × (max_sites < max_sites → Unlike H p h max_sites)
+        pub seat_like : t ≡ true → Seated H p boss (h + 1)
         seat_like o =
             let g' : get_or boss root 0 < max_sites = rw is_root at g in
-            (λ _. more g' (record { boss = get_or boss root 0; first = first_at g'; same = sym same_is ∙ o }), λ l. absurd (omega arith))
+            more g' (record { boss = get_or boss root 0; first = first_at g'; same = sym same_is ∙ o })
 
-        pub seat_unlike : t ≡ false → (max_sites ≤ get_or boss z 0 → Seated H p boss (h + 1)) × (get_or boss z 0 < max_sites → Unlike H p h (get_or boss z 0))
+        pub seat_unlike : t ≡ false → Unlike H p h (get_or boss z 0)
         seat_unlike o =
             let g' : get_or boss root 0 < max_sites = rw is_root at g in
-            (λ l. absurd (omega arith), λ _. rw is_root (record { first = first_at g'; differ = sym same_is ∙ o }))
+            rw is_root (record { first = first_at g'; differ = sym same_is ∙ o })
 
 -- the loop of conflict
 module _ (H : Held) (p : List ℕ) (m : ℕ) where

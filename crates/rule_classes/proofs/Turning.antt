@@ -6,7 +6,7 @@ use mathlib.Core.List.{List, Memᴰ}
 use Prim.Native.Nat.{ℕ, zero, suc, ◌+◌, ◌/◌, ◌≤◌, ◌<◌}
 use native.Mathlib.Omega.{arith}
 use native.Mathlib.Decide.{ℕ_discrete, dec_lt}
-use lib.ListN.{length, get_or}
+use lib.ListN.{length}
 use lib.Dec.{eqb}
 use borrow.Author.Tests.{eqb-true, eq-eqb}
 use borrow.Author.Count.{below_more}
@@ -24,15 +24,6 @@ use Rattle.rule_rows.specs.Holding.{Held, shape_in, kid_count, site_of, row_of, 
 use Rattle.rule_classes.specs.Growing.{One, Right, JoinsKids, mate, Kids, Rest, Meets, SweptTo, Closed}
 use Rattle.rule_rows.proofs.Holders.{same_count, in_holders, of_holders, in_zip, of_zip}
 use Rattle.rule_classes.proofs.Joining.{Moved, not_moved, grown_none, grown_then, Starts}
-
--- ---- mates, as the code tests them
-
-module _ (words rows sites p : List ℕ) (g j b i : ℕ) (t : Bool) (ei : i ≡ get_or rows g 0) (et : t ≡ same_constraint (shape_in words i) (shape_in words j)) where
-  pub mates_no : t ≡ false → false ≡ (same_constraint (shape_in words (get_or rows g 0)) (shape_in words j) && eqb (rep p (get_or sites g 0)) b)
-  mates_no f = let e : same_constraint (shape_in words (get_or rows g 0)) (shape_in words j) ≡ false = rw (← ei) (sym et ∙ f) in rw e
-
-  pub mates_yes : t ≡ true → (s a : ℕ) → s ≡ get_or sites g 0 → a ≡ rep p s → eqb a b ≡ (same_constraint (shape_in words (get_or rows g 0)) (shape_in words j) && eqb (rep p (get_or sites g 0)) b)
-  mates_yes f s a es ea = let e : same_constraint (shape_in words (get_or rows g 0)) (shape_in words j) ≡ true = rw (← ei) (sym et ∙ f) in rw (e, ea, es)
 
 module _ (H : Held) where
   -- ---- mates

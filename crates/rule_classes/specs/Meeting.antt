@@ -1,7 +1,7 @@
 -- Check 4 over the classes of parents p: each holder against the first holder of its class. Then what is told of the whole.
 use Rattle.std.specs.declared.result.Result.TheVariants.{Err, Ok}
 use Rattle.std.specs.declared.option.Option.TheVariants.{None, Some}
-use Rattle.std.specs.Prelude.{◌≡◌, Bool, true, false, ◌↔◌, List, ◌++◌, ℕ, ◌≤◌, ◌<◌, get_or, length}
+use Rattle.std.specs.Prelude.{◌≡◌, true, false, ◌↔◌, List, ◌++◌, ℕ, ◌≤◌, ◌<◌, get_or, length}
 use Rattle.std.proofs.Math.Option.{none}
 use Rattle.paper.specs.Answered.{Verdict}
 use Rattle.paper.specs.Numbers.{max_sites, refused}

@@ -15,7 +15,6 @@ ghost use Rattle.rule_classes.specs.Meeting.{Reps, Unlike, ClashIs, Seated, Join
 use paper::{Refusal, SITES};
 use rule_lists::at;
 use rule_rows::{alike, fields, first_stray, kid};
-use widths::size16;
 
 // The parent of a site that was never joined; also no holder.
 const NEVER: u16 = SITES as u16;
@@ -42,11 +41,7 @@ fn equate(p: &mut [u16; SITES], r: &mut [u8; SITES], n: &mut u16, x: u16, y: u16
     requires x_lt_max_sites { (x < max_sites) × (y < max_sites) }
     ensures { Equates p.old p.new r.new n.new x y result }
 {
-    let j = classes::merge_in(p, r, n, x, y);
-    let Ok(two) = j else {
-        return false;
-    };
-    two
+    classes::merge_in(p, r, n, x, y).unwrap_or(false)
 }
 
 // Joins the like-numbered children of rows i and j, m of them: whether any classes became one.
@@ -88,13 +83,7 @@ fn mates(
     ensures { let alike = same_constraint (shape_in words.now (get_or rows.now g 0)) (shape_in words.now j) in
         result ≡ (alike && eqb (rep p.now (get_or sites.now g 0)) b) }
 {
-    let i = at(rows, g);
-    if alike(words, i, j) {
-        let s = at(sites, g);
-        let a = classes::rep_in(p, s);
-        return a == b;
-    }
-    false
+    alike(words, at(rows, g), j) && classes::rep_in(p, at(sites, g)) == b
 }
 
 // The first holder before h that is of h's class and under h's constraint: its children are joined with h's. Whether any classes became one.
@@ -172,7 +161,7 @@ fn close(
 
 // ---- check 4
 
-// Puts holder h to its class: NEVER, or the first holder of the class, if h differs from it.
+// Puts holder h to its class: the first holder of the class, if h differs from it.
 fn seat(
     p: &[u16; SITES],
     sites: &[u16],
@@ -180,28 +169,28 @@ fn seat(
     words: &[u64],
     boss: &mut [u16; SITES],
     h: u16,
-) -> u16
+) -> Option<u16>
     requires reps { Reps p.now }
     requires h_lt_max_sites { (h < max_sites) × Inside sites.now }
     requires seated { Seated (bare sites.now rows.now words.now) p.now boss.old h }
     ensures fact { let B = bare sites.now rows.now words.now in
-        (max_sites ≤ result → Seated B p.now boss.new (h + 1)) }
-    ensures unlike { result < max_sites → Unlike (bare sites.now rows.now words.now) p.now h result }
+        (result ≡ None → Seated B p.now boss.new (h + 1)) }
+    ensures unlike { (b : ℕ) → result ≡ Some b → Unlike (bare sites.now rows.now words.now) p.now h b }
 {
-    let k = size16(h);
+    let k = usize::from(h);
     let s = at(sites, k);
-    let root = size16(classes::rep_in(p, s));
+    let root = usize::from(classes::rep_in(p, s));
     let b = boss[root];
     if NEVER <= b {
         boss[root] = h;
-        return NEVER;
+        return None;
     }
     let i = at(rows, k);
-    let j = at(rows, size16(b));
+    let j = at(rows, usize::from(b));
     if alike(words, i, j) {
-        return NEVER;
+        return None;
     }
-    b
+    Some(b)
 }
 
 // Check 4 over m holders. Where it finds nothing, boss has the first holder of each class by root.
@@ -220,10 +209,9 @@ fn conflict(
     ensures seated { result ≡ None → Seated (bare sites.now rows.now words.now) p.now boss.new m }
 {
     for h in 0..m {
-        let b = seat(p, sites, rows, words, boss, h);
-        if b < NEVER {
-            let s = at(sites, size16(h));
-            let t = at(sites, size16(b));
+        if let Some(b) = seat(p, sites, rows, words, boss, h) {
+            let s = at(sites, usize::from(h));
+            let t = at(sites, usize::from(b));
             return Some((s, t));
         }
     }
@@ -251,11 +239,10 @@ fn join(
     let mut n: u16 = 0;
     classes::clear_in(p, &mut r, &mut n);
     written(p, &mut r, &mut n, eqs);
-    close(p, &mut r, &mut n, sites, rows, words, kids, size16(m));
+    close(p, &mut r, &mut n, sites, rows, words, kids, usize::from(m));
     *boss = [NEVER; SITES];
-    let c = conflict(p, sites, rows, words, boss, m);
-    match c {
-        Some((s, t)) => Err(Refusal::Unreachable { site: s, other: t }),
+    match conflict(p, sites, rows, words, boss, m) {
+        Some((site, other)) => Err(Refusal::Unreachable { site, other }),
         None => Ok(()),
     }
 }

@@ -1,7 +1,5 @@
 -- `rule_classes::close` meets its contract. Assumes nothing.
-use Rattle.classes.specs.Equal.{class_count}
-use Rattle.rule_rows.specs.Holding.{held}
-use Rattle.rule_classes.proofs.Turning.{Between, between_none, between_step, closed}
+use Rattle.rule_classes.proofs.Turning.{between_none, between_step, closed}
 use Rattle.rule_classes.proofs.close.Goals as goal
 
 pub loop-init : goal.loop-init

@@ -1,6 +1,6 @@
 use Rattle.classes.specs.Equal.{class_count}
 use Rattle.rule_rows.specs.Holding.{held}
-use Rattle.rule_classes.proofs.Turning.{Between, between_none, between_step, closed}
+use Rattle.rule_classes.proofs.Turning.{Between}
 use Rattle.rule_classes.proofs.close.Given as goal
 
 abbrev pub invariant-loop : goal.invariant-loop

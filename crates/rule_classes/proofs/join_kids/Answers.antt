@@ -1,9 +1,7 @@
 -- `rule_classes::join_kids` meets its contract. Assumes nothing.
 use mathlib.Core.Path.{◌≡◌}
 use mathlib.Core.Logic.{inl, inr}
-use Prim.Native.Nat.{◌≤◌, ◌-◌}
 use native.Mathlib.Omega.{arith}
-use Rattle.rule_classes.specs.Growing.{JoinsKids}
 use Rattle.rule_rows.proofs.Reading.{kid_inside}
 use Rattle.rule_classes.proofs.Joining.{kids_none, kids_step}
 use Rattle.rule_classes.proofs.join_kids.Goals as goal
@@ -17,12 +15,6 @@ equate-requires-clause-well c = c.loop-f.invariant.1.grown.well
 
 pub equate-requires-clause-x_lt_max_sites : goal.equate-requires-clause-x_lt_max_sites
 equate-requires-clause-x_lt_max_sites c = (rw c.kid-x.ensures (kid_inside _ _ _ c.requires.inside), rw c.kid-y.ensures (kid_inside _ _ _ c.requires.inside))
-
-pub overflow_step-f : goal.overflow_step-f
-overflow_step-f c = omega arith
-
-pub loop-f-smaller : goal.loop-f-smaller
-loop-f-smaller c = omega arith
 
 pub loop-f-preserved : goal.loop-f-preserved
 loop-f-preserved c = (omega arith, kids_step _ _ _ _ _ _ _ _ _ _ _ _ _ _ c.loop-f.invariant.1 (rw (c.kid-x.ensures, c.kid-y.ensures) at c.equate.ensures) (elim c.if-equate.branch [ then-equate w ↦ inl (w.if-equate.true, w.moved-is) | else-equate w ↦ inr (w.if-equate.false, w.moved-is) ]))

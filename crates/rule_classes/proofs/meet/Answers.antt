@@ -1,12 +1,8 @@
 -- `rule_classes::meet` meets its contract. Assumes nothing.
 use native.Mathlib.Omega.{arith}
 use mathlib.Core.Path.{◌≡◌, refl, sym, ◌∙◌}
-use mathlib.Core.Bool.{false}
-use Prim.Native.Nat.{ℕ, ◌≤◌, ◌<◌, ◌-◌}
 use borrow.Author.Count.{below_more}
-use Rattle.classes.specs.Well.{Well}
 use Rattle.rule_rows.specs.Holding.{held}
-use Rattle.rule_classes.specs.Growing.{mate}
 use Rattle.rule_rows.proofs.Reading.{few_kids}
 use Rattle.rule_classes.proofs.Turning.{test_is, met, not_met}
 use Rattle.rule_classes.proofs.meet.Goals as goal
@@ -25,12 +21,6 @@ join_kids-requires-clause-m_le_max_fields c = rw c.fields-m.ensures (few_kids _ 
 
 pub returns-then-mates : goal.returns-then-mates
 returns-then-mates c = met (held c.args.sites.now c.args.rows.now c.args.words.now c.args.kids.now) _ _ c.loop-g.invariant.1.0 _ _ _ _ c.at-j.ensures c.at-s.ensures c.rep_in-b.ensures _ _ _ _ _ _ _ _ c.loop-g-test.true c.mates.ensures c.if-mates.true c.loop-g.invariant.1.1.1 c.at-i.ensures c.fields-m.ensures c.join_kids.ensures
-
-pub overflow_step-g : goal.overflow_step-g
-overflow_step-g c = omega arith
-
-pub loop-g-smaller : goal.loop-g-smaller
-loop-g-smaller c = omega arith
 
 pub loop-g-preserved : goal.loop-g-preserved
 loop-g-preserved c = (omega arith, (c.loop-g.invariant.1.0, (c.loop-g.invariant.1.1.0, below_more _ _ c.loop-g.invariant.1.1.1 (sym (test_is (held c.args.sites.now c.args.rows.now c.args.words.now c.args.kids.now) _ _ c.loop-g.invariant.1.0 _ _ _ _ c.at-j.ensures c.at-s.ensures c.rep_in-b.ensures _ _ c.mates.ensures) ∙ c.if-mates.false))))

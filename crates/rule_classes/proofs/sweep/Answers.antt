@@ -2,9 +2,6 @@
 use native.Mathlib.Omega.{arith}
 use mathlib.Core.Path.{◌≡◌}
 use mathlib.Core.Logic.{inl, inr}
-use Prim.Native.Nat.{◌≤◌, ◌-◌}
-use Rattle.rule_rows.specs.Holding.{held}
-use Rattle.rule_classes.specs.Growing.{SweptTo}
 use Rattle.rule_classes.proofs.Turning.{swept_none, swept_step}
 use Rattle.rule_classes.proofs.sweep.Goals as goal
 use Rattle.rule_classes.proofs.sweep.Goals.{then-meet, else-meet}
@@ -17,12 +14,6 @@ meet-requires-clause-well c = c.loop-h.invariant.1.grown.well
 
 pub meet-requires-clause-inside : goal.meet-requires-clause-inside
 meet-requires-clause-inside c = c.requires.inside
-
-pub overflow_step-h : goal.overflow_step-h
-overflow_step-h c = omega arith
-
-pub loop-h-smaller : goal.loop-h-smaller
-loop-h-smaller c = omega arith
 
 pub loop-h-preserved : goal.loop-h-preserved
 loop-h-preserved c = (omega arith, swept_step _ _ _ _ _ _ _ _ _ _ _ _ _ c.loop-h-test.true c.loop-h.invariant.1 c.meet.ensures (elim c.if-meet.branch [ then-meet w ↦ inl (w.if-meet.true, w.moved-is) | else-meet w ↦ inr (w.if-meet.false, w.moved-is) ]))
