@@ -1,19 +1,14 @@
 -- What is put into the room, by the definitions of what a call is answered.
 use mathlib.Core.Path.{◌≡◌, refl, ap, ◌∙◌}
 use mathlib.Core.List.{List, [], ◌∷◌, ◌++◌}
-use Prim.Native.Nat.{ℕ, zero, suc, ◌+◌, min}
-use native.Mathlib.Omega.{arith}
+use Prim.Native.Nat.{ℕ, zero, suc, ◌+◌}
 use native.Mathlib.Numerals.{add-one}
-use lib.ListN.{length, get_or}
-use Rattle.std.specs.declared.result.Result.TheVariants.{Ok}
+use lib.ListN.{get_or}
 use Rattle.paper.specs.declared.Refusal.{Refusal}
 use Rattle.paper.specs.declared.Refusal.TheVariants.{Layout, Unknown, Itself, Unreachable, Hanging, Endless, TooManySites, TooManySources, TooManyFields, TooManyRules, TooManyItems, TooManyConstrained, TooManyEqual, TooManySets, TermTooHigh, UnfoldingTooLong, PlaceUsed, Repeated}
-use Rattle.paper.specs.Text.{unended}
-use Rattle.classes.specs.Called.{Taken}
-use Rattle.classes.specs.declared.Untaken.TheVariants as taken
 use Rattle.tell_text.specs.Written.{Room, wrote, nothing, follows}
 use Rattle.tell_text.specs.Decimal.{decimal}
-use Rattle.tell_reply.specs.Replies.{refusal_text, member_text, members_text, taken_text}
+use Rattle.tell_reply.specs.Replies.{refusal_text, member_text, members_text}
 
 -- the same text by another name
 pub told : (p q : Room) (s t : List ℕ) → s ≡ t → q ≡ wrote p s → q ≡ wrote p t
@@ -39,10 +34,6 @@ refusal_other (UnfoldingTooLong a) u i = refl
 refusal_other (PlaceUsed a) u i = refl
 refusal_other (Repeated a) u i = refl
 
-pub member_first : (i x : ℕ) → i ≡ 0 → member_text i x ≡ decimal x
-member_first zero x e = refl
-member_first (suc i) x e = absurd (omega arith)
-
 pub member_next : (i x : ℕ) → (i ≡ 0 → ⊥) → member_text i x ≡ (32 ∷ []) ++ decimal x
 member_next zero x d = absurd (d refl)
 member_next (suc i) x d = refl
@@ -55,14 +46,3 @@ members_none p ms = nothing p
 pub members_more : (p q r : Room) (ms : List ℕ) (i : ℕ) → q ≡ wrote p (members_text ms i) → r ≡ wrote q (member_text i (get_or ms i 0)) → r ≡ wrote p (members_text ms (i + 1))
 unfolding members_text
 members_more p q r ms i e f = rw add-one (follows p q r (members_text ms i) (member_text i (get_or ms i 0)) e f)
-
-pub members_all : (p q : Room) (ms : List ℕ) (i j : ℕ) → q ≡ wrote p (members_text ms i) → i ≡ j → q ≡ wrote p (members_text ms j)
-members_all p q ms i j e h = told p q (members_text ms i) (members_text ms j) (ap (members_text ms) h) e
-
-pub taken_none : (ms : List ℕ) (t : Taken) (k : ℕ) → t ≡ Ok k → k ≡ 0 → taken_text ms t ≡ unended "none"
-taken_none ms t zero e z = ap (taken_text ms) e
-taken_none ms t (suc k) e z = absurd (omega arith)
-
-pub taken_some : (ms : List ℕ) (t : Taken) (k : ℕ) → t ≡ Ok k → (k ≡ 0 → ⊥) → taken_text ms t ≡ members_text ms (min k (length ms))
-taken_some ms t zero e d = absurd (d refl)
-taken_some ms t (suc k) e d = ap (taken_text ms) e

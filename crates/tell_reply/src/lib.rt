@@ -6,7 +6,7 @@ ghost use Rattle.tell_text.specs.Written.{wrote};
 ghost use Rattle.tell_reply.specs.Replies.{bool_text, refusal_text, joined_text, trail_text, looked_text, found_text, sought_text, same_text, member_text, members_text, untaken_text, taken_text, reply_text};
 
 use class_script::Reply;
-use classes::{Untaken, Trail};
+use classes::{Trail, Untaken};
 use paper::Refusal;
 use tell_text::{put, put_decimal, put_text};
 
@@ -14,9 +14,10 @@ fn put_bool(out: &mut [u8], n: usize, b: bool) -> usize
     ensures { (out.new, result) ≡ wrote (out.old, n) (bool_text b) }
 {
     if b {
-        return put_text(out, n, b"true");
+        put_text(out, n, b"true")
+    } else {
+        put_text(out, n, b"false")
     }
-    put_text(out, n, b"false")
 }
 
 fn put_refusal(out: &mut [u8], n: usize, e: Refusal) -> usize
@@ -25,11 +26,11 @@ fn put_refusal(out: &mut [u8], n: usize, e: Refusal) -> usize
     match e {
         Refusal::Unknown { site } => {
             let m = put_text(out, n, b"refused 2 ");
-            put_decimal(out, m, site as u64)
+            put_decimal(out, m, u64::from(site))
         }
         Refusal::Itself { site } => {
             let m = put_text(out, n, b"refused 3 ");
-            put_decimal(out, m, site as u64)
+            put_decimal(out, m, u64::from(site))
         }
         _ => n,
     }
@@ -47,13 +48,12 @@ fn put_joined(out: &mut [u8], n: usize, j: Result<bool, Refusal>) -> usize
 fn put_trail(out: &mut [u8], n: usize, t: Trail) -> usize
     ensures { (out.new, result) ≡ wrote (out.old, n) (trail_text t) }
 {
-    let f = t.found;
-    let Some(s) = f else {
+    let Some(s) = t.found else {
         return put_text(out, n, b"none");
     };
-    let m = put_decimal(out, n, s as u64);
+    let m = put_decimal(out, n, u64::from(s));
     let k = put(out, m, b' ');
-    put_decimal(out, k, t.links as u64)
+    put_decimal(out, k, u64::from(t.links))
 }
 
 fn put_looked(out: &mut [u8], n: usize, l: Result<Trail, Refusal>) -> usize
@@ -68,10 +68,10 @@ fn put_looked(out: &mut [u8], n: usize, l: Result<Trail, Refusal>) -> usize
 fn put_found(out: &mut [u8], n: usize, f: Option<u16>) -> usize
     ensures { (out.new, result) ≡ wrote (out.old, n) (found_text f) }
 {
-    let Some(s) = f else {
-        return put_text(out, n, b"none");
-    };
-    put_decimal(out, n, s as u64)
+    match f {
+        Some(s) => put_decimal(out, n, u64::from(s)),
+        None => put_text(out, n, b"none"),
+    }
 }
 
 fn put_sought(out: &mut [u8], n: usize, s: Result<Option<u16>, Refusal>) -> usize
@@ -97,10 +97,10 @@ fn put_member(out: &mut [u8], n: usize, i: usize, x: u16) -> usize
     ensures { (out.new, result) ≡ wrote (out.old, n) (member_text i x) }
 {
     if i == 0 {
-        return put_decimal(out, n, x as u64);
+        return put_decimal(out, n, u64::from(x));
     }
     let m = put(out, n, b' ');
-    put_decimal(out, m, x as u64)
+    put_decimal(out, m, u64::from(x))
 }
 
 // The first k members.
@@ -109,14 +109,8 @@ fn put_members(out: &mut [u8], n: usize, members: &[u16], k: usize) -> usize
         (out.new, result) ≡ wrote (out.old, n) (members_text ms (min k (length ms))) }
 {
     let mut m = n;
-    let mut i: usize = 0;
-    while i < members.len() {
-        if k <= i {
-            return m;
-        }
-        let t = put_member(out, m, i, members[i]);
-        m = t;
-        i += 1;
+    for i in 0..k.min(members.len()) {
+        m = put_member(out, m, i, members[i]);
     }
     m
 }
@@ -134,12 +128,8 @@ fn put_taken(out: &mut [u8], n: usize, members: &[u16], t: Result<usize, Untaken
     ensures { (out.new, result) ≡ wrote (out.old, n) (taken_text members.now t) }
 {
     match t {
-        Ok(k) => {
-            if k == 0 {
-                return put_text(out, n, b"none");
-            }
-            put_members(out, n, members, k)
-        }
+        Ok(0) => put_text(out, n, b"none"),
+        Ok(k) => put_members(out, n, members, k),
         Err(u) => put_untaken(out, n, u),
     }
 }
@@ -154,7 +144,7 @@ pub fn put_reply(out: &mut [u8], n: usize, members: &[u16], r: Reply, line: u64)
         Reply::FoundMut(s) => put_sought(out, n, s),
         Reply::Compared(s) => put_same(out, n, s),
         Reply::Removed(t) => put_taken(out, n, members, t),
-        Reply::Length(k) => put_decimal(out, n, k as u64),
+        Reply::Length(k) => put_decimal(out, n, u64::from(k)),
         Reply::Emptiness(b) => put_bool(out, n, b),
         Reply::Bad => {
             let m = put_text(out, n, b"bad ");

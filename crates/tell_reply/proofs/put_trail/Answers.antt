@@ -7,8 +7,6 @@ use Rattle.tell_reply.specs.Replies.{linked}
 use Rattle.tell_reply.proofs.Wording.{told}
 use Rattle.tell_reply.proofs.put_trail.Goals as goal
 
-pub returns-in_default : goal.returns-in_default
-returns-in_default c = told _ _ _ _ (ap (λ (f : Maybe ℕ). linked f c.args.t.links) (sym c.in_default.is)) c.put_text.ensures
-
 pub returns : goal.returns
-returns c = told _ _ _ _ (ap (λ (f : Maybe ℕ). linked f c.args.t.links) (sym c.in-Some.is)) (follows _ _ _ _ _ (follows _ _ _ _ _ c.put_decimal-m.ensures c.put-k.ensures) c.put_decimal.ensures)
+returns c = told _ _ _ _ (ap (λ (f : Maybe ℕ). linked f c.args.t.links) (sym c.in-Some.is))
+    (follows _ _ _ _ _ (follows _ _ _ _ _ (rw c.from.ensures at c.put_decimal-m.ensures) c.put-k.ensures) (rw c.from-2.ensures at c.put_decimal.ensures))

@@ -5,8 +5,5 @@ use Rattle.tell_reply.specs.Replies.{untaken_text}
 use Rattle.tell_reply.proofs.Wording.{told}
 use Rattle.tell_reply.proofs.put_untaken.Goals as goal
 
-pub returns-in-Refused : goal.returns-in-Refused
-returns-in-Refused c = told _ _ _ _ (ap untaken_text (sym c.in-Refused.is)) c.put_refusal.ensures
-
 pub returns-in-Short : goal.returns-in-Short
 returns-in-Short c = told _ _ _ _ (ap untaken_text (sym c.in-Short.is)) (nothing _)
