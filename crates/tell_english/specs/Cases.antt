@@ -1,5 +1,5 @@
 -- What comes out for some findings, computed.
-use Rattle.std.specs.Prelude.{◌≡◌, refl, true, false, List, [], ◌∷◌, ◌++◌, ℕ}
+use Rattle.std.specs.Prelude.{◌≡◌, refl, true, false, [], ◌∷◌, ◌++◌}
 use Rattle.paper.specs.Text.{text}
 use Rattle.tell_text.specs.Decimal.{decimal, digits}
 use Rattle.tell_parts.specs.Parts.{two_at, four_at, separator, rest, places, plural, part, filled}

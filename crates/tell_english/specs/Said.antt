@@ -1,6 +1,6 @@
 -- A finding in English.
 use Rattle.std.specs.declared.option.Option.TheVariants.{None, Some}
-use Rattle.std.specs.Prelude.{Bool, true, false, List, [], ◌∷◌, ◌++◌, ℕ, ◌+◌, length, get_or, set, eqb, ltb}
+use Rattle.std.specs.Prelude.{Bool, true, false, List, [], ◌∷◌, ◌++◌, ℕ, ◌+◌, length, get_or, eqb, ltb}
 use Rattle.std.specs.Prelude.{if◌then◌else◌}
 use Rattle.tell_text.specs.Written.{Room, with_byte}
 use Rattle.paper.specs.Answered.{Maybe}

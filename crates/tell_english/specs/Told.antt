@@ -1,6 +1,6 @@
 -- The frames that a sheet is answered with are told apart, and their numbers are the ones that were found.
-use Rattle.std.specs.Prelude.{◌≡◌, refl, Bool, true, false, List, [], ◌∷◌, ◌++◌, map, ℕ, suc, ◌+◌, ◌-◌, ◌*◌, ◌/◌, ◌%◌, ◌<◌, length, get_or, eqb}
-use Rattle.std.proofs.Common.{sym, ap, ◌∙◌, append_assoc, arith, length-append, get_or-append-add}
+use Rattle.std.specs.Prelude.{◌≡◌, refl, Bool, List, [], ◌∷◌, ◌++◌, map, ℕ, suc, ◌+◌, ◌-◌, ◌*◌, ◌/◌, ◌%◌, ◌<◌, length}
+use Rattle.std.proofs.Common.{sym, ap, ◌∙◌, append_assoc, arith, length-append}
 use Rattle.paper.specs.declared.Refusal.{Refusal}
 use Rattle.paper.specs.Words.{two, four, joined}
 use Rattle.paper.specs.Numbers.{number}
@@ -8,7 +8,6 @@ use Rattle.paper.specs.Rules.{overlap, mask}
 use Rattle.paper.specs.Sheets.{refusal_found, listed_found, term_found, stop_found}
 use Rattle.tell_text.specs.Decimal.{decimal}
 use Rattle.sheet_findings.specs.Written.{ended_found}
-use Rattle.tell_english.specs.declared.Shape.TheVariants.{Refused, Term, End, Stop}
 use Rattle.tell_parts.specs.Parts.{two_at, four_at, separator, rest, places, filled}
 use Rattle.tell_english.specs.Shapes.{refusal, shape_of}
 use Rattle.tell_english.specs.Words.{calls_itself}
