@@ -9,7 +9,7 @@ use Prim.Native.Nat.{ℕ, ◌≤◌, ◌<◌, min}
 use native.Mathlib.Omega.{arith}
 use native.Mathlib.Decide.{dec_lt}
 use lib.ListN.{get_or}
-use Rattle.paper.specs.Words.{below, first, keep, least, joined, Edges, Walk, one, more, returns}
+use Rattle.paper.specs.Words.{below, keep, least, joined, Edges, Walk, one, more, returns}
 use Rattle.paper.proofs.Walks.{returns_is}
 use Rattle.paper.specs.Numbers.{max_sites}
 use Rattle.paper.specs.Sites.{same_constraint}

@@ -1,13 +1,13 @@
 -- The whole: what is answered of the classes, and where none need be made.
-use mathlib.Core.Path.{◌≡◌, sym, ap, ◌∙◌, subst}
+use mathlib.Core.Path.{◌≡◌, sym, ◌∙◌, subst}
 use mathlib.Core.Option.{none}
 use mathlib.Core.List.{List, ◌++◌}
-use Prim.Native.Nat.{ℕ, ◌≤◌, ◌<◌, min}
-use lib.ListN.{length, get_or}
+use Prim.Native.Nat.{ℕ, ◌≤◌, ◌<◌}
+use lib.ListN.{get_or}
 use Rattle.std.specs.declared.result.Result.TheVariants.{Err, Ok}
 use Rattle.paper.specs.declared.Refusal.{Refusal}
 use Rattle.paper.specs.Answered.{Verdict}
-use Rattle.paper.specs.Numbers.{max_sites, done, refused}
+use Rattle.paper.specs.Numbers.{max_sites, refused}
 use Rattle.rule_rows.specs.Holding.{Held, how_many, holders_in, eqs_in, Inside, class_check, stray, checked, verdict_of}
 use Rattle.rule_rows.proofs.Reading.{strays_are, low_clean, clean_inside}
 use Rattle.rule_classes.specs.Meeting.{Classed, Grouped}

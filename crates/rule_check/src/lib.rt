@@ -12,7 +12,6 @@ ghost use Rattle.rule_check.specs.Search.{Path, Ready, Safe, Over, Keeps, Visite
 use paper::{Refusal, SITES};
 use rule_lists::at;
 use rule_rows::{fields, highest, kid};
-use widths::size16;
 
 // The first number that is no site; also no holder.
 const NEVER: u16 = SITES as u16;
@@ -24,10 +23,7 @@ fn over(boss: &[u16; SITES], turned: &[u8; SITES], z: usize) -> bool
     requires { z < max_sites }
     ensures { result ≡ true → Over boss.now turned.now z }
 {
-    if NEVER <= boss[z] {
-        return true;
-    }
-    turned[z] != 0
+    NEVER <= boss[z] || turned[z] != 0
 }
 
 // Whether the classes of the children of row i have all had their turn, or have no holder.
@@ -46,7 +42,7 @@ fn ready(
     let m = fields(words, i);
     for f in 0..m {
         let k = kid(kids, i, f);
-        let z = size16(classes::rep_in(p, k));
+        let z = usize::from(classes::rep_in(p, k));
         if !over(boss, turned, z) {
             return false;
         }
@@ -71,11 +67,11 @@ fn turn(
     ensures keeps { Keeps turned.old turned.new }
     ensures fact { result ≡ true → get_or turned.new (rep p.now s) 0 ≡ 0 → ⊥ }
 {
-    let z = size16(classes::rep_in(p, s));
+    let z = usize::from(classes::rep_in(p, s));
     if turned[z] != 0 {
         return true;
     }
-    let i = at(rows, size16(boss[z]));
+    let i = at(rows, usize::from(boss[z]));
     if ready(p, boss, turned, words, kids, i) {
         turned[z] = 1;
         return true;
@@ -101,9 +97,7 @@ fn turns(
     ensures fact { result ≡ 0 → (h : ℕ) → h < m → get_or turned.new (rep p.now (get_or sites.now h 0)) 0 ≡ 0 → ⊥ }
 {
     let mut left: usize = 0;
-    let mut h = m;
-    while 0 < h {
-        h -= 1;
+    for h in (0..m).rev() {
         let s = at(sites, h);
         if !turn(p, boss, turned, rows, words, kids, s) {
             left += 1;
@@ -146,7 +140,7 @@ fn visit(seen: &mut [u8; SITES], queue: &mut [u16; SITES], tail: usize, z: u16) 
     requires { (z < max_sites) × (get_or seen.old z 0 ≡ 0 → tail < max_sites) }
     ensures { Visit seen.old queue.old tail z seen.new queue.new result }
 {
-    let i = size16(z);
+    let i = usize::from(z);
     if seen[i] != 0 {
         return tail;
     }
@@ -176,11 +170,11 @@ fn visit_kids(
     ensures extends { Extends seen.old queue.old tail seen.new queue.new result }
     ensures marks { Marks (chart rows.now words.now kids.now) p.now boss.now seen.new x }
 {
-    let b = boss[size16(x)];
+    let b = boss[usize::from(x)];
     if NEVER <= b {
         return tail;
     }
-    let i = at(rows, size16(b));
+    let i = at(rows, usize::from(b));
     let m = fields(words, i);
     let mut t = tail;
     for f in 0..m {
@@ -196,9 +190,8 @@ fn wipe(seen: &mut [u8; SITES], queue: &[u16; SITES], tail: usize)
     requires { Listed seen.old queue.now tail }
     ensures { Fresh seen.new queue.now }
 {
-    for k in 0..tail {
-        let z = size16(queue[k]);
-        seen[z] = 0;
+    for z in &queue[..tail] {
+        seen[usize::from(*z)] = 0;
     }
 }
 
@@ -221,17 +214,18 @@ fn returning(
     ensures fresh_2 { Fresh seen.new queue.new }
 {
     // a class without a holder leads nowhere
-    if NEVER <= boss[size16(l)] {
+    if NEVER <= boss[usize::from(l)] {
         return false;
     }
     let mut tail = visit_kids(p, boss, rows, words, kids, l, seen, queue, 0, l);
     let mut head: usize = 0;
+    // no `for`: the queue grows as it is walked
     while head < tail {
         let x = queue[head];
         tail = visit_kids(p, boss, rows, words, kids, l, seen, queue, tail, x);
         head += 1;
     }
-    let back = seen[size16(l)] != 0;
+    let back = seen[usize::from(l)] != 0;
     wipe(seen, queue, tail);
     back
 }
@@ -259,14 +253,11 @@ fn lower(
         Searched C p.now boss.now seen.new queue.new calm.new }
     ensures lower { Lower (chart rows.now words.now kids.now) p.now boss.now best z result }
 {
-    if z == 0 {
-        return best;
-    }
-    if best <= z {
+    if z == 0 || best <= z {
         return best;
     }
     let l = classes::rep_in(p, z);
-    let i = size16(l);
+    let i = usize::from(l);
     if calm[i] != 0 {
         return best;
     }
@@ -299,9 +290,8 @@ fn lowest_of(
         LowestOf C p.now boss.now xs.now (length xs.now) best result }
 {
     let mut r = best;
-    for k in 0..xs.len() {
-        let x = xs[k];
-        r = lower(p, boss, rows, words, kids, seen, queue, calm, r, x);
+    for x in xs {
+        r = lower(p, boss, rows, words, kids, seen, queue, calm, r, *x);
     }
     r
 }
@@ -388,10 +378,7 @@ fn walks(
 fn all_sites(eqs: &[u16], sites: &[u16], kids: &[u16]) -> bool
     ensures { result ≡ true → stray (eqs.now ++ (sites.now ++ kids.now)) ≡ none }
 {
-    if NEVER <= highest(eqs) {
-        return false;
-    }
-    if NEVER <= highest(sites) {
+    if NEVER <= highest(eqs) || NEVER <= highest(sites) {
         return false;
     }
     highest(kids) < NEVER
@@ -408,14 +395,14 @@ fn ascends(eqs: &[u16], sites: &[u16], rows: &[u16], words: &[u64], kids: &[u16]
     let mut next: usize = 0;
     for h in 0..sites.len() {
         let s = at(sites, h);
-        if size16(s) < next {
+        if usize::from(s) < next {
             return false;
         }
         let i = at(rows, h);
         if !rule_rows::higher(words, kids, i, s) {
             return false;
         }
-        next = size16(s) + 1;
+        next = usize::from(s) + 1;
     }
     true
 }
@@ -426,32 +413,36 @@ fn climbs(eqs: &[u16], sites: &[u16], rows: &[u16], words: &[u64], kids: &[u16])
     ensures { let L = held sites.now rows.now words.now kids.now in
         (result ≡ true → checked eqs.now L ≡ done tt) }
 {
-    if all_sites(eqs, sites, kids) {
-        return ascends(eqs, sites, rows, words, kids);
-    }
-    false
+    all_sites(eqs, sites, kids) && ascends(eqs, sites, rows, words, kids)
 }
 
 // Both checks, by the classes.
-fn judge(eqs: &[u16], sites: &[u16], rows: &[u16], words: &[u64], kids: &[u16]) -> Result<(), Refusal>
+fn judge(
+    eqs: &[u16],
+    sites: &[u16],
+    rows: &[u16],
+    words: &[u64],
+    kids: &[u16],
+) -> Result<(), Refusal>
     ensures { let L = held sites.now rows.now words.now kids.now in
         verdict_of result ≡ checked eqs.now L }
 {
     // `group` clears both; zeros are the cheapest to make
     let mut p = [0u16; SITES];
     let mut boss = [0u16; SITES];
-    let g = rule_classes::group(&mut p, &mut boss, eqs, sites, rows, words, kids);
-    match g {
-        Err(why) => Err(why),
-        Ok(()) => {
-            let m = rule_rows::holder_count(sites);
-            walks(&p, &boss, eqs, sites, rows, words, kids, size16(m))
-        }
-    }
+    rule_classes::group(&mut p, &mut boss, eqs, sites, rows, words, kids)?;
+    let m = rule_rows::holder_count(sites);
+    walks(&p, &boss, eqs, sites, rows, words, kids, usize::from(m))
 }
 
 // Checks 4 and 6 of 01 of the written equalities and the holders, after 2 for a number that is no site.
-pub fn check(eqs: &[u16], sites: &[u16], rows: &[u16], words: &[u64], kids: &[u16]) -> Result<(), Refusal>
+pub fn check(
+    eqs: &[u16],
+    sites: &[u16],
+    rows: &[u16],
+    words: &[u64],
+    kids: &[u16],
+) -> Result<(), Refusal>
     ensures { let L = held sites.now rows.now words.now kids.now in
         verdict_of result ≡ checked eqs.now L }
 {

@@ -1,10 +1,8 @@
 -- `rule_check::ascends` meets its contract. Assumes nothing.
 use native.Mathlib.Omega.{arith}
-use lib.ListN.{length}
 use mathlib.Core.Path.{sym}
-use Prim.Native.Nat.{◌-◌}
 use Rattle.rule_rows.specs.Holding.{held}
-use Rattle.rule_check.proofs.Climbing.{ClimbsTo, climbs_none, climbs_step, climbs_done}
+use Rattle.rule_check.proofs.Climbing.{climbs_none, climbs_step, climbs_done}
 use Rattle.paper.proofs.Lists.{no_way}
 use Rattle.rule_check.proofs.ascends.Goals as goal
 
@@ -14,8 +12,8 @@ returns-then-eqs-ge2 c = λ e. no_way (sym e)
 pub loop-h-init : goal.loop-h-init
 loop-h-init c = climbs_none _ _
 
-pub returns-then-size16-next : goal.returns-then-size16-next
-returns-then-size16-next c = λ e. no_way (sym e)
+pub returns-then-from-next : goal.returns-then-from-next
+returns-then-from-next c = λ e. no_way (sym e)
 
 pub returns-then-not-higher : goal.returns-then-not-higher
 returns-then-not-higher c = λ e. no_way (sym e)
@@ -23,14 +21,8 @@ returns-then-not-higher c = λ e. no_way (sym e)
 pub overflow_add-next : goal.overflow_add-next
 overflow_add-next c = omega arith
 
-pub overflow_step-h : goal.overflow_step-h
-overflow_step-h c = omega arith
-
-pub loop-h-smaller : goal.loop-h-smaller
-loop-h-smaller c = omega arith
-
 pub loop-h-preserved : goal.loop-h-preserved
-loop-h-preserved c = climbs_step c.args.sites.now c.args.rows.now c.args.words.now c.args.kids.now _ _ _ _ _ _ _ _ c.loop-h.invariant c.loop-h-test.true c.at-s.ensures c.size16.ensures c.if-size16-next.false c.at-i.ensures c.higher.ensures c.if-not-higher.false c.size16-next.ensures
+loop-h-preserved c = climbs_step c.args.sites.now c.args.rows.now c.args.words.now c.args.kids.now _ _ _ _ _ _ _ _ c.loop-h.invariant c.loop-h-test.true c.at-s.ensures c.from.ensures c.if-from-next.false c.at-i.ensures c.higher.ensures c.if-not-higher.false c.from-next.ensures
 
 pub returns : goal.returns
 returns c = λ _. climbs_done c.args.eqs.now (held c.args.sites.now c.args.rows.now c.args.words.now c.args.kids.now) _ _ c.if-eqs-ge2.false c.loop-h.invariant c.loop-h-test.false

@@ -1,6 +1,5 @@
 -- `rule_check::check` meets its contract. Assumes nothing.
 use mathlib.Core.Path.{sym}
-use borrow.Author.Rules.{rules}
 use Rattle.rule_check.proofs.check.Goals as goal
 
 pub returns-then-climbs : goal.returns-then-climbs

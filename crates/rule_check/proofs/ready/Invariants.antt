@@ -1,16 +1,8 @@
-use native.Mathlib.Omega.{arith}
-use mathlib.Core.Path.{sym}
-use Prim.Native.Nat.{ℕ, ◌≤◌, ◌<◌, ◌-◌}
-use borrow.Author.Count.{below_more}
+use Prim.Native.Nat.{ℕ, ◌≤◌, ◌<◌}
 use Rattle.classes.specs.Answers.{rep}
 use Rattle.rule_rows.specs.Holding.{kid_in}
 use Rattle.rule_check.specs.Search.{Over}
-use Rattle.rule_check.proofs.Settling.{kid_root, ready_step}
-use Rattle.paper.proofs.Lists.{no_way}
 use Rattle.rule_check.proofs.ready.Given as goal
 
 abbrev pub invariant-loop-f : goal.invariant-loop-f
 invariant-loop-f l = (l.f ≤ l.m) × ((g : ℕ) → g < l.f → Over l.boss l.turned (rep l.p (kid_in l.kids l.i g)))
-
-abbrev pub decreases-loop-f : goal.decreases-loop-f
-decreases-loop-f l = l.m - l.f

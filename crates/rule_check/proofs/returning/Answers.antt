@@ -1,24 +1,22 @@
 -- `rule_check::returning` meets its contract. Assumes nothing.
-use Rattle.paper.specs.Numbers.{max_sites}
 use native.Mathlib.Omega.{arith}
 use mathlib.Core.Path.{refl}
 use mathlib.Core.Logic.{inl, inr}
-use Prim.Native.Nat.{◌-◌}
 use Rattle.rule_rows.specs.Holding.{chart}
-use Rattle.rule_check.proofs.Searching.{SearchTo, visited_none, visited_listed, tail_le, search_start, search_step, search_told, no_holder}
+use Rattle.rule_check.proofs.Searching.{visited_none, visited_listed, tail_le, search_start, search_step, search_told, no_holder}
 use Rattle.rule_check.proofs.returning.Goals as goal
 
-pub offset_bounds-boss-size16 : goal.offset_bounds-boss-size16
-offset_bounds-boss-size16 c = omega (arith, c.size16.ensures, c.requires.l_lt_max_sites)
+pub offset_bounds-boss-from : goal.offset_bounds-boss-from
+offset_bounds-boss-from c = omega (arith, c.from.ensures, c.requires.l_lt_max_sites)
 
-pub bounds-boss-size16 : goal.bounds-boss-size16
-bounds-boss-size16 c = omega (arith, c.size16.ensures, c.requires.l_lt_max_sites)
+pub bounds-boss-from : goal.bounds-boss-from
+bounds-boss-from c = omega (arith, c.from.ensures, c.requires.l_lt_max_sites)
 
-pub returns-then-boss-size16-ge-NEVER-clause-fact : goal.returns-then-boss-size16-ge-NEVER-clause-fact
-returns-then-boss-size16-ge-NEVER-clause-fact c = no_holder (chart c.args.rows.now c.args.words.now c.args.kids.now) _ _ _ _ c.size16.ensures c.if-boss-size16-ge-NEVER.true
+pub returns-then-boss-from-ge-NEVER-clause-fact : goal.returns-then-boss-from-ge-NEVER-clause-fact
+returns-then-boss-from-ge-NEVER-clause-fact c = no_holder (chart c.args.rows.now c.args.words.now c.args.kids.now) _ _ _ _ c.from.ensures c.if-boss-from-ge-NEVER.true
 
-pub returns-then-boss-size16-ge-NEVER-clause-fresh_2 : goal.returns-then-boss-size16-ge-NEVER-clause-fresh_2
-returns-then-boss-size16-ge-NEVER-clause-fresh_2 c = c.requires.fresh
+pub returns-then-boss-from-ge-NEVER-clause-fresh_2 : goal.returns-then-boss-from-ge-NEVER-clause-fresh_2
+returns-then-boss-from-ge-NEVER-clause-fresh_2 c = c.requires.fresh
 
 pub visit_kids-tail-requires-clause-ready : goal.visit_kids-tail-requires-clause-ready
 visit_kids-tail-requires-clause-ready c = c.requires.ready
@@ -52,8 +50,8 @@ loop-head-smaller c = let h = tail_le _ _ _ _ _ _ _ c.loop-head.invariant.visite
 pub loop-head-preserved : goal.loop-head-preserved
 loop-head-preserved c = search_step _ _ _ _ _ _ _ _ _ _ _ c.loop-head.invariant c.loop-head-test.true c.visit_kids-tail-in-loop-head.ensures.fact c.visit_kids-tail-in-loop-head.ensures.extends c.visit_kids-tail-in-loop-head.ensures.marks
 
-pub bounds-seen-size16 : goal.bounds-seen-size16
-bounds-seen-size16 c = omega (arith, c.size16-2.ensures, c.requires.l_lt_max_sites)
+pub bounds-seen-from : goal.bounds-seen-from
+bounds-seen-from c = omega (arith, c.from-2.ensures, c.requires.l_lt_max_sites)
 
 pub wipe-requires : goal.wipe-requires
 wipe-requires c = visited_listed (chart c.args.rows.now c.args.words.now c.args.kids.now) _ _ _ _ _ _ c.loop-head.invariant.visited
@@ -61,4 +59,4 @@ wipe-requires c = visited_listed (chart c.args.rows.now c.args.words.now c.args.
 pub returns : goal.returns
 returns c = let t = c.loop-head-test.false in
     let w = c.loop-head.invariant.within in
-    record { fact = search_told (chart c.args.rows.now c.args.words.now c.args.kids.now) _ _ _ c.requires.ready _ _ _ _ _ c.loop-head.invariant (omega arith) c.requires.l_lt_max_sites c.size16-2.ensures; fresh_2 = c.wipe.ensures }
+    record { fact = search_told (chart c.args.rows.now c.args.words.now c.args.kids.now) _ _ _ c.requires.ready _ _ _ _ _ c.loop-head.invariant (omega arith) c.requires.l_lt_max_sites c.from-2.ensures; fresh_2 = c.wipe.ensures }

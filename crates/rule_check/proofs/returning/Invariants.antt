@@ -1,10 +1,7 @@
 use Rattle.paper.specs.Numbers.{max_sites}
-use native.Mathlib.Omega.{arith}
-use mathlib.Core.Path.{refl}
-use mathlib.Core.Logic.{inl, inr}
 use Prim.Native.Nat.{◌-◌}
 use Rattle.rule_rows.specs.Holding.{chart}
-use Rattle.rule_check.proofs.Searching.{SearchTo, visited_none, visited_listed, tail_le, search_start, search_step, search_told, no_holder}
+use Rattle.rule_check.proofs.Searching.{SearchTo}
 use Rattle.rule_check.proofs.returning.Given as goal
 
 abbrev pub invariant-loop-head : goal.invariant-loop-head

@@ -1,12 +1,9 @@
-use native.Mathlib.Omega.{arith}
-use mathlib.Core.Path.{◌≡◌, sym}
+use mathlib.Core.Path.{◌≡◌}
 use Prim.Native.Nat.{ℕ, ◌<◌}
 use lib.ListN.{get_or}
 use Rattle.classes.specs.Answers.{rep}
 use Rattle.rule_rows.specs.Holding.{chart}
 use Rattle.rule_check.specs.Search.{Safe}
-use Rattle.rule_check.proofs.Settling.{safe_none, settled_yes}
-use Rattle.paper.proofs.Lists.{no_way}
 use Rattle.rule_check.proofs.settled.Given as goal
 
 abbrev pub invariant-loop-left : goal.invariant-loop-left

@@ -3,16 +3,12 @@ use native.Mathlib.Omega.{arith}
 use mathlib.Core.Path.{◌≡◌, refl}
 use mathlib.Core.Logic.{inl, inr}
 use Prim.Native.Nat.{◌+◌, ◌-◌}
-use borrow.Author.Tests.{not-true, not-false}
 use Rattle.rule_rows.specs.Holding.{chart}
-use Rattle.rule_check.proofs.Settling.{TurnsTo, turns_none, turns_step, turns_done}
+use Rattle.rule_check.proofs.Settling.{turns_none, turns_step, turns_done}
 use Rattle.rule_check.proofs.turns.Goals as goal
 
 pub loop-h-init : goal.loop-h-init
 loop-h-init c = turns_none (chart c.args.rows.now c.args.words.now c.args.kids.now) c.args.p.now c.args.boss.now c.args.sites.now c.args.m _ c.requires.safe
-
-pub overflow_sub-h : goal.overflow_sub-h
-overflow_sub-h c = let t = c.loop-h-test.true in omega arith
 
 pub turn-requires-clause-ready : goal.turn-requires-clause-ready
 turn-requires-clause-ready c = c.requires.ready
@@ -26,15 +22,9 @@ turn-requires-clause-safe c = c.loop-h.invariant.safe
 pub overflow_add-left : goal.overflow_add-left
 overflow_add-left c = let f = c.loop-h.invariant.few in let t = c.loop-h-test.true in omega arith
 
-pub loop-h-smaller-then-not-turn : goal.loop-h-smaller-then-not-turn
-loop-h-smaller-then-not-turn c = let t = c.loop-h-test.true in omega arith
-
 pub loop-h-preserved-then-not-turn : goal.loop-h-preserved-then-not-turn
 loop-h-preserved-then-not-turn c = let e : (c.loop-h.h - 1) + 1 ≡ c.loop-h.h = let t = c.loop-h-test.true in omega arith in
     turns_step (chart c.args.rows.now c.args.words.now c.args.kids.now) c.args.p.now c.args.boss.now c.args.sites.now c.args.m _ _ _ _ _ _ _ _ e c.at-s.ensures c.loop-h.invariant (c.turn.ensures.safe_2, (c.turn.ensures.keeps, c.turn.ensures.fact)) (inl (c.if-not-turn.true, refl))
-
-pub loop-h-smaller : goal.loop-h-smaller
-loop-h-smaller c = let t = c.loop-h-test.true in omega arith
 
 pub loop-h-preserved : goal.loop-h-preserved
 loop-h-preserved c = let e : (c.loop-h.h - 1) + 1 ≡ c.loop-h.h = let t = c.loop-h-test.true in omega arith in

@@ -1,7 +1,6 @@
 -- `rule_check::walks` meets its contract. Assumes nothing.
 use native.Mathlib.Omega.{arith}
 use Rattle.rule_check.specs.Search.{none_of, none_at, from}
-use borrow.Author.Rules.{rules}
 use Rattle.rule_check.proofs.walks.Goals as goal
 
 pub returns-then-settled : goal.returns-then-settled
