@@ -1,5 +1,5 @@
 -- Turns of the loops that read a script.
-use Rattle.std.proofs.Common.{◌≡◌, ℕ, zero, suc, ◌+◌, ◌-◌, ◌<◌, ◌≤◌, Bool, true, false, not, List, [], ◌∷◌, ◌++◌, length, get_or, take, set, sym, refl, add-one, arith, le-ltb, lt-ltb}
+use Rattle.std.proofs.Common.{◌≡◌, ℕ, zero, suc, ◌+◌, ◌<◌, ◌≤◌, Bool, true, false, not, List, [], ◌∷◌, ◌++◌, length, get_or, take, set, sym, refl, add-one, arith, le-ltb, lt-ltb}
 use Rattle.paper.specs.Text.{unended}
 use Rattle.paper.specs.Classes.{Classes}
 use Rattle.class_script.specs.Script.{stepped, call_in}
@@ -60,16 +60,16 @@ pub fed_all : (bytes : List ℕ) (i : ℕ) (s u : Standing) → IsFedTo bytes i 
 fed_all bytes i s u F a b = record { many = i; to = F; all = λ e. omega arith }
 
 -- ---- chunks
-pub read_none : (turns : ℕ) (s : Standing) → turns ≡ turns_all → ReadTo (turns_all - turns) s s
+pub read_none : (s : Standing) → ReadTo 0 s s
 unfolding ReadTo
-read_none turns s e = let z : turns_all - turns ≡ 0 = omega arith in rw z refl
+read_none s = refl
 
-pub read_more : (turns : ℕ) (s t u : Standing) → 0 < turns → turns ≤ turns_all → ReadTo (turns_all - turns) s t → t.place.goes ≡ true → Read t u → ReadTo (turns_all - (turns - 1)) s u
+pub read_more : (i : ℕ) (s t u : Standing) → ReadTo i s t → t.place.goes ≡ true → Read t u → ReadTo (i + 1) s u
 unfolding ReadTo
-read_more turns s t u a b F g R = let z : turns_all - (turns - 1) ≡ suc (turns_all - turns) = omega arith in rw z (t, F, g, R)
+read_more i s t u F g R = rw add-one (t, F, g, R)
 
-pub read_stop : (turns : ℕ) (s u : Standing) → ReadTo (turns_all - turns) s u → u.place.goes ≡ false → Ran s u
-read_stop turns s u F g = record { many = turns_all - turns; to = F; all = λ e. let z : ◌≡◌ {A = ℕ} 0 1 = cc in absurd (omega arith) }
+pub read_stop : (i : ℕ) (s u : Standing) → ReadTo i s u → u.place.goes ≡ false → Ran s u
+read_stop i s u F g = record { many = i; to = F; all = λ e. let z : ◌≡◌ {A = ℕ} 0 1 = cc in absurd (omega arith) }
 
-pub read_all : (turns : ℕ) (s u : Standing) → ReadTo (turns_all - turns) s u → turns ≤ 0 → Ran s u
-read_all turns s u F h = record { many = turns_all - turns; to = F; all = λ e. omega arith }
+pub read_all : (i : ℕ) (s u : Standing) → ReadTo i s u → i ≤ turns_all → turns_all ≤ i → Ran s u
+read_all i s u F a b = record { many = i; to = F; all = λ e. omega arith }

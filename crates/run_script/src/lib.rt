@@ -41,16 +41,7 @@ fn flush<W: io::Write>(output: &mut W, out: &[u8], n: usize) -> io::Result<()> {
 fn is_bad(r: Reply) -> bool
     ensures { result ≡ is_bad r }
 {
-    match r {
-        Reply::Merged(_) => false,
-        Reply::Found(_) => false,
-        Reply::FoundMut(_) => false,
-        Reply::Compared(_) => false,
-        Reply::Removed(_) => false,
-        Reply::Length(_) => false,
-        Reply::Emptiness(_) => false,
-        Reply::Bad => true,
-    }
+    matches!(r, Reply::Bad)
 }
 
 fn reply_to(
@@ -141,12 +132,11 @@ fn keep(line: &mut [u8], used: usize, b: u8) -> usize
 fn hold(line: &mut [u8], p: Place, b: u8) -> Place
     ensures { Held line.old line.new b p result }
 {
-    let next = keep(line, p.used, b);
+    let used = keep(line, p.used, b);
     Place {
-        used: next,
-        line: p.line,
-        filled: p.filled,
+        used,
         goes: true,
+        ..p
     }
 }
 
@@ -207,15 +197,11 @@ fn feed<W: io::Write>(
         OnErr result ((q : Place) × FedCut bytes.now from (to q)) }
 {
     let mut q = p;
-    let mut i: usize = 0;
-    while i < bytes.len() {
+    for &b in bytes {
         if !q.goes {
             return Ok(q);
         }
-        q = take(
-            output, parents, ranks, count, members, line, out, q, bytes[i],
-        )?;
-        i += 1;
+        q = take(output, parents, ranks, count, members, line, out, q, b)?;
     }
     Ok(q)
 }
@@ -246,12 +232,7 @@ fn read_some<R: io::Read, W: io::Write>(
 {
     let n = input.read(bytes)?;
     if n == 0 {
-        return Ok(Place {
-            used: p.used,
-            line: p.line,
-            filled: p.filled,
-            goes: false,
-        });
+        return Ok(Place { goes: false, ..p });
     }
     feed(
         output,
@@ -266,7 +247,7 @@ fn read_some<R: io::Read, W: io::Write>(
     )
 }
 
-// A proved loop has to end, and nothing says that the input does: the turns count down from a number that no run uses up.
+// A proved loop has to end, and nothing says that the input does: no run uses up as many turns.
 fn run_all<R: io::Read, W: io::Write>(
     input: &mut R,
     output: &mut W,
@@ -291,15 +272,13 @@ fn run_all<R: io::Read, W: io::Write>(
         OnErr result ((q : Place) × Stopped from (to q)) }
 {
     let mut q = p;
-    let mut turns = u64::MAX;
-    while turns > 0 {
+    for _ in 0..u64::MAX {
         if !q.goes {
             return Ok(q);
         }
         q = read_some(
             input, output, parents, ranks, count, members, line, out, bytes, q,
         )?;
-        turns -= 1;
     }
     Ok(q)
 }
