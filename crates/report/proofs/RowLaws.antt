@@ -6,7 +6,7 @@ use Prim.Native.Nat.{ℕ, zero, suc, ◌+◌, ◌-◌, ◌*◌, ◌/◌, ◌%◌
 use native.Mathlib.Omega.{arith}
 use native.Mathlib.Numerals.{add-one, unary_clauses}
 use native.Mathlib.Decide.{ℕ_discrete}
-use lib.ListN.{length, get_or, set, replicate, length-set, length-replicate}
+use lib.ListN.{length, get_or, set, length-set, length-replicate}
 use lib.Seq.{get_or-set_same, get_or-set_other}
 use lib.Bits.{bit_and, and_block, and_zero_l}
 use lib.Count.{ones, ones_cat}
@@ -17,16 +17,17 @@ use borrow.Author.Tests.{eq-eqb, ne_eqb, eqb-true, lt-ltb, le-ltb}
 use Rattle.paper.specs.Numbers.{max_rules}
 use Rattle.std.specs.Prelude.{if◌then◌else◌}
 use Rattle.paper.specs.Words.{flag}
-use Rattle.report.specs.Rows.{place_in, named, bits, bit_at, filled, degree_of, better_of, busiest_of, cleared, take_from}
+use Rattle.report.specs.Rows.{bits, bit_at, filled, filled_with, degree_of, better_of, busiest_of, cleared, take_from}
 
 -- ---- arrays
-pub filled_none : (f : ℕ → ℕ) → replicate max_rules 0 ≡ filled f 0
-unfolding filled
-filled_none f = refl
+pub filled_more : {A : Type 0} (z : A) (f : ℕ → A) (k : ℕ) (xs : List A) (v : A) → xs ≡ filled_with z f k → v ≡ f k → set xs k v ≡ filled_with z f (k + 1)
+unfolding filled_with
+filled_more z f k xs v e g = rw (add-one, e, g)
 
-pub filled_next : (f : ℕ → ℕ) (k : ℕ) (xs : List ℕ) (v : ℕ) → xs ≡ filled f k → v ≡ f k → set xs k v ≡ filled f (k + 1)
-unfolding filled
-filled_next f k xs v e g = rw (add-one, e, g)
+pub filled_is : (f : ℕ → ℕ) (k : ℕ) → filled_with 0 f k ≡ filled f k
+unfolding filled filled_with
+filled_is f zero = refl
+filled_is f (suc k) = rw (filled_is f k)
 
 pub filled_length : (f : ℕ → ℕ) (k : ℕ) → length (filled f k) ≡ max_rules
 unfolding filled
@@ -216,10 +217,6 @@ module _ (rows : List ℕ) (left : ℕ) where
   unfolding busiest_of
   busiest_small zero m h l = l
   busiest_small (suc k) m h l = better_one (busiest_of rows left k) k m (busiest_small k m (omega arith) l) (omega arith)
-
-pub named_so : (ws os : List ℕ) (q i p : ℕ) → i ≡ get_or os q 0 → p ≡ place_in ws i → p ≡ named ws os q
-unfolding named
-named_so ws os q i p e f = f ∙ ap (place_in ws) e
 
 pub busiest_fits : (rows : List ℕ) (left best k r : ℕ) → best ≡ busiest_of rows left k → r ≡ better_of rows left best k → k < 64 → r < 64
 busiest_fits rows left best k r e f h = rw (busiest_next rows left best k r e f) (busiest_small rows left (k + 1) 64 (omega arith) (omega arith))

@@ -20,6 +20,11 @@ unfoldable pub filled : (ℕ → ℕ) → ℕ → List ℕ
 filled f zero = replicate max_rules 0
 filled f (suc k) = set (filled f k) k (f k)
 
+-- the same of any numbers or words, with what stands after
+unfoldable pub filled_with : {A : Type 0} → A → (ℕ → A) → ℕ → List A
+filled_with z f zero = replicate max_rules z
+filled_with z f (suc k) = set (filled_with z f k) k (f k)
+
 unfoldable pub place_in : List ℕ → ℕ → ℕ
 place_in ws i = place_at ws (base i)
 
