@@ -41,7 +41,6 @@ use Rattle.sheet_ended.proofs.Holds.{holds_more}
 use Rattle.report.specs.Lines.{report_text, report_room, reported}
 use Rattle.report.specs.Lines as lines
 use Rattle.report.specs.Reported.{Reported}
-use Rattle.report.specs.declared.Unreported.TheVariants as reported-is
 use Rattle.report.proofs.ListLaws.{map_map}
 use Rattle.report.proofs.ReportLaws.{room_enough}
 use Rattle.sheet_lines.specs.Fed.{after_line}

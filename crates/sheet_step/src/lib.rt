@@ -7,27 +7,17 @@ ghost use Rattle.paper.specs.Sheets as paper;
 ghost use Rattle.sheet_reader.specs.State.{lent, Tells, Ready, step_room};
 ghost use Rattle.sheet_reader.specs.Answers.{Acts, Stepping};
 ghost use Rattle.sheet_reader.specs.Leaves.{after};
-ghost use Rattle.sheet_step.specs.Parts.{count_of, report_end, report_after};
+ghost use Rattle.sheet_step.specs.Parts.{report_end, report_after};
 ghost use Rattle.sheet_step.specs.Leaves.{end_in, numbered_in, step_in};
 
 use paper::{Refusal, TERMS};
-use report::{Unreported, report};
+use report::report;
 use sheet_ended::{add_edges, with_set};
 use sheet_frames::{Frame, read_line};
 use sheet_reader::{Awaited, Event, LAST_LINE, Reader, STEP_ROOM, Stands, Stepped, rule_set, stop};
 use sheet_rule::{item_frame, rule_frame};
 use sheet_sites::{begin_frame, site_line};
 use term_table::WORDS;
-
-fn count_of(r: Result<u32, Unreported>) -> usize
-    ensures { (result ≡ count_of r) × (result < 4294967296) }
-{
-    match r {
-        Ok(n) => n as usize,
-        Err(Unreported::TooManyRules(_)) => 0,
-        Err(Unreported::NoRoom) => 0,
-    }
-}
 
 // The report of the first n rules, from `at` on: its end.
 fn report_at(words: &[u64], n: u32, flags: u8, room: &mut [u8], at: usize) -> usize
@@ -36,7 +26,7 @@ fn report_at(words: &[u64], n: u32, flags: u8, room: &mut [u8], at: usize) -> us
         (room.new ≡ report_after words.now n flags room.old at) }
 {
     let done = report(words, n, flags, &mut room[at..]);
-    at + count_of(done)
+    at + done.unwrap_or(0) as usize
 }
 
 // 06: the report; the set's edges go to the term table.
@@ -59,22 +49,20 @@ fn end_frame(
         Tells r k p → Acts r k k' room.old room.new at p end_set result }
 {
     let line = r.line;
-    let stands = r.stands;
-    let Some(set) = rule_set(stands) else {
+    let Some(set) = rule_set(r.stands) else {
         return stop(r, Refusal::Layout { line }, room, at);
     };
     let to = report_at(words, set.rules, set.flags, room, at);
     add_edges(table, set.term, m, set.sites);
-    let before = r.ended;
-    let ended = with_set(before, set.term, set.flags, set.rules);
+    let ended = with_set(r.ended, set.term, set.flags, set.rules);
     Stepped {
         reader: Reader {
             line: line + 1,
             stands: Stands::Outside,
-            ended: ended,
+            ended,
         },
         event: Event::Ended,
-        to: to,
+        to,
     }
 }
 
@@ -102,12 +90,9 @@ fn take_line(
         return stop(r, Refusal::Layout { line }, room, at);
     }
     let got = read_line(text);
-    let frame = got.frame;
-    let length = got.length;
-    let bytes = got.bytes;
-    match frame {
+    match got.frame {
         Frame::Begin { term, flags } => begin_frame(r, term, flags, room, at),
-        Frame::Site => site_line(r, &bytes[..length], m, room, at),
+        Frame::Site => site_line(r, &got.bytes[..got.length], m, room, at),
         Frame::Rule {
             place,
             priority,
@@ -144,14 +129,7 @@ pub fn step(
         let k' = lent m.new words.new items.new table.new in
         Stepping r k k' room.old room.new at text.now result }
 {
-    if room.len() < STEP_ROOM {
-        return Stepped {
-            reader: r,
-            event: Event::NoRoom,
-            to: at,
-        };
-    }
-    if room.len() - STEP_ROOM < at {
+    if room.len().saturating_sub(at) < STEP_ROOM {
         return Stepped {
             reader: r,
             event: Event::NoRoom,

@@ -11,9 +11,6 @@ returns-then-line-gt-LAST_LINE-clause-room_after c = leaves_late c.args.r _ _ _ 
 pub returns-then-line-gt-LAST_LINE-clause-fact : goal.returns-then-line-gt-LAST_LINE-clause-fact
 returns-then-line-gt-LAST_LINE-clause-fact c = step_late c.args.r _ _ _ _ _ _ (omega arith) (stop_stops _ _ _ _ _ _ c.requires c.stop.ensures) c.if-line-gt-LAST_LINE.true
 
-pub slice_bounds-bytes-end : goal.slice_bounds-bytes-end
-slice_bounds-bytes-end c = prefix_fits _ _ c.read_line-got.ensures
-
 pub slice_bounds-site_line-end : goal.slice_bounds-site_line-end
 slice_bounds-site_line-end c = prefix_long _ _ c.read_line-got.ensures
 
