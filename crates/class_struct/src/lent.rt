@@ -6,9 +6,9 @@ ghost use Rattle.classes.specs.Answers.{looked, sought, joined, taken};
 ghost use Rattle.class_struct.specs.Fields.{of};
 ghost use Rattle.class_struct.specs.Turns.{turns};
 
-use paper::Refusal;
 use crate::Classes;
-use classes::{Untaken, Trail};
+use classes::{Trail, Untaken};
+use paper::Refusal;
 
 pub fn find(c: &Classes, x: u16) -> Result<Trail, Refusal>
     ensures { result ≡ looked (C.find (of c.now) x) }

@@ -7,7 +7,7 @@ ghost use Rattle.paper.specs.Classes as C;
 ghost use Rattle.classes.specs.Answers.{looked, sought, joined, same, taken};
 ghost use Rattle.class_struct.specs.Fields.{of};
 
-use classes::{NEVER, Untaken, Trail};
+use classes::{NEVER, Trail, Untaken};
 use paper::{Refusal, SITES};
 
 pub mod lent;
@@ -62,21 +62,11 @@ pub fn find_mut(mut c: Classes, x: u16) -> AfterFind
     AfterFind { classes: c, answer }
 }
 
-pub fn merge(c: Classes, x: u16, y: u16) -> AfterMerge
+pub fn merge(mut c: Classes, x: u16, y: u16) -> AfterMerge
     ensures { (of result.classes, result.answer) ≡ joined (of c) x y }
 {
-    let mut parents = c.parents;
-    let mut ranks = c.ranks;
-    let mut count = c.count;
-    let answer = classes::merge_in(&mut parents, &mut ranks, &mut count, x, y);
-    AfterMerge {
-        classes: Classes {
-            parents,
-            ranks,
-            count,
-        },
-        answer,
-    }
+    let answer = classes::merge_in(&mut c.parents, &mut c.ranks, &mut c.count, x, y);
+    AfterMerge { classes: c, answer }
 }
 
 pub fn in_same_set(c: Classes, x: u16, y: u16) -> Result<bool, Refusal>
@@ -85,20 +75,13 @@ pub fn in_same_set(c: Classes, x: u16, y: u16) -> Result<bool, Refusal>
     classes::in_same_set_in(&c.parents, x, y)
 }
 
-pub fn remove_set_of(c: Classes, x: u16) -> AfterRemove
+pub fn remove_set_of(mut c: Classes, x: u16) -> AfterRemove
     ensures { (of result.classes, result.members, result.answer) ≡ taken (of c) (replicate max_sites 0) x }
 {
-    let mut parents = c.parents;
-    let ranks = c.ranks;
-    let mut count = c.count;
     let mut members = [0u16; SITES];
-    let answer = class_removal::remove_set_of_in(&mut parents, &mut count, x, &mut members);
+    let answer = class_removal::remove_set_of_in(&mut c.parents, &mut c.count, x, &mut members);
     AfterRemove {
-        classes: Classes {
-            parents,
-            ranks,
-            count,
-        },
+        classes: c,
         members,
         answer,
     }

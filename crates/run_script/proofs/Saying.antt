@@ -1,5 +1,5 @@
 -- Turns of the loops that read a script.
-use Rattle.std.proofs.Common.{◌≡◌, ℕ, zero, suc, ◌+◌, ◌<◌, ◌≤◌, Bool, true, false, not, List, [], ◌∷◌, ◌++◌, length, get_or, take, set, sym, refl, add-one, arith, le-ltb, lt-ltb}
+use Rattle.std.proofs.Common.{◌≡◌, ℕ, zero, suc, ◌+◌, ◌<◌, ◌≤◌, Bool, true, false, not, List, [], ◌∷◌, ◌++◌, length, get_or, take, sym, refl, add-one, arith, le-ltb, lt-ltb}
 use Rattle.paper.specs.Text.{unended}
 use Rattle.paper.specs.Classes.{Classes}
 use Rattle.class_script.specs.Script.{stepped, call_in}
@@ -7,7 +7,7 @@ use Rattle.class_script.specs.declared.Reply.{Reply}
 use Rattle.class_script.specs.declared.Reply.TheVariants as reply
 use Rattle.tell_text.specs.Written.{Room, wrote, nothing}
 use Rattle.tell_text.specs.Decimal.{decimal}
-use Rattle.run_script.specs.Said.{lf, replied, full, spared, line_room, kept_line, kept_used, unended_text, Standing, Took, IsFedTo, Fed, turns_all, Read, ReadTo, Ran}
+use Rattle.run_script.specs.Said.{lf, replied, unended_text, Standing, Took, IsFedTo, Read, ReadTo}
 
 -- ---- a line
 pub replied_long : (c : Classes) (ms line : List ℕ) (used : ℕ) → length line < used → ◌≡◌ {A = Classes × List ℕ × Reply} (c, ms, reply.Bad) (replied c ms line used)
@@ -17,12 +17,6 @@ replied_long c ms line used h = rw (lt-ltb (length line) used h)
 pub replied_call : (c : Classes) (ms line : List ℕ) (used : ℕ) (x : Classes × List ℕ × Reply) → used ≤ length line → x ≡ stepped c ms (call_in (take used line)) → x ≡ replied c ms line used
 unfolding replied
 replied_call c ms line used x h e = rw (le-ltb (length line) used h) e
-
-pub spared_out : (n : ℕ) → full < n → 0 ≡ spared n
-spared_out n h = rw (lt-ltb full n h)
-
-pub spared_on : (n : ℕ) → n ≤ full → n ≡ spared n
-spared_on n h = rw (le-ltb full n h)
 
 pub unended_none : (p : Room) (used line : ℕ) → used ≡ 0 → p ≡ wrote p (unended_text used line)
 unfolding unended_text
@@ -35,12 +29,6 @@ unended_some p q zero line d e = absurd (d refl)
 unended_some p q (suc n) line d e = e
 
 -- ---- bytes
-pub keep_on : (line : List ℕ) (used b : ℕ) → used < length line → (set line used b ≡ kept_line line used b) × (used + 1 ≡ kept_used line used)
-keep_on line used b h = let e = lt-ltb used (length line) h in (rw e, rw e)
-
-pub keep_past : (line : List ℕ) (used b : ℕ) → length line ≤ used → (line ≡ kept_line line used b) × (suc line_room ≡ kept_used line used)
-keep_past line used b h = let e = le-ltb used (length line) h in (rw e, rw e)
-
 pub goes : (b : Bool) → not b ≡ false → b ≡ true
 goes true e = refl
 goes false e = sym e
@@ -53,12 +41,6 @@ pub fed_more : (bytes : List ℕ) (i : ℕ) (s t u : Standing) → IsFedTo bytes
 unfolding IsFedTo
 fed_more bytes i s t u F g T = rw add-one (t, F, g, T)
 
-pub fed_stop : (bytes : List ℕ) (i : ℕ) (s u : Standing) → IsFedTo bytes i s u → u.place.goes ≡ false → Fed bytes s u
-fed_stop bytes i s u F g = record { many = i; to = F; all = λ e. let z : ◌≡◌ {A = ℕ} 0 1 = cc in absurd (omega arith) }
-
-pub fed_all : (bytes : List ℕ) (i : ℕ) (s u : Standing) → IsFedTo bytes i s u → i ≤ length bytes → length bytes ≤ i → Fed bytes s u
-fed_all bytes i s u F a b = record { many = i; to = F; all = λ e. omega arith }
-
 -- ---- chunks
 pub read_none : (s : Standing) → ReadTo 0 s s
 unfolding ReadTo
@@ -67,9 +49,3 @@ read_none s = refl
 pub read_more : (i : ℕ) (s t u : Standing) → ReadTo i s t → t.place.goes ≡ true → Read t u → ReadTo (i + 1) s u
 unfolding ReadTo
 read_more i s t u F g R = rw add-one (t, F, g, R)
-
-pub read_stop : (i : ℕ) (s u : Standing) → ReadTo i s u → u.place.goes ≡ false → Ran s u
-read_stop i s u F g = record { many = i; to = F; all = λ e. let z : ◌≡◌ {A = ℕ} 0 1 = cc in absurd (omega arith) }
-
-pub read_all : (i : ℕ) (s u : Standing) → ReadTo i s u → i ≤ turns_all → turns_all ≤ i → Ran s u
-read_all i s u F a b = record { many = i; to = F; all = λ e. omega arith }
