@@ -264,23 +264,3 @@ pub record WipedTo (seen queue : List ℕ) (tail i : ℕ) : Type 0 where
 
 pub wiped_none : (seen queue : List ℕ) (tail : ℕ) → Listed seen queue tail → WipedTo seen queue tail 0
 wiped_none seen queue tail L = record { seen_long = L.seen_long; found = λ z h n. let w = L.found z h n in (w.0, omega arith, w.1, w.2) }
-
-pub wiped_step : (seen queue : List ℕ) (tail i z : ℕ) → z ≡ get_or queue i 0 → z < max_sites → WipedTo seen queue tail i → WipedTo (set seen z 0) queue tail (i + 1)
-wiped_step seen queue tail i z e hz W = record { seen_long = length-set seen z 0 ∙ W.seen_long; found = λ y h n. by y h n (ℕ_discrete y z) }
-  where
-    later : (y : ℕ) → (y ≡ z → ⊥) → (k : ℕ) → i ≤ k → get_or queue k 0 ≡ y → Dec (k ≡ i) → i + 1 ≤ k
-    later y d k a b (yes q) = absurd (d (sym b ∙ (ap (λ (u : ℕ). get_or queue u 0) q ∙ sym e)))
-    later y d k a b (no q) = omega arith
-
-    by : (y : ℕ) → y < max_sites → (get_or (set seen z 0) y 0 ≡ 0 → ⊥) → Dec (y ≡ z) → (k : ℕ) × (i + 1 ≤ k) × (k < tail) × (get_or queue k 0 ≡ y)
-    by y h n (yes q) = absurd (n (ap (λ (k : ℕ). get_or (set seen z 0) k 0) q ∙ get_or-set_same seen z 0 0 (let g = W.seen_long in omega arith)))
-    by y h n (no d) =
-        let w = W.found y h (λ o. n (get_or-set_other seen z y 0 0 d ∙ o)) in
-        (w.0, later y d w.0 w.1 w.3 (ℕ_discrete w.0 i), w.2, w.3)
-
-pub wiped_done : (seen queue : List ℕ) (tail i : ℕ) → i ≡ tail → length queue ≡ max_sites → WipedTo seen queue tail i → Fresh seen queue
-wiped_done seen queue tail i e q W = record { seen_long = W.seen_long; queue_long = q; clean = λ z h. by z h (ℕ_discrete (get_or seen z 0) 0) }
-  where
-    by : (z : ℕ) → z < max_sites → Dec (get_or seen z 0 ≡ 0) → get_or seen z 0 ≡ 0
-    by z h (yes o) = o
-    by z h (no n) = let w = W.found z h n in let a = w.1 in let b = w.2 in absurd (omega arith)

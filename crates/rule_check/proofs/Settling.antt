@@ -1,6 +1,6 @@
 -- A class gets its turn after the classes of its children: then no walk from it returns.
 use mathlib.Core.Path.{◌≡◌, sym, ap, ◌∙◌, subst}
-use mathlib.Core.Bool.{Bool, true, false, not}
+use mathlib.Core.Bool.{Bool, true, false}
 use mathlib.Core.Logic.{◌⊎◌, inl, inr}
 use mathlib.Core.List.{List}
 use Prim.Native.Nat.{ℕ, ◌+◌, ◌≤◌, ◌<◌}
@@ -8,8 +8,6 @@ use native.Mathlib.Omega.{arith}
 use native.Mathlib.Decide.{ℕ_discrete}
 use lib.ListN.{get_or, set, length-set, replicate, length-replicate, get_or-replicate}
 use lib.Seq.{get_or-set_same, get_or-set_other}
-use lib.Dec.{eqb}
-use borrow.Author.Tests.{eq-eqb}
 use Rattle.paper.specs.Numbers.{max_sites}
 use Rattle.paper.proofs.Lists.{no_way}
 use Rattle.classes.specs.Answers.{rep}
@@ -25,12 +23,6 @@ pub kid_root : (p kids : List ℕ) → Ready p kids → (i f k w z : ℕ) → k 
 kid_root p kids Q i f k w z ek ew ez = rep_inside p kids Q k w z (rw ek (kid_inside kids i f Q.inside)) ew ez
 
 -- ---- over
-
-pub over_yes : (boss turned : List ℕ) (z : ℕ) → max_sites ≤ get_or boss z 0 → true ≡ true → Over boss turned z
-over_yes boss turned z h _ g = absurd (omega arith)
-
-pub over_told : (boss turned : List ℕ) (z : ℕ) → not (eqb (get_or turned z 0) 0) ≡ true → Over boss turned z
-over_told boss turned z e _ o = no_way (sym e ∙ ap not (eq-eqb (get_or turned z 0) 0 o))
 
 -- ---- ready
 
@@ -148,9 +140,6 @@ module _ (H : Held) (p boss sites : List ℕ) (m : ℕ) where
     none = λ z h t. absurd (t (get_or-replicate {A = ℕ} max_sites z 0 0 h));
     beyond = λ z y h t. absurd (t (get_or-replicate {A = ℕ} max_sites z 0 0 h));
   }
-
-  pub settled_no : (h : ℕ) → false ≡ true → h < m → Path H p boss (rep p (get_or sites h 0)) (rep p (get_or sites h 0)) → ⊥
-  settled_no h e = no_way (sym e)
 
   pub settled_yes : (turned : List ℕ) → Reps p → Inside sites → Safe H p boss turned → ((g : ℕ) → g < m → get_or turned (rep p (get_or sites g 0)) 0 ≡ 0 → ⊥)
       → (h : ℕ) → h < m → Path H p boss (rep p (get_or sites h 0)) (rep p (get_or sites h 0)) → ⊥
