@@ -13,7 +13,6 @@ use paper::{CONSTRAINED, EQUALS, RULES};
 use rule_words::STRIDE;
 use std::io::{self, Read};
 use tell_plan::{put_check, put_plan};
-use widths::word8;
 
 // So much of the input is read.
 const TEXT: u64 = 65536;
@@ -29,7 +28,7 @@ const PROPOSED: usize = 2 * RULES;
 // Room for any plan: a line for each rule, or for each pair.
 const PLAN_ROOM: usize = 28 * RULES * RULES;
 
-#[derive(Clone, Copy)]
+#[derive(Clone, Copy, Default)]
 struct State {
     value: u64,
     a: u64,
@@ -42,48 +41,19 @@ struct State {
     proposed: usize,
 }
 
-fn begin() -> State {
-    State {
-        value: 0,
-        a: 0,
-        b: 0,
-        c: 0,
-        d: 0,
-        sites: 0,
-        equal: 0,
-        rules: 0,
-        proposed: 0,
+// A digit's value.
+fn digit(x: u8) -> Option<u64> {
+    match x {
+        b'0'..=b'9' => Some(u64::from(x - 48)),
+        b'A'..=b'F' => Some(u64::from(x - 55)),
+        _ => None,
     }
-}
-
-// A digit's value, 16 where it is none.
-fn digit(x: u8) -> u64 {
-    if x < 48 {
-        return 16;
-    }
-    if x < 58 {
-        return word8(x - 48);
-    }
-    if x < 65 {
-        return 16;
-    }
-    if x < 71 {
-        return word8(x - 55);
-    }
-    16
 }
 
 fn with_digit(s: State, v: u64) -> State {
     State {
         value: ((s.value % 1152921504606846976) * 16).wrapping_add(v),
-        a: s.a,
-        b: s.b,
-        c: s.c,
-        d: s.d,
-        sites: s.sites,
-        equal: s.equal,
-        rules: s.rules,
-        proposed: s.proposed,
+        ..s
     }
 }
 
@@ -95,37 +65,29 @@ fn pushed(s: State) -> State {
         b: s.c,
         c: s.d,
         d: s.value,
-        sites: s.sites,
-        equal: s.equal,
-        rules: s.rules,
-        proposed: s.proposed,
+        ..s
     }
 }
 
 fn with_counts(s: State, sites: usize, equal: usize, rules: u32) -> State {
     State {
         value: 0,
-        a: s.a,
-        b: s.b,
-        c: s.c,
-        d: s.d,
-        sites: sites,
-        equal: equal,
-        rules: rules,
-        proposed: s.proposed,
+        sites,
+        equal,
+        rules,
+        ..s
     }
 }
 
-fn put16(xs: &mut [u16], k: usize, v: u64) {
-    if k < xs.len() {
-        xs[k] = (v % 65536) as u16;
-    }
-}
-
-fn put64(xs: &mut [u64], k: usize, v: u64) {
+// Stores v at k; past the end there is nothing to store it in.
+fn put<T: Copy>(xs: &mut [T], k: usize, v: T) {
     if k < xs.len() {
         xs[k] = v;
     }
+}
+
+fn low16(v: u64) -> u16 {
+    (v % 65536) as u16
 }
 
 fn low32(v: u64) -> u32 {
@@ -137,10 +99,10 @@ fn constrained(s: State, sites: &mut [u16], shapes: &mut [u64]) -> State {
     if n > CONSTRAINED {
         return s;
     }
-    put16(sites, n, s.a);
-    put64(shapes, 3 * n, s.b);
-    put64(shapes, 3 * n + 1, s.c);
-    put64(shapes, 3 * n + 2, s.d);
+    put(sites, n, low16(s.a));
+    put(shapes, 3 * n, s.b);
+    put(shapes, 3 * n + 1, s.c);
+    put(shapes, 3 * n + 2, s.d);
     with_counts(s, n + 1, s.equal, s.rules)
 }
 
@@ -149,8 +111,8 @@ fn equals(s: State, equal: &mut [u16], low: &mut [u16]) -> State {
     if n > EQUALS {
         return s;
     }
-    put16(equal, n, s.c);
-    put16(low, n, s.d);
+    put(equal, n, low16(s.c));
+    put(low, n, low16(s.d));
     with_counts(s, s.sites, n + 1, s.rules)
 }
 
@@ -165,13 +127,7 @@ fn keep(
     let n = s.sites;
     let m = s.equal;
     let i = s.rules;
-    if n > sites.len() {
-        return s;
-    }
-    if m > equal.len() {
-        return s;
-    }
-    if i >= 64 {
+    if n > sites.len() || m > equal.len() || i >= 64 {
         return s;
     }
     if rule_words::write(
@@ -192,14 +148,8 @@ fn keep(
 fn with_proposed(s: State, proposed: usize) -> State {
     State {
         value: 0,
-        a: s.a,
-        b: s.b,
-        c: s.c,
-        d: s.d,
-        sites: s.sites,
-        equal: s.equal,
-        rules: s.rules,
-        proposed: proposed,
+        proposed,
+        ..s
     }
 }
 
@@ -208,15 +158,15 @@ fn propose(s: State, priorities: &mut [u64]) -> State {
     if n >= priorities.len() {
         return s;
     }
-    put64(priorities, n, s.d);
+    put(priorities, n, s.d);
     with_proposed(s, n + 1)
 }
 
 fn show<W: io::Write>(output: &mut W, room: &[u8], k: usize) -> io::Result<()> {
-    if room.len() < k {
-        return Ok(());
+    match room.get(..k) {
+        Some(text) => output.write_all(text),
+        None => Ok(()),
     }
-    output.write_all(&room[..k])
 }
 
 fn planned<W: io::Write>(
@@ -236,19 +186,10 @@ fn checked<W: io::Write>(
     priorities: &[u64],
     room: &mut [u8],
 ) -> io::Result<()> {
-    let n = s.proposed;
-    if n > priorities.len() {
+    let Some(proposal) = priorities.get(..s.proposed) else {
         return Ok(());
-    }
-    let k = put_check(
-        room,
-        0,
-        0,
-        words,
-        s.rules,
-        (s.d % 256) as u8,
-        &priorities[..n],
-    );
+    };
+    let k = put_check(room, 0, 0, words, s.rules, (s.d % 256) as u8, proposal);
     show(output, room, k)
 }
 
@@ -264,8 +205,7 @@ fn step<W: io::Write>(
     priorities: &mut [u64],
     room: &mut [u8],
 ) -> io::Result<State> {
-    let v = digit(x);
-    if v < 16 {
+    if let Some(v) = digit(x) {
         return Ok(with_digit(s, v));
     }
     match x {
@@ -298,7 +238,7 @@ fn run<W: io::Write>(
     priorities: &mut [u64],
     room: &mut [u8],
 ) -> io::Result<()> {
-    let mut s = begin();
+    let mut s = State::default();
     for x in text {
         s = step(
             output, s, *x, words, sites, shapes, equal, low, priorities, room,
