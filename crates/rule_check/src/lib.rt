@@ -13,7 +13,8 @@ use paper::{Refusal, SITES};
 use rule_lists::at;
 use rule_rows::{fields, highest, kid};
 
-// The first number that is no site; also no holder.
+// The first number that is no site; also no holder, as the contract of `rule_classes::group` has it. No Option for a lowest site, which is no plainer:
+// NEVER is above all sites, so that one comparison keeps the lower of two.
 const NEVER: u16 = SITES as u16;
 
 // ---- turns

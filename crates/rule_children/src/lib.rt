@@ -103,7 +103,7 @@ pub fn word_in(m: &[u8], i: u16) -> u64
     }
 }
 
-// The word of the site that a word of the tail is read as.
+// The word of the site that a word of the tail is read as. Kinds stay numbers: `Spelt` and `site_of_word` hold them.
 fn tail_word(w: u64) -> u64
     ensures { Spelt (site_of_word w) result }
 {
@@ -136,6 +136,7 @@ pub fn word_of(m: &[u8], n: u16, tail: &[u64], x: u16) -> u64
 }
 
 // Of the `count` words that start at `first` and differ in the field, which w is; `count` where it is none.
+// No Option, which is no plainer: a word that is no child's and a field past the last are one case to `note`.
 fn field_of(w: u64, first: u64, count: usize) -> usize
     ensures { Field w first count result }
 {
@@ -277,6 +278,7 @@ fn place(
     numbers
 }
 
+// No `From`, which is no plainer: the name says what the call does.
 fn refuse(r: Refusal) -> Children
     ensures { result ≡ refused_as r }
 {

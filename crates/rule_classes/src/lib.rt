@@ -16,7 +16,7 @@ use paper::{Refusal, SITES};
 use rule_lists::at;
 use rule_rows::{alike, fields, first_stray, kid};
 
-// The parent of a site that was never joined; also no holder.
+// The parent of a site that was never joined; also no holder, as `group`'s contract has it in `boss`.
 const NEVER: u16 = SITES as u16;
 
 // ---- joining

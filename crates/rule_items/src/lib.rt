@@ -27,6 +27,7 @@ pub struct Progress {
     pub answer: Result<(), Refusal>,
 }
 
+// No `From`, which is no plainer: the name says what the call does.
 fn refuse(why: Refusal) -> Progress
     ensures { result.answer ≡ Err why }
 {
