@@ -17,7 +17,7 @@ use Rattle.paper.specs.declared.Item.{Item}
 use Rattle.paper.specs.Words.{below, first}
 use Rattle.paper.specs.Numbers.{max_sites, max_fields, max_items, max_equal, most_rounds, Outcome, done, refused, ◌>>=◌}
 use Rattle.paper.specs.Sites.{child_count, child_number}
-use Rattle.paper.specs.Loading.{Loading, Labels, Solving, Holder, holder, holders, closure, conflict, check_4, steps, endless, no_endless, rounds, started}
+use Rattle.paper.specs.Loading.{Loading, Solving, Holder, holder, holders, closure, conflict, check_4, steps, endless, no_endless, rounds, started}
 use Rattle.paper.proofs.Closure.{of_below}
 use Rattle.paper.proofs.Tables.{Rising}
 use Rattle.sites.specs.Slots.{sites_in}
@@ -31,8 +31,8 @@ use Rattle.rule_items.specs.declared.Progress.{Progress}
 use Rattle.rule_hanging.specs.Seen.{shown}
 use Rattle.rule_items.specs.Shown.{Shown, roomy, items_in, Told}
 use Rattle.rule_rounds.specs.declared.Solved.{Solved}
-use Rattle.rule_rounds.specs.Rounding.{Proper, Listed, Rounds, solved}
-use Rattle.rule_load.specs.Parts.{worked, Lent, Left, SameTo}
+use Rattle.rule_rounds.specs.Rounding.{Proper, Rounds, solved}
+use Rattle.rule_load.specs.Parts.{worked, Lent, Left}
 use Rattle.rule_load.proofs.Widening.{Passed}
 use Rattle.rule_load.proofs.Parting.{after_items, items_done}
 use Rattle.rule_load.proofs.Laying.{below_same, map_below, table_long, shown_long}
@@ -146,17 +146,6 @@ module _ (m : List ℕ) (n : ℕ) (tail : List ℕ) (t : ℕ) (sites rows words 
 -- ---- the answers
 never_both : (a : Verdict) (e : Refusal) → a ≡ Ok tt → a ≡ Err e → ⊥
 never_both a e p q = let z : ◌≡◌ {A = ℕ} 0 1 = cc in omega arith
-
--- the equal sites in lists that begin alike
-listed_by : (a b c d : List ℕ) (k : Labels) → SameTo max_equal a c → SameTo max_equal b d → Listed a b k → Listed c d k
-listed_by a b c d k p q L = record { each = λ i l h. let x = p i h in let y = q i h in rw (x, y) (L.each i l h) }
-
-pub rounds_copied : (m : List ℕ) (n : ℕ) (tail sites rows words a b c d : List ℕ) (x : Solved) (o p : Outcome Solving) → p ≡ o → SameTo max_equal a c → SameTo max_equal b d → Rounds m n tail sites rows words a b x o → Rounds m n tail sites rows words c d x p
-rounds_copied m n tail sites rows words a b c d x o p e f g h = rw e (go o h)
-  where
-    go : (o : Outcome Solving) → Rounds m n tail sites rows words a b x o → Rounds m n tail sites rows words c d x o
-    go (refused r) h = h
-    go (done s) h = let S = h.1 in (h.0, record { sites_are = S.sites_are; fits = S.fits; few = S.few; constraints_are = S.constraints_are; good = S.good; number = S.number; classes_are = listed_by a b c d s.classes f g S.classes_are; long_tail = S.long_tail; long_sites = S.long_sites; long_rows = S.long_rows })
 
 pub rounds_by : (m : List ℕ) (n : ℕ) (tail sites rows words equal low : List ℕ) (x : Solved) (o p : Outcome Solving) → p ≡ o → Rounds m n tail sites rows words equal low x o → Rounds m n tail sites rows words equal low x p
 rounds_by m n tail sites rows words equal low x o p e h = rw e h

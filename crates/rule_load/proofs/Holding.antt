@@ -3,6 +3,7 @@ use mathlib.Core.Path.{◌≡◌, refl, sym, ap, ◌∙◌}
 use mathlib.Core.List.{List, [], ◌∷◌, ◌++◌, map}
 use Prim.Native.Nat.{ℕ, zero, suc, ◌+◌, ◌*◌, ◌≤◌, ◌<◌, min}
 use native.Mathlib.Omega.{arith}
+use native.Mathlib.Decide.{ℕ_discrete}
 use native.Mathlib.Numerals.{add-one}
 use lib.ListN.{length, get_or, take, length-map}
 use lib.Seq.{take_all}
@@ -40,17 +41,24 @@ module _ (r : Rule) where
       let a : items_in (put_item ws k i) (suc k) ≡ items_in ws k ++ (i ∷ []) = item_held ws k i g l in
       rw add-one (ap (λ w. items_in w (suc k)) o ∙ (a ∙ (rw (e, f) (sym (one_more r.entries d k h)))))
 
-  pub hold_few : (ws : List ℕ) (k : ℕ) → items_in ws k ≡ first_items r k → k ≤ max_items → k ≤ r.count → r.count ≤ k → items_in ws (min r.count max_items) ≡ (written r).items
+  hold_few : (ws : List ℕ) (k : ℕ) → items_in ws k ≡ first_items r k → k ≤ max_items → k ≤ r.count → r.count ≤ k → items_in ws (min r.count max_items) ≡ (written r).items
   hold_few ws k e h l g =
       let a : min r.count max_items ≡ k = omega arith in
       let b : k ≡ r.count = omega arith in
       ap (items_in ws) a ∙ (e ∙ ap (first_items r) b)
 
-  pub hold_all : (ws : List ℕ) (k : ℕ) → items_in ws k ≡ first_items r k → length r.entries ≡ max_items → k ≤ max_items → max_items ≤ k → k ≤ r.count → items_in ws (min r.count max_items) ≡ (written r).items
+  hold_all : (ws : List ℕ) (k : ℕ) → items_in ws k ≡ first_items r k → length r.entries ≡ max_items → k ≤ max_items → max_items ≤ k → k ≤ r.count → items_in ws (min r.count max_items) ≡ (written r).items
   hold_all ws k e n h l g =
       let a : min r.count max_items ≡ k = omega arith in
       let b = length-map r.entries (λ x. x.item) in
       ap (items_in ws) a ∙ (e ∙ (take_all k (map (λ x. x.item) r.entries) (omega arith) ∙ sym (take_all r.count (map (λ x. x.item) r.entries) (omega arith))))
+
+  pub hold_end : (ws : List ℕ) (k : ℕ) → items_in ws k ≡ first_items r k → length r.entries ≡ max_items → k ≡ min r.count max_items → items_in ws (min r.count max_items) ≡ (written r).items
+  hold_end ws k e n h = go (ℕ_discrete k r.count)
+    where
+      go : Dec (k ≡ r.count) → items_in ws (min r.count max_items) ≡ (written r).items
+      go (yes q) = hold_few ws k e (omega arith) (omega arith) (omega arith)
+      go (no q) = hold_all ws k e n (omega arith) (omega arith) (omega arith)
 
   -- so the rule that the words hold has the same written
   pub hold_same : (ws : List ℕ) → items_in ws (min r.count max_items) ≡ (written r).items → written r ≡ written (rule_in ws r.place r.priority r.count)

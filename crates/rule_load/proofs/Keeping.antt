@@ -8,6 +8,7 @@ use lib.ListN.{length, get_or, take, drop, replicate, length-replicate}
 use lib.Seq.{drop_at, get_or_at}
 use lib.Dec.{leb}
 use borrow.Author.Tests.{leb-true}
+use Rattle.std.specs.Prelude.{IsSome}
 use Rattle.std.specs.declared.result.Result.TheVariants.{Err, Ok}
 use Rattle.std.specs.declared.option.Option.TheVariants.{None, Some}
 use Rattle.paper.specs.declared.Rule.{Rule}
@@ -276,3 +277,8 @@ refused_told f u = u.told (λ e. let z : ◌≡◌ {A = ℕ} 0 1 = cc in omega a
 
 pub array_long : (xs : List ℕ) (n : ℕ) → length xs ≡ length {A = ℕ} (replicate n 0) → length xs ≡ n
 array_long xs n e = e ∙ length-replicate n 0
+
+-- what is not missing is there
+pub surely : (z : Maybe (Answer ℕ)) → (z ≡ None → ⊥) → IsSome z
+surely (Some x) n = refl
+surely None n = absurd (n refl)

@@ -2,57 +2,28 @@
 use mathlib.Core.Path.{◌≡◌, refl, sym, ap, ◌∙◌}
 use mathlib.Core.Bool.{Bool, true, false}
 use mathlib.Core.List.{List, [], ◌∷◌, ◌++◌}
-use Prim.Native.Nat.{ℕ, suc, ◌+◌, ◌*◌, ◌/◌, ◌%◌, ◌≤◌}
+use Prim.Native.Nat.{ℕ, suc, ◌+◌, ◌-◌, ◌*◌, ◌/◌, ◌%◌, ◌≤◌}
 use native.Mathlib.Omega.{arith}
 use native.Mathlib.Numerals.{add-one}
-use lib.ListN.{length, get_or, set}
-use lib.Seq.{sets-eq}
+use lib.ListN.{length, get_or, take, drop}
+use borrow.Rule.Slice.PartMut.{put_mid}
+use Rattle.std.proofs.lemmas.List.{take_all}
+use Rattle.std.proofs.lemmas.Slice.{put_mid-paste}
 use lib.Dec.{eqb}
 use borrow.Author.Tests.{eqb-true, ne_eqb}
 use Rattle.paper.specs.Words.{or_else, below, two}
 use Rattle.paper.specs.Sites.{Site, parent, body, body_by}
 use Rattle.sites.specs.Slots.{slot, put, store}
-use Rattle.sites.proofs.Put.{length_put, put_put}
 use Rattle.rule_children.specs.Tail.{site_of_word}
 use Rattle.rule_rows.proofs.Holders.{length_below}
 use Rattle.rule_load.specs.Parts.{ChildWord, new_sites}
 
--- ---- stores one after the other
-module _ (m : List ℕ) (at : ℕ) where
-  pub four_bytes : (a b c d : ℕ) → at + 4 ≤ length m → set (set (set (set m at a) (at + 1) b) (at + 2) c) (at + 3) d ≡ put m at (a ∷ b ∷ c ∷ d ∷ [])
-  unfolding put
-  four_bytes a b c d h =
-      let e : at + 1 ≡ suc at = omega arith in
-      let f : at + 2 ≡ suc (suc at) = omega arith in
-      let g : at + 3 ≡ suc (suc (suc at)) = omega arith in
-      rw (e, f, g) (sets-eq (a ∷ b ∷ c ∷ d ∷ []) m at h)
-
-  one_byte : (p : ℕ) → at + 1 ≤ length m → set m at p ≡ put m at (p ∷ [])
-  unfolding put
-  one_byte p h = sets-eq (p ∷ []) m at h
-
-  three_bytes : (p q r : ℕ) → at + 3 ≤ length m → set (set (set m at p) (at + 1) q) (at + 2) r ≡ put m at (p ∷ q ∷ r ∷ [])
-  unfolding put
-  three_bytes p q r h =
-      let e : at + 1 ≡ suc at = omega arith in
-      let f : at + 2 ≡ suc (suc at) = omega arith in
-      rw (e, f) (sets-eq (p ∷ q ∷ r ∷ []) m at h)
-
-module _ (m : List ℕ) (at a b c d : ℕ) where
-  abbrev begun : List ℕ
-  begun = put m at (a ∷ b ∷ c ∷ d ∷ [])
-
-  five_bytes : (p : ℕ) → at + 5 ≤ length m → set begun (at + 4) p ≡ put m at (a ∷ b ∷ c ∷ d ∷ p ∷ [])
-  five_bytes p h =
-      let l = length_put m at (a ∷ b ∷ c ∷ d ∷ []) (omega arith) in
-      one_byte begun (at + 4) p (omega arith) ∙ put_put m at (a ∷ b ∷ c ∷ d ∷ []) (p ∷ []) (omega arith)
-
-  seven_bytes : (p q r : ℕ) → at + 7 ≤ length m → set (set (set begun (at + 4) p) (at + 5) q) (at + 6) r ≡ put m at (a ∷ b ∷ c ∷ d ∷ p ∷ q ∷ r ∷ [])
-  seven_bytes p q r h =
-      let l = length_put m at (a ∷ b ∷ c ∷ d ∷ []) (omega arith) in
-      let e : at + 4 + 1 ≡ at + 5 = omega arith in
-      let f : at + 4 + 2 ≡ at + 6 = omega arith in
-      (rw (← e, ← f) (three_bytes begun (at + 4) p q r (omega arith))) ∙ put_put m at (a ∷ b ∷ c ∷ d ∷ []) (p ∷ q ∷ r ∷ []) (omega arith)
+-- ---- bytes that are copied to a place
+pub put_written : (m : List ℕ) (at : ℕ) (bs part : List ℕ) → at + length bs ≤ length m → part ≡ bs → put_mid at (at + length bs - at) m part ≡ put m at bs
+unfolding put
+put_written m at bs part h e =
+    put_mid-paste at (at + length bs - at) m part bs (length bs) e (omega arith) refl
+    ∙ ap (λ (x : List ℕ). take at m ++ x ++ drop (at + length bs) m) (take_all (length bs) bs (omega arith))
 
 -- ---- the body of a child
 module _ (w s : ℕ) (e : s ≡ or_else (parent (site_of_word w)) 0) where
@@ -77,13 +48,13 @@ last_kind w k a b = go (eqb (w % 256) 12) refl
     go true e = eqb-true _ _ e
     go false e = absurd (k.real (rw (ne_eqb (w % 256) 8 a, ne_eqb (w % 256) 10 b, e)))
 
-module _ (m x : List ℕ) (i w s : ℕ) (h : i * slot + slot ≤ length m) (e : s ≡ or_else (parent (site_of_word w)) 0) where
-  pub put_variant : w % 256 ≡ 8 → x ≡ put m (i * slot) (6 ∷ 8 ∷ s / 256 ∷ s % 256 ∷ [])
-      → set (set (set x (i * slot + 4) (w / 256 / 256 % 65536 / 256)) (i * slot + 5) (w / 256 / 256 % 65536 % 256)) (i * slot + 6) (w / 256 % 256) ≡ put m (i * slot) (length (body (site_of_word w)) ∷ body (site_of_word w))
-  put_variant a f = rw (f, variant_body w s e a) (seven_bytes m (i * slot) 6 8 (s / 256) (s % 256) _ _ _ (omega arith))
+module _ (m x : List ℕ) (i w s : ℕ) (e : s ≡ or_else (parent (site_of_word w)) 0) where
+  pub put_variant : w % 256 ≡ 8 → x ≡ put m (i * slot) (6 ∷ 8 ∷ s / 256 ∷ s % 256 ∷ w / 256 / 256 % 65536 / 256 ∷ w / 256 / 256 % 65536 % 256 ∷ w / 256 % 256 ∷ [])
+      → x ≡ put m (i * slot) (length (body (site_of_word w)) ∷ body (site_of_word w))
+  put_variant a f = rw (variant_body w s e a) f
 
-  pub put_struct : w % 256 ≡ 10 → x ≡ put m (i * slot) (4 ∷ 10 ∷ s / 256 ∷ s % 256 ∷ []) → set x (i * slot + 4) (w / 256 % 256) ≡ put m (i * slot) (length (body (site_of_word w)) ∷ body (site_of_word w))
-  put_struct a f = rw (f, struct_body w s e a) (five_bytes m (i * slot) 4 10 (s / 256) (s % 256) _ (omega arith))
+  pub put_struct : w % 256 ≡ 10 → x ≡ put m (i * slot) (4 ∷ 10 ∷ s / 256 ∷ s % 256 ∷ w / 256 % 256 ∷ []) → x ≡ put m (i * slot) (length (body (site_of_word w)) ∷ body (site_of_word w))
+  put_struct a f = rw (struct_body w s e a) f
 
   pub put_some : ChildWord w → (w % 256 ≡ 8 → ⊥) → (w % 256 ≡ 10 → ⊥) → x ≡ put m (i * slot) (3 ∷ 12 ∷ s / 256 ∷ s % 256 ∷ []) → x ≡ put m (i * slot) (length (body (site_of_word w)) ∷ body (site_of_word w))
   put_some k a b f = rw (some_body w s e (last_kind w k a b)) f

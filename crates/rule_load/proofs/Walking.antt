@@ -4,17 +4,15 @@ use mathlib.Core.Bool.{Bool, true, false, ◌||◌}
 use mathlib.Core.List.{List, []}
 use Prim.Native.Nat.{ℕ, suc, ◌+◌, ◌-◌, ◌*◌, ◌/◌, ◌%◌, ◌≤◌, ◌<◌}
 use native.Mathlib.Omega.{arith}
-use native.Mathlib.Decide.{ℕ_discrete}
 use native.Mathlib.Numerals.{add-one}
 use lib.ListN.{length, get_or, set, take}
-use lib.Seq.{take-suc-set, get_or-set_same, get_or-set_other}
+use lib.Seq.{take-suc-set}
 use lib.Dec.{eqb}
 use borrow.Author.Tests.{eq-eqb, ne_eqb}
 use Rattle.paper.specs.Words.{any, below}
-use Rattle.paper.specs.Numbers.{max_items}
 use Rattle.paper.specs.Loading.{Kept}
 use Rattle.rule_words.specs.Stored.{run, base, place_at, kept_at, kept_in, kept_first}
-use Rattle.rule_load.specs.Parts.{has_place, gathered, SameTo}
+use Rattle.rule_load.specs.Parts.{has_place, gathered}
 
 -- the rules from i on
 unfoldable pub place_from : List ℕ → ℕ → ℕ → ℕ → Bool
@@ -60,17 +58,3 @@ module _ (rows shapes : List ℕ) where
 
 pub third_below : (k held : ℕ) → k < 3 * held → k / 3 < held
 third_below k held h = omega arith
-
-pub row_fits : (row k : ℕ) → row < max_items → 3 * row + k % 3 < 3 * max_items
-row_fits row k h = omega arith
-
--- ---- copying
-pub same_none : (xs ys : List ℕ) → SameTo 0 xs ys
-same_none xs ys i h = absurd (omega arith)
-
-pub same_turn : (xs ys : List ℕ) (k : ℕ) → k < length ys → SameTo k xs ys → SameTo (k + 1) xs (set ys k (get_or xs k 0))
-same_turn xs ys k l h i j = go (ℕ_discrete i k)
-  where
-    go : Dec (i ≡ k) → get_or (set ys k (get_or xs k 0)) i 0 ≡ get_or xs i 0
-    go (yes e) = rw e (get_or-set_same ys k (get_or xs k 0) 0 l)
-    go (no n) = get_or-set_other ys k i (get_or xs k 0) 0 n ∙ h i (omega arith)

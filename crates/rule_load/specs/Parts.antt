@@ -86,10 +86,6 @@ pub record Left (m : List ℕ) (n : ℕ) (tail sites rows words kids eqs equal l
   pub long_equal : max_equal ≤ length equal
   pub long_low : max_equal ≤ length low
 
--- two lists begin alike
-abbrev pub SameTo : ℕ → List ℕ → List ℕ → Type 0
-SameTo k xs ys = (i : ℕ) → i < k → get_or ys i 0 ≡ get_or xs i 0
-
 -- what the rounds leave, where the rule is to be kept: all of it has room
 pub record Keepable (bytes n : ℕ) (tail sites rows shapes equal low : List ℕ) (x : Solved) : Type 0 where
   pub fits : n + x.tail ≤ max_sites

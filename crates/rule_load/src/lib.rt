@@ -13,13 +13,12 @@ ghost use Rattle.rule_children.specs.Tail.{site_of_word};
 ghost use Rattle.item_words.specs.Items.{items_in, rule_in};
 ghost use Rattle.rule_rounds.specs.Rounding.{Rounds, Unless, LaidOut, Leaves, memory};
 ghost use Rattle.rule_load.specs.Whole.{load_in, loaded_as, sites_after, words_after};
-ghost use Rattle.rule_load.specs.Parts.{has_place, admitted, answer_as, worked, settled, ChildWord, Lent, Left, SameTo, Keepable, Finishable, Finishes, Answers, Tries, gathered, new_sites};
+ghost use Rattle.rule_load.specs.Parts.{has_place, admitted, answer_as, worked, settled, ChildWord, Lent, Left, Keepable, Finishable, Finishes, Answers, Tries, gathered, new_sites};
 
 use item_words::ITEMS_ROOM;
 use paper::{CONSTRAINED, EQUALS, FIELDS, ITEMS, RULES, Refusal, Rule, SITES};
 use rule_items::Progress;
 use rule_rounds::{Halt, Solved, Start};
-use widths::size16;
 
 const SLOT: usize = 32;
 
@@ -44,13 +43,10 @@ const FEW_JOINED: usize = FEW_SITES + 2 * FIELDS;
 fn used(words: &[u64], kept: u32, place: u32) -> bool
     ensures { result ≡ has_place words.now kept place }
 {
-    let mut i: u32 = 0;
-    while i < kept {
-        let at = rule_words::start(i);
-        if rule_words::place(words, at) == place {
+    for i in 0..kept {
+        if rule_words::place(words, rule_words::start(i)) == place {
             return true;
         }
-        i += 1;
     }
     false
 }
@@ -67,15 +63,15 @@ fn admit(n: u16, words: &[u64], kept: u32, place: u32, count: u8) -> Result<(), 
     if words.len() < rule_words::start(kept) + rule_words::STRIDE {
         return Err(Refusal::TooManyRules { asked: kept + 1 });
     }
-    if SITES < size16(n) {
+    if SITES < usize::from(n) {
         return Err(Refusal::TooManySites {
-            asked: n as u32,
-            at: count as u32,
+            asked: u32::from(n),
+            at: u32::from(count),
         });
     }
-    if ITEMS < count as usize {
+    if ITEMS < usize::from(count) {
         return Err(Refusal::TooManyItems {
-            asked: count as u32,
+            asked: u32::from(count),
         });
     }
     if used(words, kept, place) {
@@ -92,17 +88,6 @@ fn refuse(why: Refusal) -> Solved
         held: 0,
         equal: 0,
         answer: Err(Halt::Refused(why)),
-    }
-}
-
-fn copy(from: &[u16; EQUALS], to: &mut [u16])
-    requires { max_equal ≤ length to.old }
-    ensures { SameTo max_equal from.now to.new }
-{
-    let mut i = 0;
-    while i < EQUALS {
-        to[i] = from[i];
-        i += 1;
     }
 }
 
@@ -127,18 +112,10 @@ fn turn(
         equal.new low.new in
         Leaves m.now a shapes.now eqs.now before after result }
 {
-    let r = rule_rounds::rounds(
+    rule_rounds::rounds(
         m, a, tail, sites, rows, shapes, eqs, joined, list, equal, low,
-    );
-    let Some(s) = r else {
-        return Solved {
-            tail: 0,
-            held: 0,
-            equal: 0,
-            answer: Err(Halt::Short),
-        };
-    };
-    s
+    )
+    .unwrap()
 }
 
 // The class check, then the rounds, of what the items left.
@@ -154,8 +131,8 @@ fn normalise(
     kids: &[u16],
     eqs: &[u16],
     a: Progress,
-    equal: &mut [u16],
-    low: &mut [u16],
+    equal: &mut [u16; EQUALS],
+    low: &mut [u16; EQUALS],
     count: u8,
 ) -> Solved
     requires left { (is : List Item)
@@ -174,15 +151,13 @@ fn normalise(
     if let Err(told) = v {
         return refuse(told);
     }
-    let mut found = [0u16; EQUALS];
-    let mut lowest = [0u16; EQUALS];
     let start = Start {
         known: n,
         tail: a.tail,
         held,
-        at: count as u32,
+        at: u32::from(count),
     };
-    let s = turn(
+    turn(
         m,
         start,
         tail,
@@ -192,12 +167,9 @@ fn normalise(
         &eqs[..k],
         joined,
         list,
-        &mut found,
-        &mut lowest,
-    );
-    copy(&found, equal);
-    copy(&lowest, low);
-    s
+        equal,
+        low,
+    )
 }
 
 // The items and 5, then the class check, then the rounds.
@@ -210,8 +182,8 @@ fn solve(
     joined: &mut [u16],
     list: &mut [u16],
     shapes: &mut [u64],
-    equal: &mut [u16],
-    low: &mut [u16],
+    equal: &mut [u16; EQUALS],
+    low: &mut [u16; EQUALS],
     items: &[u64],
     count: u8,
 ) -> Solved
@@ -228,8 +200,7 @@ fn solve(
     let a = rule_items::load_items(
         m, n, tail, sites, rows, shapes, &mut kids, &mut eqs, items, count,
     );
-    let answer = a.answer;
-    if let Err(why) = answer {
+    if let Err(why) = a.answer {
         return refuse(why);
     }
     normalise(
@@ -253,7 +224,7 @@ fn settle(total: usize, held: usize, equal: usize, room: usize, count: u8) -> Re
     if room < total * SLOT {
         return Err(Refusal::TooManySites {
             asked: (room / SLOT) as u32 + 1,
-            at: count as u32,
+            at: u32::from(count),
         });
     }
     Ok(())
@@ -265,23 +236,18 @@ fn gather(rows: &[u16], held: usize, shapes: &[u64], out: &mut [u64])
         × ((i : ℕ) → i < held → get_or rows.now i 0 < max_items) }
     ensures { take (3 * held) out.new ≡ gathered rows.now shapes.now (3 * held) }
 {
-    let mut k = 0;
-    while k < 3 * held {
-        let row = size16(rows[k / 3]);
+    for k in 0..3 * held {
+        let row = usize::from(rows[k / 3]);
         out[k] = shapes[3 * row + k % 3];
-        k += 1;
     }
 }
 
-// Writes four bytes.
-fn put_four(m: &mut [u8], at: usize, a: u8, b: u8, c: u8, d: u8)
-    requires { at + 4 ≤ length m.old }
-    ensures { m.new ≡ put m.old at (a ∷ b ∷ c ∷ d ∷ []) }
+// Writes bytes at a place.
+fn put_bytes(m: &mut [u8], at: usize, bytes: &[u8])
+    requires { at + length bytes.now ≤ length m.old }
+    ensures { m.new ≡ put m.old at bytes.now }
 {
-    m[at] = a;
-    m[at + 1] = b;
-    m[at + 2] = c;
-    m[at + 3] = d;
+    m[at..at + bytes.len()].copy_from_slice(bytes);
 }
 
 // Writes the body of a child into slot i: its length, its kind, its source, and what else the kind has.
@@ -297,18 +263,21 @@ fn write_child(m: &mut [u8], i: usize, w: u64)
     let field = (w / 256 % 256) as u8;
     if kind == 8 {
         let variant = w / 256 / 256 % 65536;
-        put_four(m, at, 6, 8, high, low);
-        m[at + 4] = (variant / 256) as u8;
-        m[at + 5] = (variant % 256) as u8;
-        m[at + 6] = field;
-        return;
+        let of_variant = [
+            6,
+            8,
+            high,
+            low,
+            (variant / 256) as u8,
+            (variant % 256) as u8,
+            field,
+        ];
+        put_bytes(m, at, &of_variant);
+    } else if kind == 10 {
+        put_bytes(m, at, &[4, 10, high, low, field]);
+    } else {
+        put_bytes(m, at, &[3, 12, high, low]);
     }
-    if kind == 10 {
-        put_four(m, at, 4, 10, high, low);
-        m[at + 4] = field;
-        return;
-    }
-    put_four(m, at, 3, 12, high, low);
 }
 
 // Writes the new sites into their slots.
@@ -316,12 +285,9 @@ fn write_children(m: &mut [u8], n: u16, tail: &[u64], t: u16)
     requires { (n + t ≤ max_sites) × ((n + t) * slot ≤ length m.old) × (t ≤ length tail.now) × ((i : ℕ) → i < t → ChildWord (get_or tail.now i 0)) }
     ensures { m.new ≡ store m.old n (new_sites tail.now t) }
 {
-    let first = size16(n);
-    let count = size16(t);
-    let mut i = 0;
-    while i < count {
+    let first = usize::from(n);
+    for i in 0..usize::from(t) {
         write_child(m, first + i, tail[i]);
-        i += 1;
     }
 }
 
@@ -346,21 +312,18 @@ fn keep(
     ensures lent_words { words.new ≡ written words.old kept place priority (take s.held sites.now)
         (gathered rows.now shapes.now (3 * s.held)) (take s.equal equal.now) (take s.equal low.now) }
 {
-    let held = s.held;
-    let count = 3 * held;
-    let e = s.equal;
     let mut out = [0u64; SHAPES];
-    gather(rows, held, shapes, &mut out);
+    gather(rows, s.held, shapes, &mut out);
     write_children(m, n, tail, s.tail);
     rule_words::write(
         words,
         kept,
         place,
         priority,
-        &sites[..held],
-        &out[..count],
-        &equal[..e],
-        &low[..e],
+        &sites[..s.held],
+        &out[..3 * s.held],
+        &equal[..s.equal],
+        &low[..s.equal],
     );
 }
 
@@ -386,17 +349,12 @@ fn finish(
         shapes.now equal.now low.now s result m.new words.new
         (settled (n + s.tail) s.held s.equal (length m.old) count) }
 {
-    let total = size16(n) + size16(s.tail);
-    let room = m.len();
-    let last = settle(total, s.held, s.equal, room, count);
-    if let Err(why) = last {
-        return Err(why);
-    }
+    let total = n + s.tail;
+    settle(usize::from(total), s.held, s.equal, m.len(), count)?;
     keep(
         m, n, words, kept, place, priority, tail, sites, rows, shapes, equal, low, s,
     );
-    let many = total as u16;
-    Ok(many)
+    Ok(total)
 }
 
 // Loads an admitted rule with the lent lists. Where they are too short for it nothing is written.
@@ -437,17 +395,12 @@ fn attempt(
         items,
         count,
     );
-    let answer = s.answer;
-    match answer {
+    match s.answer {
         Err(Halt::Short) => None,
         Err(Halt::Refused(why)) => Some(Err(why)),
-        Ok(()) => {
-            let out = finish(
-                m, n, words, kept, place, priority, count, tail, sites, rows, &shapes, &equal,
-                &low, s,
-            );
-            Some(out)
-        }
+        Ok(()) => Some(finish(
+            m, n, words, kept, place, priority, count, tail, sites, rows, &shapes, &equal, &low, s,
+        )),
     }
 }
 
@@ -471,7 +424,7 @@ fn at_large(
     let mut rows = [0u16; SITES];
     let mut joined = [0u16; SITES];
     let mut list = [0u16; SITES];
-    let a = attempt(
+    attempt(
         m,
         n,
         words,
@@ -485,11 +438,8 @@ fn at_large(
         &mut rows,
         &mut joined,
         &mut list,
-    );
-    let Some(out) = a else {
-        return Ok(n);
-    };
-    out
+    )
+    .unwrap()
 }
 
 // Loads a rule, whose items are held as words, over the n sites of m and the `kept` rules of `words`. A refused rule changes nothing.
@@ -510,10 +460,7 @@ pub fn load_handed(
     ensures lent_words { words.new ≡ words_after words.old kept
         (load_in m.old n words.old kept (rule_in items.now place priority count)) }
 {
-    let first = admit(n, words, kept, place, count);
-    if let Err(why) = first {
-        return Err(why);
-    }
+    admit(n, words, kept, place, count)?;
     let mut tail = [0u64; FEW_CHILDREN];
     let mut sites = [0u16; FEW_SITES];
     let mut rows = [0u16; FEW_SITES];
@@ -534,10 +481,10 @@ pub fn load_handed(
         &mut joined,
         &mut list,
     );
-    let Some(out) = a else {
-        return at_large(m, n, words, kept, place, priority, count, items);
-    };
-    out
+    match a {
+        Some(out) => out,
+        None => at_large(m, n, words, kept, place, priority, count, items),
+    }
 }
 
 // Holds the items of a rule as words.
@@ -545,16 +492,9 @@ fn hold(rule: Rule, out: &mut [u64])
     requires { 4 * max_items ≤ length out.old }
     ensures { items_in out.new (min rule.count max_items) ≡ (P.written rule).items }
 {
-    let count = rule.count;
-    let mut k: u8 = 0;
-    while k < MANY {
-        if count <= k {
-            return;
-        }
-        let e = rule.entries[k as usize];
-        let i = e.item;
-        item_words::hold_item(out, k, i);
-        k += 1;
+    for k in 0..rule.count.min(MANY) {
+        let e = rule.entries[usize::from(k)];
+        item_words::hold_item(out, k, e.item);
     }
 }
 

@@ -9,12 +9,10 @@ use Rattle.std.specs.declared.result.Result.TheVariants.{Err, Ok}
 use Rattle.paper.specs.declared.Refusal.{Refusal}
 use Rattle.paper.specs.Numbers.{max_sites}
 use Rattle.rule_rounds.specs.Rounding.{Scant, Unless}
-use Rattle.rule_rounds.specs.RoundState.{IfRoom, full, halt_of, solved_of}
+use Rattle.rule_rounds.specs.RoundState.{IfRoom, halt_of}
 use Rattle.rule_rounds.specs.Halted.{Halted}
 use Rattle.rule_rounds.specs.declared.Halt.TheVariants as halt
 use Rattle.rule_rounds.specs.declared.Space.{Space}
-use Rattle.rule_rounds.specs.declared.Stage.{Stage}
-use Rattle.rule_rounds.specs.declared.Solved.{Solved}
 use Rattle.rule_rounds.specs.declared.Space.TheVariants as space
 
 pub fine_told : {a : Halted} {tail sites : List ℕ} {P : Type 0} → a ≡ Ok tt → Unless a tail sites P → P
@@ -44,10 +42,3 @@ of_short at a e = rw e
 
 pub told_out : (at : ℕ) {a : Space} {P Q : Type 0} (tail sites : List ℕ) → IfRoom a tail sites P → (P → Q) → Unless (halt_of at a) tail sites Q
 told_out at {a} tail sites u f = record { short = λ e. u.short (short_of at a e); told = λ d. f (u.told (λ e. d (of_short at a e))) }
-
--- how it is told
-pub why_full : (at : ℕ) (a : Space) → a ≡ space.Full → (Err (halt.Refused (full at))) ≡ halt_of at a
-why_full at a e = rw e
-
-pub solved_is : (at : ℕ) (s : Stage) (h : Halted) → h ≡ halt_of at s.room → ◌≡◌ {A = Solved} (record { tail = s.tail; held = s.held; equal = s.equal; answer = h }) (solved_of at s)
-solved_is at s h e = rw e

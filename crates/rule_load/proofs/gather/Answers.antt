@@ -7,46 +7,31 @@ use Rattle.rule_load.proofs.Walking.{gathered_none, gathered_turn, third_below}
 use Rattle.rule_load.proofs.gather.Goals as goal
 
 pub loop-k-init : goal.loop-k-init
-loop-k-init c = (omega arith, gathered_none _ _, refl)
+loop-k-init c = (gathered_none _ _, refl)
 
-pub overflow_mul-held : goal.overflow_mul-held
-overflow_mul-held c = omega arith
-
-pub offset_bounds-rows-k : goal.offset_bounds-rows-k
-offset_bounds-rows-k c = omega arith
+pub overflow_mul-k-end : goal.overflow_mul-k-end
+overflow_mul-k-end c = omega arith
 
 pub bounds-rows-k : goal.bounds-rows-k
 bounds-rows-k c = omega (arith, third_below c.loop-k.k c.args.held c.loop-k-test.true)
 
 pub overflow_mul-out : goal.overflow_mul-out
-overflow_mul-out c = let z = c.requires.4 (c.loop-k.k / 3) (third_below c.loop-k.k c.args.held c.loop-k-test.true) in omega (arith, c.size16-row.ensures)
+overflow_mul-out c = let z = c.requires.4 (c.loop-k.k / 3) (third_below c.loop-k.k c.args.held c.loop-k-test.true) in omega (arith, c.from-row.ensures)
 
 pub overflow_add-out : goal.overflow_add-out
-overflow_add-out c = let z = c.requires.4 (c.loop-k.k / 3) (third_below c.loop-k.k c.args.held c.loop-k-test.true) in omega (arith, c.size16-row.ensures)
+overflow_add-out c = let z = c.requires.4 (c.loop-k.k / 3) (third_below c.loop-k.k c.args.held c.loop-k-test.true) in omega (arith, c.from-row.ensures)
 
 pub offset_bounds-shapes-row : goal.offset_bounds-shapes-row
-offset_bounds-shapes-row c = let z = c.requires.4 (c.loop-k.k / 3) (third_below c.loop-k.k c.args.held c.loop-k-test.true) in omega (arith, c.size16-row.ensures)
+offset_bounds-shapes-row c = let z = c.requires.4 (c.loop-k.k / 3) (third_below c.loop-k.k c.args.held c.loop-k-test.true) in omega (arith, c.from-row.ensures)
 
 pub bounds-shapes-row : goal.bounds-shapes-row
-bounds-shapes-row c = let z = c.requires.4 (c.loop-k.k / 3) (third_below c.loop-k.k c.args.held c.loop-k-test.true) in omega (arith, c.size16-row.ensures)
-
-pub offset_bounds-out-k : goal.offset_bounds-out-k
-offset_bounds-out-k c = omega arith
-
-pub bounds-out-k : goal.bounds-out-k
-bounds-out-k c = omega (arith, c.loop-k.invariant.2)
-
-pub overflow_add-k : goal.overflow_add-k
-overflow_add-k c = omega arith
-
-pub loop-k-smaller : goal.loop-k-smaller
-loop-k-smaller c = omega arith
+bounds-shapes-row c = let z = c.requires.4 (c.loop-k.k / 3) (third_below c.loop-k.k c.args.held c.loop-k-test.true) in omega (arith, c.from-row.ensures)
 
 pub loop-k-preserved : goal.loop-k-preserved
-loop-k-preserved c = (omega arith, gathered_turn c.args.rows.now c.args.shapes.now c.loop-k.out c.loop-k.k c.size16-row.result (omega (arith, c.loop-k.invariant.2)) c.size16-row.ensures c.loop-k.invariant.1, length-set c.loop-k.out c.loop-k.k _ ∙ c.loop-k.invariant.2)
+loop-k-preserved c = (gathered_turn c.args.rows.now c.args.shapes.now c.loop-k.out c.loop-k.k c.from-row.result (omega (arith, c.loop-k.invariant.1)) c.from-row.ensures c.loop-k.invariant.0, length-set c.loop-k.out c.loop-k.k _ ∙ c.loop-k.invariant.1)
 
 pub shape_of-out : goal.shape_of-out
-shape_of-out c = c.loop-k.invariant.2
+shape_of-out c = c.loop-k.invariant.1
 
 pub returns : goal.returns
-returns c = let z : c.loop-k.k ≡ 3 * c.args.held = omega arith in rw z at c.loop-k.invariant.1
+returns c = let z : c.loop-k.k ≡ 3 * c.args.held = omega arith in rw z at c.loop-k.invariant.0

@@ -1,11 +1,7 @@
 use mathlib.Core.Path.{◌≡◌}
-use Prim.Native.Nat.{◌-◌, ◌*◌, ◌≤◌}
 use lib.ListN.{length, take}
 use Rattle.rule_load.specs.Parts.{gathered}
 use Rattle.rule_load.proofs.gather.Given as goal
 
 abbrev pub invariant-loop-k : goal.invariant-loop-k
-invariant-loop-k l = (l.k ≤ 3 * l.held) × (take l.k l.out ≡ gathered l.rows l.shapes l.k) × (length l.out ≡ length l.initial.out)
-
-abbrev pub decreases-loop-k : goal.decreases-loop-k
-decreases-loop-k l = 3 * l.held - l.k
+invariant-loop-k l = (take l.k l.out ≡ gathered l.rows l.shapes l.k) × (length l.out ≡ length l.initial.out)

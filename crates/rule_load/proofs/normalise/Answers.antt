@@ -2,7 +2,7 @@
 use mathlib.Core.Path.{refl, sym}
 use native.Mathlib.Omega.{arith}
 use lib.Seq.{length-take-le}
-use Rattle.rule_load.proofs.Checking.{rounds_by, rounds_copied, left_held, left_equal, left_proper, left_refuse, left_solved}
+use Rattle.rule_load.proofs.Checking.{rounds_by, left_held, left_equal, left_proper, left_refuse, left_solved}
 use Rattle.rule_rounds.proofs.Telling.{told_refused, told_up}
 use Rattle.rule_load.proofs.normalise.Goals as goal
 
@@ -27,14 +27,8 @@ returns-in-Err c = told_refused _ _ c.refuse.ensures (λ is L. rounds_by _ _ _ _
 pub slice_bounds-turn-end : goal.slice_bounds-turn-end
 slice_bounds-turn-end c = sym (length-take-le _ _ (left_equal c.args.m.now c.args.n c.args.tail.now c.args.sites.now c.args.rows.now c.args.shapes.now c.args.kids.now c.args.eqs.now c.args.a c.args.equal.now c.args.low.now c.args.count c.requires.left.0 c.requires.left.1))
 
-pub turn-s-requires : goal.turn-s-requires
-turn-s-requires c = record { proper = left_proper c.args.m.now c.args.n c.args.tail.now c.args.sites.now c.args.rows.now c.args.shapes.now c.args.kids.now c.args.eqs.now c.args.a c.args.equal.now c.args.low.now c.args.count c.requires.left.0 c.requires.left.1; long_joined = c.requires.sites_in_bounds.0; long_list = c.requires.sites_in_bounds.1 }
-
-pub copy-requires : goal.copy-requires
-copy-requires c = c.requires.left.1.long_equal
-
-pub copy-requires-2 : goal.copy-requires-2
-copy-requires-2 c = c.requires.left.1.long_low
+pub turn-requires : goal.turn-requires
+turn-requires c = record { proper = left_proper c.args.m.now c.args.n c.args.tail.now c.args.sites.now c.args.rows.now c.args.shapes.now c.args.kids.now c.args.eqs.now c.args.a c.args.equal.now c.args.low.now c.args.count c.requires.left.0 c.requires.left.1; long_joined = c.requires.sites_in_bounds.0; long_list = c.requires.sites_in_bounds.1 }
 
 pub returns : goal.returns
-returns c = told_up _ _ _ _ refl refl c.turn-s.ensures (λ E is L. rounds_copied _ _ _ _ _ _ _ _ _ _ _ _ _ (left_solved c.args.m.now c.args.n c.args.tail.now c.args.sites.now c.args.rows.now c.args.shapes.now c.args.kids.now c.args.eqs.now c.args.a c.args.equal.now c.args.low.now c.args.count is L _ c.check-v.ensures c.in_default.is) c.copy.ensures c.copy-2.ensures E)
+returns c = told_up _ _ _ _ refl refl c.turn.ensures (λ E is L. rounds_by _ _ _ _ _ _ _ _ _ _ _ (left_solved c.args.m.now c.args.n c.args.tail.now c.args.sites.now c.args.rows.now c.args.shapes.now c.args.kids.now c.args.eqs.now c.args.a c.args.equal.now c.args.low.now c.args.count is L _ c.check-v.ensures c.in_default.is) (rw c.from.ensures at E))

@@ -16,7 +16,7 @@ pub overflow_add-result : goal.overflow_add-result
 overflow_add-result c = omega (arith, c.if-room-total.true, c.requires.0)
 
 pub returns-then-room-total : goal.returns-then-room-total
-returns-then-room-total c = room_short _ _ _ _ _ c.if-held-gt-CONSTRAINED.false c.if-equal-gt-EQUALS.false c.if-room-total.true
+returns-then-room-total c = rw c.from.ensures (room_short _ _ _ _ _ c.if-held-gt-CONSTRAINED.false c.if-equal-gt-EQUALS.false c.if-room-total.true)
 
 pub returns : goal.returns
 returns c = settled_so _ _ _ _ _ c.if-held-gt-CONSTRAINED.false c.if-equal-gt-EQUALS.false c.if-room-total.false
