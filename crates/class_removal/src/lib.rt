@@ -37,7 +37,8 @@ fn sweep(parents: &mut [u16; SITES], r: u16, members: &mut [u16]) -> usize
     n
 }
 
-// The updating find on the listed sites, in their order. Those with the root r are listed in members: how many.
+// The updating find on the listed sites, in their order. Those with the root r are listed in members: how many. (Beside `sweep`, and no function
+// over any sites for both: `C.sweep`, of paper, speaks of all sites alone, and the one turn that they share is `note`.)
 fn sweep_listed(parents: &mut [u16; SITES], r: u16, sites: &[u16], members: &mut [u16]) -> usize
     requires { length sites.now ≤ length members.old }
     ensures { let swept = sweep_of sites.now (length sites.now) parents.old r in

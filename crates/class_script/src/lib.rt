@@ -8,6 +8,7 @@ ghost use Rattle.class_script.specs.Script.{number_in, pair_in, call_in, stepped
 use classes::{Trail, Untaken};
 use paper::{Refusal, SITES};
 
+// A line that is no call is `Bad`, here and in Reply, and not None: the theorem `Simulating.same_answers` has a call and a reply for each line.
 #[derive(Clone, Copy)]
 pub enum Call {
     Merge(u16, u16),

@@ -14,10 +14,10 @@ ghost use Rattle.classes.specs.Answers.{root_in, rep, looked, sought, joined, sa
 use paper::{Refusal, SITES};
 use std::mem;
 
-// The parent of a site that was never joined.
+// The parent of a site that was never joined. A number and no Option: the parents are lent, from C too, as an array of numbers.
 pub const NEVER: u16 = SITES as u16;
 
-// A find with the links that it followed.
+// A find with the links that it followed. (A struct and no pair: 01 names the form.)
 #[derive(Clone, Copy)]
 pub struct Trail {
     pub found: Option<u16>,

@@ -36,6 +36,7 @@ fn put_refusal(out: &mut [u8], n: usize, e: Refusal) -> usize
     }
 }
 
+// Of the four answers below each has its own words for a value: one function for all would be handed them, and be no plainer.
 fn put_joined(out: &mut [u8], n: usize, j: Result<bool, Refusal>) -> usize
     ensures { (out.new, result) ≡ wrote (out.old, n) (joined_text j) }
 {
