@@ -5,12 +5,11 @@ use mathlib.Core.List.{List, [], ◌∷◌, ◌++◌, append_assoc}
 use Prim.Native.Nat.{ℕ, ◌+◌, ◌%◌, ◌<◌, ◌≤◌}
 use Rattle.std.specs.Prelude.{if◌then◌else◌}
 use Rattle.paper.proofs.Lists.{and_both}
-use native.Mathlib.Nat.{mod-eq_of_lt, zero-add}
-use native.Mathlib.Numerals.{add-one}
+use native.Mathlib.Nat.{mod-eq_of_lt}
 use native.Mathlib.Omega.{arith}
-use lib.ListN.{length, get_or, set, take, drop, length-set, replicate, length-replicate, length-append}
+use lib.ListN.{length, get_or, set, take, drop, length-set, replicate, length-append}
 use lib.Dec.{eqb, leb}
-use lib.Seq.{sets, sets-eq, length-sets, paste, paste-zero, paste-suc, take_at, take-paste, length-paste, take_all}
+use lib.Seq.{sets, sets-eq, length-sets, take_at}
 use borrow.Author.Tests.{eq-eqb, ne_eqb, le-leb, lt-leb, leb-true}
 use Rattle.sheet_ended.specs.declared.EndedSets.{EndedSets}
 use Rattle.sheet_reader.specs.declared.OpenSet.{OpenSet}
@@ -94,14 +93,6 @@ reader l t e = record { line = l; stands = t; ended = e }
 pub reader_is : (s : List ℕ) (l v : ℕ) (t : Stands) (e : EndedSets) → v ≡ get_or s 0 0 → l ≡ v % 4294967296 → t ≡ stands_in s → e ≡ ended_in s → reader l t e ≡ reader_in s
 unfolding reader_in
 reader_is s l v t e p q r u = cc
-
-pub stops_not : (s : List ℕ) (w : ℕ) → w ≡ get_or s 21 0 → w ≡ 0 → false ≡ stopped_in s
-unfolding stopped_in
-stops_not s w e h = rw (eq-eqb (get_or s 21 0) 0 (sym e ∙ h))
-
-pub stops : (s : List ℕ) (w : ℕ) → w ≡ get_or s 21 0 → (w ≡ 0 → ⊥) → true ≡ stopped_in s
-unfolding stopped_in
-stops s w e h = rw (ne_eqb (get_or s 21 0) 0 (λ z. h (e ∙ z)))
 
 abbrev state : Reader → ℕ → List ℕ → Bool → State
 state r n b t = record { reader = r; held = record { length = n; bytes = b }; stopped = t }
@@ -292,45 +283,6 @@ kept_state m h s l k b =
 pub all_put : (m h n k : List ℕ) (s : State) → (state_words ≤ length m) × (max_held ≤ length h) → n ≡ state_put m s → k ≡ s.held.bytes ++ drop max_held h → SmallState s → (n ≡ state_put m s) × ((k ≡ held_put h s) × (state_in n k ≡ s))
 unfolding held_put
 all_put m h n k s l p q b = (p, (q, ap (λ (x : List ℕ). state_in x k) p ∙ (ap (state_in (state_put m s)) q ∙ kept_state m h s l.0 l.1 b)))
-
--- ---- a copy to the start of a slice
-
-copied : (found all : List ℕ) (n : ℕ) → length all ≡ n → paste found 0 all n ≡ all ++ drop n found
-copied found all n h = rw (take_all n all (omega (arith, h)), zero-add n)
-
-pub copied_all : (found all now : List ℕ) (i n : ℕ) → length all ≡ n → i ≤ n → n ≤ i → now ≡ paste found 0 all i → now ≡ all ++ drop n found
-copied_all found all now i n e l k p = let q : i ≡ n = omega arith in p ∙ ap (λ (j : ℕ). paste found 0 all j) q ∙ copied found all n e
-
-pub copied_none : (found all : List ℕ) → found ≡ paste found 0 all 0
-copied_none found all = paste-zero found 0 all
-
-pub copied_turn : (found all now : List ℕ) (i n : ℕ) → n ≤ length found → length all ≡ n → i < n → now ≡ paste found 0 all i → set now i (get_or all i 0) ≡ paste found 0 all (i + 1)
-copied_turn found all now i n h e l p =
-    ap (λ (m : List ℕ). set m i (get_or all i 0)) p
-    ∙ ap (λ (k : ℕ). set (paste found 0 all i) k (get_or all i 0)) (sym (zero-add i))
-    ∙ paste-suc found 0 all i 0 (omega (arith, h, l)) (omega (arith, e, l))
-    ∙ ap (λ (k : ℕ). paste found 0 all k) (sym (add-one i))
-
-pub copied_length : (found all now : List ℕ) (i n : ℕ) → n ≤ length found → length all ≡ n → i ≤ n → now ≡ paste found 0 all i → length now ≡ length found
-copied_length found all now i n h e l p = ap length p ∙ length-paste found 0 all i (omega (arith, h, l)) (omega (arith, e, l))
-
--- ---- the held bytes, read into an array
-
-pub long_zeros : (n : ℕ) → length {A = ℕ} (replicate n 0) ≡ n
-long_zeros n = length-replicate {A = ℕ} n 0
-
-pub bytes_turn : (old all now : List ℕ) (i n : ℕ) → length old ≡ n → n ≤ length all → i < n → now ≡ paste old 0 all i → set now i (get_or all i 0) ≡ paste old 0 all (i + 1)
-bytes_turn old all now i n e h l p =
-    ap (λ (m : List ℕ). set m i (get_or all i 0)) p
-    ∙ ap (λ (k : ℕ). set (paste old 0 all i) k (get_or all i 0)) (sym (zero-add i))
-    ∙ paste-suc old 0 all i 0 (omega (arith, e, l)) (omega (arith, h, l))
-    ∙ ap (λ (k : ℕ). paste old 0 all k) (sym (add-one i))
-
-pub bytes_all : (old all now : List ℕ) (i n : ℕ) → length old ≡ n → n ≤ length all → i ≤ n → n ≤ i → now ≡ paste old 0 all i → now ≡ take n all
-bytes_all old all now i n e h l k p =
-    let q : i ≡ n = omega arith in
-    let d = length-paste old 0 all n (omega arith) h in
-    p ∙ (ap (λ (j : ℕ). paste old 0 all j) q ∙ (sym (take_all (0 + n) (paste old 0 all n) (omega arith)) ∙ take-paste old 0 all n (omega arith) h))
 
 -- ---- what is lent is long enough, or not
 

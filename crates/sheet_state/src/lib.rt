@@ -12,7 +12,6 @@ use sheet_lines::{HELD, Held};
 use sheet_read::State;
 use sheet_reader::{Awaited, OpenSet, Reader, Stands};
 use term_table::WORDS;
-use widths::{size64, word_of_size, word8, word16, word32};
 
 // Words that the state takes: the line; where the reader stands, the open set, the awaited rule and the items left; the sets that were ended; how many
 // bytes of a line are held; whether the sheet stopped.
@@ -126,11 +125,7 @@ fn first_bytes(held: &[u8]) -> [u8; HELD]
     ensures { result ≡ take max_held held.now }
 {
     let mut bytes = [0; HELD];
-    let mut i: usize = 0;
-    while i < HELD {
-        bytes[i] = held[i];
-        i += 1;
-    }
+    bytes.copy_from_slice(&held[..HELD]);
     bytes
 }
 
@@ -146,11 +141,7 @@ fn bytes_in(held: &[u8]) -> [u8; HELD]
 fn stopped_in(state: &[u64]) -> bool
     ensures { result ≡ stopped_in state.now }
 {
-    let w = word(state, STOPPED);
-    if w == 0 {
-        return false;
-    }
-    true
+    word(state, STOPPED) != 0
 }
 
 // The state that the words and bytes say, whatever they are.
@@ -159,7 +150,7 @@ pub fn state_in(state: &[u64], held: &[u8]) -> State
 {
     let reader = reader_in(state);
     let bytes = bytes_in(held);
-    let length = size64(word(state, 20));
+    let length = word(state, 20) as usize;
     State {
         reader,
         held: Held { length, bytes },
@@ -173,10 +164,10 @@ fn put_set(state: &mut [u64], k: u64, g: OpenSet)
     ensures { state.new ≡ sets state.old 1 (set_words k g) }
 {
     state[1] = k;
-    state[2] = word16(g.term);
-    state[3] = word8(g.flags);
-    state[4] = word16(g.sites);
-    state[5] = word32(g.rules);
+    state[2] = u64::from(g.term);
+    state[3] = u64::from(g.flags);
+    state[4] = u64::from(g.sites);
+    state[5] = u64::from(g.rules);
 }
 
 // The words 6 to 9: the awaited rule, and the items left.
@@ -184,10 +175,10 @@ fn put_rule(state: &mut [u64], a: Awaited, left: u8)
     requires { state_words ≤ length state.old }
     ensures { state.new ≡ sets state.old 6 (rule_words a left) }
 {
-    state[6] = word32(a.place);
+    state[6] = u64::from(a.place);
     state[7] = a.priority;
-    state[8] = word8(a.count);
-    state[9] = word8(left);
+    state[8] = u64::from(a.count);
+    state[9] = u64::from(left);
 }
 
 const NO_SET: OpenSet = OpenSet {
@@ -230,8 +221,8 @@ fn put_ended(state: &mut [u64], e: EndedSets)
 {
     let used = e.used;
     let recs = e.recs;
-    state[10] = word16(e.sets);
-    state[11] = word16(e.kept);
+    state[10] = u64::from(e.sets);
+    state[11] = u64::from(e.kept);
     state[12] = used[0];
     state[13] = used[1];
     state[14] = used[2];
@@ -249,7 +240,7 @@ fn put_reader(state: &mut [u64], r: Reader)
 {
     let stands = r.stands;
     let ended = r.ended;
-    state[0] = word32(r.line);
+    state[0] = u64::from(r.line);
     put_stands(state, stands);
     put_ended(state, ended);
 }
@@ -268,7 +259,7 @@ fn put_words(state: &mut [u64], s: State)
     let reader = s.reader;
     let held = s.held;
     put_reader(state, reader);
-    state[20] = word_of_size(held.length);
+    state[20] = held.length as u64;
     state[STOPPED] = bit(s.stopped);
 }
 
@@ -277,11 +268,7 @@ fn put_bytes(held: &mut [u8], bytes: &[u8])
     requires { (max_held ≤ length held.old) × (length bytes.now ≡ max_held) }
     ensures { held.new ≡ bytes.now ++ drop max_held held.old }
 {
-    let mut i: usize = 0;
-    while i < HELD {
-        held[i] = bytes[i];
-        i += 1;
-    }
+    held[..HELD].copy_from_slice(bytes);
 }
 
 fn put_in(state: &mut [u64], held: &mut [u8], s: State)
@@ -300,10 +287,7 @@ fn put_in(state: &mut [u64], held: &mut [u8], s: State)
 pub fn keeps(state: &[u64], held: &[u8]) -> bool
     ensures { result ≡ keeps state.now held.now }
 {
-    if state.len() < STATE {
-        return false;
-    }
-    HELD <= held.len()
+    STATE <= state.len() && HELD <= held.len()
 }
 
 // The state into its words and bytes, which then say it. Where they are too few, nothing is changed.
@@ -312,9 +296,7 @@ pub fn put_state(state: &mut [u64], held: &mut [u8], s: State)
     ensures held_after { held.new ≡ (if keeps state.old held.old then held_put held.old s else held.old) }
     ensures held_after_2 { keeps state.old held.old ≡ true → state_in state.new held.new ≡ s }
 {
-    let whole = keeps(state, held);
-    if !whole {
-        return;
+    if keeps(state, held) {
+        put_in(state, held, s);
     }
-    put_in(state, held, s);
 }

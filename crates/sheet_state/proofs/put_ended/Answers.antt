@@ -35,4 +35,4 @@ pub shape_of-state : goal.shape_of-state
 shape_of-state c = simp length-set
 
 pub returns : goal.returns
-returns c = ended_put _ _ _ _ c.word16.ensures c.word16-2.ensures
+returns c = ended_put _ _ _ _ c.from.ensures c.from-2.ensures

@@ -14,4 +14,4 @@ pub bounds-state-9 : goal.bounds-state-9
 bounds-state-9 c = simp length-set (omega (arith, c.requires))
 
 pub returns : goal.returns
-returns c = rule_put _ _ _ _ _ _ c.word32.ensures c.word8.ensures c.word8-2.ensures
+returns c = rule_put _ _ _ _ _ _ c.from.ensures c.from-2.ensures c.from-3.ensures

@@ -17,4 +17,4 @@ pub bounds-state-5 : goal.bounds-state-5
 bounds-state-5 c = simp length-set (omega (arith, c.requires))
 
 pub returns : goal.returns
-returns c = set_put _ _ _ _ _ _ _ c.word16.ensures c.word8.ensures c.word16-2.ensures c.word32.ensures
+returns c = set_put _ _ _ _ _ _ _ c.from.ensures c.from-2.ensures c.from-3.ensures c.from-4.ensures
