@@ -14,7 +14,7 @@ ghost use Rattle.plan_text.specs.Walk.{misplaced_by, marks_with, bad_by, laid, r
 use sheet_lines::{line_end, part};
 use tell_text::{put_eight, put_four, put_text, put_two};
 
-// What a line says.
+// What a line says. `Bad` is one of its four answers, and no Option round the others: the theorem on what a line says (`says_exactly`) names all four.
 #[derive(Clone, Copy)]
 pub enum Spoken {
     Set { term: u16 },
@@ -150,7 +150,7 @@ pub fn line_of(text: &[u8]) -> Spoken
 
 // ---- a proposal's text
 
-// A line, and where the next one begins.
+// A line, and where the next one begins: always both.
 #[derive(Clone, Copy)]
 struct Line {
     to: usize,
@@ -275,7 +275,7 @@ fn is_inside(wanted: u16, inside: bool, said: Spoken) -> bool
     }
 }
 
-// The rule lines of one set: how many there are, and of as many as there is room for the places, the priorities and the lines' numbers.
+// The rule lines of one set, walked as in `scan`: how many there are, and of as many as there is room for the places, the priorities and the lines' numbers.
 pub fn read_rows(
     text: &[u8],
     wanted: u16,

@@ -1,4 +1,5 @@
-// The texts of `plan` and of `check-plan` (change request [11]): what the planner proposes for a set, and what the check says of a proposal.
+// The texts of `plan` and of `check-plan` (change request [11]): what the planner proposes for a set, and what the check says of a proposal. They are put into
+// lent room and not printed by Display: there is no heap, and each contract says which bytes stand there, also where the room ends.
 #![tactic(auto)]
 
 ghost use Rattle.std.specs.declared.result.Result.TheVariants.{Err};
