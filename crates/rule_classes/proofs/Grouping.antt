@@ -11,6 +11,7 @@ use Rattle.std.specs.declared.result.Result.TheVariants.{Err, Ok}
 use Rattle.std.specs.declared.option.Option.TheVariants.{Some}
 use Rattle.paper.specs.declared.Refusal.TheVariants.{Unknown, Unreachable}
 use Rattle.paper.specs.Answered.{Verdict}
+use Rattle.paper.specs.declared.Refusal.{Refusal}
 use Rattle.paper.specs.Words.{or_else, below, pairs}
 use Rattle.paper.specs.Numbers.{refused}
 use Rattle.paper.specs.Classes.{Classes, classes, no_classes}
@@ -21,7 +22,7 @@ use Rattle.classes.proofs.Uniting.{rep_rep, rep_inside}
 use Rattle.paper.specs.Answered.{Maybe}
 use Rattle.rule_rows.specs.Holding.{Held, held, bare, how_many, holders_to, holders_in, eqs_in, Inside, class_check, stray, checked, merge_each}
 use Rattle.rule_classes.specs.Growing.{One, Closed}
-use Rattle.rule_classes.specs.Meeting.{Reps, ClashIs, Seated, Classed, JoinedIs, Grouped}
+use Rattle.rule_classes.specs.Meeting.{Strays, Reps, ClashIs, Seated, Classed, JoinedIs, Grouped}
 use Rattle.rule_rows.proofs.Reading.{strays_are, told_stray, told_clean}
 use Rattle.rule_classes.proofs.Joining.{Starts, written_starts}
 use Rattle.rule_classes.proofs.Turning.{exactly}
@@ -117,3 +118,16 @@ module _ (eqs : List ℕ) (H : Held) (a : ℕ) (ea : a ≡ or_else (stray eqs) 0
         unfolding checked
         grouped p boss (Ok _) C = (clean, C)
         grouped p boss (Err e) q = rw clean q
+
+-- the same by what `known` answers
+module _ (eqs : List ℕ) (H : Held) where
+  pub known_first : (e : Refusal) → Strays eqs (Err e) → checked eqs H ≡ refused e
+  known_first e S = rw S.3 (stray_eqs eqs H S.0 S.1 S.2)
+
+  module _ (ze : or_else (stray eqs) 0 ≡ 0) where
+    pub known_second : (e : Refusal) → Strays H.sites (Err e) → checked eqs H ≡ refused e
+    known_second e S = rw S.3 (stray_sites eqs H _ refl ze S.0 S.1 S.2)
+
+    module _ (zs : or_else (stray H.sites) 0 ≡ 0) where
+      pub known_third : (e : Refusal) → Strays H.kids (Err e) → checked eqs H ≡ refused e
+      known_third e S = rw S.3 (stray_kids eqs H _ refl ze _ refl zs S.0 S.1 S.2)

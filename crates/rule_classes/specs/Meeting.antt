@@ -4,6 +4,8 @@ use Rattle.std.specs.declared.option.Option.TheVariants.{None, Some}
 use Rattle.std.specs.Prelude.{◌≡◌, true, false, ◌↔◌, List, ◌++◌, ℕ, ◌≤◌, ◌<◌, get_or, length}
 use Rattle.std.proofs.Math.Option.{none}
 use Rattle.paper.specs.Answered.{Verdict}
+use Rattle.paper.specs.Words.{or_else}
+use Rattle.paper.specs.declared.Refusal.TheVariants.{Unknown}
 use Rattle.paper.specs.Numbers.{max_sites, refused}
 use Rattle.paper.specs.Loading.{Together}
 use Rattle.paper.specs.Sites.{same_constraint}
@@ -75,6 +77,11 @@ JoinedIs eqs H p boss (Ok _) = Classed eqs H p boss
 JoinedIs eqs H p boss (Err e) = class_check (eqs_in eqs) (holders_in H) ≡ refused e
 
 -- after 2
+-- whether xs has a number that is no site, told by the first of them
+abbrev pub Strays : List ℕ → Verdict → Type 0
+Strays xs (Ok _) = or_else (stray xs) 0 ≡ 0
+Strays xs (Err e) = (a : ℕ) × (a ≡ or_else (stray xs) 0) × (a ≡ 0 → ⊥) × (e ≡ Unknown a)
+
 abbrev pub Grouped : List ℕ → Held → List ℕ → List ℕ → Verdict → Type 0
 Grouped eqs H p boss (Ok _) = (stray (eqs ++ (H.sites ++ H.kids)) ≡ none) × Classed eqs H p boss
 Grouped eqs H p boss (Err e) = checked eqs H ≡ refused e

@@ -10,7 +10,7 @@ ghost use Rattle.classes.specs.Answers.{rep};
 ghost use Rattle.classes.specs.Well.{Well};
 ghost use Rattle.rule_rows.specs.Holding.{held, bare, shape_in, eqs_in, Inside, merge_each};
 ghost use Rattle.rule_classes.specs.Growing.{Equates, JoinsKids, Meets, SweptTo, Closed};
-ghost use Rattle.rule_classes.specs.Meeting.{Reps, Unlike, ClashIs, Seated, JoinedIs, Grouped};
+ghost use Rattle.rule_classes.specs.Meeting.{Reps, Unlike, ClashIs, Seated, JoinedIs, Strays, Grouped};
 
 use paper::{Refusal, SITES};
 use rule_lists::at;
@@ -247,6 +247,17 @@ fn join(
     }
 }
 
+// Refuses the first number that is no site.
+fn known(xs: &[u16]) -> Result<(), Refusal>
+    ensures { Strays xs.now result }
+{
+    let site = first_stray(xs);
+    if site != 0 {
+        return Err(Refusal::Unknown { site });
+    }
+    Ok(())
+}
+
 // Check 4 of the written equalities and the holders, after 2 for a number that is no site. Where it passes, p has the parents of the classes, and boss
 // the first holder of each class by root.
 pub fn group(
@@ -261,17 +272,8 @@ pub fn group(
     ensures { let L = held sites.now rows.now words.now kids.now in
         Grouped eqs.now L p.new boss.new result }
 {
-    let a = first_stray(eqs);
-    if a != 0 {
-        return Err(Refusal::Unknown { site: a });
-    }
-    let b = first_stray(sites);
-    if b != 0 {
-        return Err(Refusal::Unknown { site: b });
-    }
-    let d = first_stray(kids);
-    if d != 0 {
-        return Err(Refusal::Unknown { site: d });
-    }
+    known(eqs)?;
+    known(sites)?;
+    known(kids)?;
     join(p, boss, eqs, sites, rows, words, kids)
 }
