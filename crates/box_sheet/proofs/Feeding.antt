@@ -8,7 +8,6 @@ use native.Mathlib.Nat.{zero-add}
 use native.Mathlib.Omega.{arith}
 use lib.ListN.{length, get_or, set, take, drop, take-append-drop, length-replicate}
 use lib.Seq.{take_all}
-use lib.Dec.{leb}
 use borrow.Author.Tests.{leb-true}
 use Rattle.std.specs.declared.result.Result.TheVariants.{Err, Ok}
 use Rattle.std.specs.declared.option.Option.TheVariants.{None, Some}
@@ -66,22 +65,6 @@ module _ (s : State) (k k' : Lent) (room room' piece : List ℕ) (i : ℕ) (s' :
       go false h = let m : n ≡ i = rw h at e in rw m F
 
 -- ---- what is lent is long enough
-
-pub lends_is : (m ws i : List ℕ) → lends m ws i ≡ both (has_room m sites_room) (both (has_room ws kept_room) (has_room i items_room))
-unfolding lends
-lends_is m ws i = refl
-
-pub writes_is : (room : List ℕ) (n : ℕ) (a : List ℕ) → writes room n a ≡ both (has_room room n) (has_room a answer_words)
-unfolding writes
-writes_is room n a = refl
-
-pub last_test : (m : List ℕ) (n : ℕ) (a : Bool) → a ≡ true → leb n (length m) ≡ both a (has_room m n)
-unfolding both has_room
-last_test m n a e = rw e
-
-pub past_test : (a b c : Bool) → a ≡ true → c ≡ b → c ≡ both a b
-unfolding both
-past_test a b c e p = rw e p
 
 both_are : (a b : Bool) → both a b ≡ true → (a ≡ true) × (b ≡ true)
 unfolding both

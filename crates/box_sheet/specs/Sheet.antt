@@ -7,7 +7,6 @@ use Rattle.paper.specs.Sheets.{findings}
 use Rattle.sheet_findings.specs.Written.{written_at}
 use Rattle.paper.specs.Answered.{Maybe}
 use Rattle.term_table.specs.Table.{Square}
-use Rattle.sheet_ended.specs.Sets.{end_room}
 use Rattle.sheet_lines.specs.Fed.{Reading, ended}
 use Rattle.sheet_lines.specs.Pieces.{as_lines}
 use Rattle.sheet_reader.specs.State.{Lent, lent, step_room, sites_room, kept_room, items_room}

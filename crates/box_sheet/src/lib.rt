@@ -16,54 +16,41 @@ use box_answers::{ANSWER, SHORT, Said, crowded, done, say};
 use item_words::ITEMS_ROOM;
 use paper::TERMS;
 use sheet_ended::END_ROOM;
-use sheet_read::{Unchecked, KEPT_ROOM, SITES_ROOM};
+use sheet_read::{KEPT_ROOM, SITES_ROOM, Unchecked};
 use sheet_reader::STEP_ROOM;
 use sheet_state::{keeps, put_state, state_in};
 use term_table::WORDS;
 
 // Whether the memory is enough for any set.
+#[tactic(auto, unfolding(crate::specs::Sheet::lends, box_answers::specs::Border::both, box_answers::specs::Border::has_room))]
 fn lends(slots: &[u8], words: &[u64], items: &[u64]) -> bool
     ensures { result ≡ lends slots.now words.now items.now }
 {
-    if slots.len() < SITES_ROOM {
-        return false;
-    }
-    if words.len() < KEPT_ROOM {
-        return false;
-    }
-    ITEMS_ROOM <= items.len()
+    SITES_ROOM <= slots.len() && KEPT_ROOM <= words.len() && ITEMS_ROOM <= items.len()
 }
 
 // Whether so many bytes of findings and an answer find room.
+#[tactic(auto, unfolding(crate::specs::Sheet::writes, box_answers::specs::Border::both, box_answers::specs::Border::has_room))]
 fn writes(room: &[u8], least: usize, answer: &[u64]) -> bool
     ensures { result ≡ writes room.now least answer.now }
 {
-    if room.len() < least {
-        return false;
-    }
-    ANSWER <= answer.len()
+    least <= room.len() && ANSWER <= answer.len()
 }
 
+#[tactic(auto, unfolding(crate::specs::Sheet::ended_said))]
 fn ended_said(r: Option<usize>) -> Said
     ensures { result ≡ ended_said r }
 {
-    match r {
-        Some(n) => done(n as u64, 0),
-        None => crowded(),
-    }
+    r.map_or_else(crowded, |n| done(n as u64, 0))
 }
 
+#[tactic(auto, unfolding(crate::specs::Sheet::checked_said))]
 fn checked_said(c: Result<usize, Unchecked>) -> Said
     ensures { result ≡ checked_said c }
 {
     match c {
         Ok(n) => done(n as u64, 0),
-        Err(Unchecked::NoRoom) => crowded(),
-        Err(Unchecked::NoMemory) => Said {
-            number: SHORT,
-            one: 0,
-            two: 0,
-        },
+        Err(Unchecked::NoRoom | Unchecked::NoMemory) => crowded(),
     }
 }
 
@@ -71,10 +58,7 @@ fn checked_said(c: Result<usize, Unchecked>) -> Said
 fn counted(stopped: bool, read: usize, all: usize) -> usize
     ensures { result ≡ (if stopped then all else read) }
 {
-    if stopped {
-        return all;
-    }
-    read
+    if stopped { all } else { read }
 }
 
 // Before the first piece.
@@ -86,8 +70,7 @@ pub fn begin_sheet(state: &mut [u64], held: &mut [u8], table: &mut [[u64; WORDS]
         held.new ≡ after fits held.old (held_put held.old first_state) }
     ensures table_after { let fits = keeps state.old held.old in table.new ≡ after fits table.old no_edges }
 {
-    let whole = keeps(state, held);
-    if !whole {
+    if !keeps(state, held) {
         return SHORT;
     }
     let s = sheet_read::begin(table);
@@ -118,16 +101,13 @@ pub fn feed_piece(
         FeedSays fits state.old held.old old piece.now room.old answer.old
         state.new held.new new room.new answer.new result }
 {
-    let whole = keeps(state, held);
-    if !whole {
+    if !keeps(state, held) {
         return SHORT;
     }
-    let memory = lends(slots, words, items);
-    if !memory {
+    if !lends(slots, words, items) {
         return SHORT;
     }
-    let written = writes(room, STEP_ROOM, answer);
-    if !written {
+    if !writes(room, STEP_ROOM, answer) {
         return SHORT;
     }
     let s = state_in(state, held);
@@ -152,12 +132,10 @@ pub fn end_sheet(
         EndSays fits state.now held.now table.now room.old answer.old
         room.new answer.new result }
 {
-    let whole = keeps(state, held);
-    if !whole {
+    if !keeps(state, held) {
         return SHORT;
     }
-    let written = writes(room, END_ROOM, answer);
-    if !written {
+    if !writes(room, END_ROOM, answer) {
         return SHORT;
     }
     let s = state_in(state, held);
@@ -185,12 +163,10 @@ pub fn check_sheet(
         let new = lent slots.new words.new items.new table.new in
         CheckSays fits sheet.now old room.old answer.old new room.new answer.new result }
 {
-    let memory = lends(slots, words, items);
-    if !memory {
+    if !lends(slots, words, items) {
         return SHORT;
     }
-    let written = writes(room, STEP_ROOM, answer);
-    if !written {
+    if !writes(room, STEP_ROOM, answer) {
         return SHORT;
     }
     let c = sheet_read::check(sheet, slots, words, items, table, room);
