@@ -19,8 +19,7 @@ use item_words::ITEMS_ROOM;
 use paper::{CONSTRAINED, EQUALS, FIELDS, ITEMS, RULES, Refusal, Rule, SITES};
 use rule_items::Progress;
 use rule_rounds::{Halt, Solved, Start};
-
-const SLOT: usize = 32;
+use sites::SLOT;
 
 // For each item the three words of its constraint, the numbers of its children, and two numbers of an equality.
 const SHAPES: usize = 3 * ITEMS;
@@ -251,6 +250,7 @@ fn put_bytes(m: &mut [u8], at: usize, bytes: &[u8])
 }
 
 // Writes the body of a child into slot i: its length, its kind, its source, and what else the kind has.
+// The kinds stay numbers, since they are the bytes that slots hold: 8 for a field of a variant, 10 for one of a struct, 12 for what `Some` holds.
 fn write_child(m: &mut [u8], i: usize, w: u64)
     requires { (i < max_sites) × (i * slot + slot ≤ length m.old) × ChildWord w }
     ensures { m.new ≡ put m.old (i * slot) (length (body (site_of_word w)) ∷ body (site_of_word w)) }
@@ -404,7 +404,7 @@ fn attempt(
     }
 }
 
-// Loads an admitted rule with lists that are never too short.
+// Loads an admitted rule with lists that are never too short. Apart from `load_handed`, so that its lists take stack only for a rule that needs them.
 fn at_large(
     m: &mut [u8],
     n: u16,
