@@ -1,14 +1,15 @@
 -- Digits one after another, and stores one after another.
 use mathlib.Core.Path.{◌≡◌, refl, sym, ap, ◌∙◌}
 use mathlib.Core.List.{List, [], ◌∷◌, ◌++◌}
-use Prim.Native.Nat.{ℕ, suc, ◌+◌, ◌*◌, ◌/◌, ◌%◌, ◌<◌, ◌≤◌}
+use Prim.Native.Nat.{ℕ, suc, ◌+◌, ◌*◌, ◌/◌, ◌%◌, ◌<◌, ◌≤◌, min}
 use native.Mathlib.Omega.{arith}
 use native.Mathlib.Numerals.{add-one}
 use Rattle.std.specs.Int.{w16, w32, to_be_bytes, byte_at}
 use Rattle.std.proofs.lemmas.List.{take_more, length-take-le}
 use lib.ListN.{length, get_or, take, set}
 use lib.Seq.{sets, set_out}
-use borrow.Author.Tests.{lt-ltb, le-ltb}
+use Rattle.std.specs.Prelude.{Bool, true, false, ltb}
+use borrow.Author.Tests.{lt-ltb, le-ltb, ltb-true, ltb-false}
 use Rattle.paper.specs.Words.{two, four}
 use Rattle.paper.specs.Layout.{digit_of, hex}
 use Rattle.sheet_digits.specs.Digits.{digits_of}
@@ -61,6 +62,22 @@ bytes_more l v w s i k h e f =
     let n : length (take k s) ≡ k = length-take-le k s (omega arith) in
     let d = digits_append (take k s) (get_or s k 0 ∷ []) in
     rw (take_more s k 0 h, d) (then_sets l v w i (i + 2 * k) (digits_of (take k s)) (digits_of (get_or s k 0 ∷ [])) e (omega (arith, length_digits (take k s))) f)
+
+sets_past : {A : Type 0} (l : List A) (i : ℕ) (ys : List A) → length l ≤ i → sets l i ys ≡ l
+sets_past l i [] h = refl
+sets_past l i (y ∷ ys) h = let o = set_out l i y h in ap (λ z. sets z (suc i) ys) o ∙ sets_past l (suc i) ys (omega (arith, h))
+
+-- the same where the place stops at the highest number, past the end of any room
+pub bytes_far : (l v w s : List ℕ) (i k j : ℕ) → k < length s → v ≡ sets l i (digits_of (take k s)) → j ≡ min (i + 2 * k) 18446744073709551615 → length v < 18446744073709551615
+    → w ≡ sets v j (digits_of (get_or s k 0 ∷ [])) → w ≡ sets l i (digits_of (take (k + 1) s))
+bytes_far l v w s i k j h e m r f = go _ refl where
+  go : (b : Bool) → ltb (i + 2 * k) 18446744073709551615 ≡ b → w ≡ sets l i (digits_of (take (k + 1) s))
+  go true t = let q = ltb-true (i + 2 * k) 18446744073709551615 t in let z : j ≡ i + 2 * k = omega (arith, m, q) in bytes_more l v w s i k h e (rw (sym z) f)
+  go false t =
+      let q = ltb-false (i + 2 * k) 18446744073709551615 t in
+      let past = sets_past v j (digits_of (get_or s k 0 ∷ [])) (omega (arith, m, q, r)) in
+      let same = sets_past v (i + 2 * k) (digits_of (get_or s k 0 ∷ [])) (omega (arith, q, r)) in
+      bytes_more l v w s i k h e (f ∙ (past ∙ sym same))
 
 pub two_is : (n : ℕ) → n < 65536 → to_be_bytes w16 n ≡ two n
 unfolding two
