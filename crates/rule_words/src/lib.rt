@@ -258,7 +258,7 @@ fn site(sites: &[u16], k: usize) -> u64
 }
 
 // Where the words of the constrained site k of the rule at b start.
-pub fn constrained_start(b: usize, k: usize) -> usize
+fn constrained_start(b: usize, k: usize) -> usize
     requires { (b + 1000000 < 18446744073709551616) × (k ≤ max_constrained) }
     ensures { (result ≡ constrained_word b k) × (result + 1000 < 18446744073709551616) }
 {
