@@ -5,12 +5,17 @@ use mathlib.Core.List.{List, [], ◌∷◌}
 use Prim.Native.Nat.{ℕ, ◌+◌, ◌-◌, ◌≤◌, ◌<◌}
 use Rattle.std.specs.Prelude.{Result, Ok, Err, OnOk, OnErr}
 use native.Mathlib.Omega.{arith}
-use lib.ListN.{length, get_or}
+use lib.ListN.{length, get_or, drop}
 use lib.Dec.{eqb, ltb}
 use borrow.Author.Tests.{lt-ltb, le-ltb, ltb-true, ltb-false}
 use Rattle.paper.specs.Text.{text}
 use Rattle.paper.specs.Answered.{Maybe}
-use Rattle.sheet_ended.specs.Sets.{to_or}
+use Rattle.std.specs.Option.{unwrap_or}
+use Rattle.std.specs.List.{starts_with}
+use Rattle.std.proofs.lemmas.Bool.Decides.{Decides-eqb}
+use Rattle.std.proofs.lemmas.Slice.Eq.{starts_is}
+use Rattle.paper.proofs.Lists.{drop_all}
+use Rattle.paper.proofs.Laws.{same_list_true, same_list_refl}
 use Rattle.sheet_lines.specs.declared.Held.{Held}
 use Rattle.sheet_lines.specs.Held.{no_line}
 use Rattle.sheet_lines.specs.Cut.{part_of}
@@ -24,7 +29,6 @@ use Rattle.sheet_read.specs.Whole.{first_state, Ends}
 use Rattle.tell_text.specs.Written.{wrote}
 use Rattle.run_answers.specs.declared.How.{How}
 use Rattle.run_answers.specs.Told.{answer, last_answer}
-use Rattle.run_answers.proofs.Laws.{first_same, first_other, one_same, other_length}
 use Rattle.run_lines.specs.declared.Marks.{Marks}
 use Rattle.run_lines.specs.declared.Flow.{Flow}
 use Rattle.run_lines.specs.Taken.{is_border, goes_on, need, spared, free_in, Took, state_of, Closed, fresh_flow, Bordered, flow_of, Taken}
@@ -44,31 +48,27 @@ no_way e f = let z : ◌≡◌ {A = ℕ} 0 1 = cc in absurd (omega arith)
 -- ---- the line between two sheets
 pub no_border : (s : List ℕ) → (length s ≡ 4 → ⊥) → false ≡ is_border s
 unfolding is_border
-no_border s h = sym (other_length s _ h)
+no_border s h = go (is_border s) refl
+  where
+    go : (y : Bool) → is_border s ≡ y → false ≡ is_border s
+    go false g = sym g
+    go true g = absurd (h (ap length (same_list_true s (45 ∷ 45 ∷ 45 ∷ 45 ∷ []) g)))
 
-four_of : (P : List ℕ → Type 0) → ((a b c d : ℕ) → P (a ∷ b ∷ c ∷ d ∷ [])) → (s : List ℕ) → length s ≡ 4 → P s
-four_of P f [] h = absurd (omega arith)
-four_of P f (a ∷ []) h = absurd (omega arith)
-four_of P f (a ∷ b ∷ []) h = absurd (omega arith)
-four_of P f (a ∷ b ∷ c ∷ []) h = absurd (omega arith)
-four_of P f (a ∷ b ∷ c ∷ d ∷ []) h = f a b c d
-four_of P f (a ∷ b ∷ c ∷ d ∷ e ∷ s) h = absurd (omega arith)
-
-pub border_first : (s : List ℕ) → length s ≡ 4 → (get_or s 0 0 ≡ 45 → ⊥) → false ≡ is_border s
+pub border_is : (s : List ℕ) (b : Bool) → length s ≡ 4 → b ≡ starts_with eqb s (45 ∷ 45 ∷ 45 ∷ 45 ∷ []) → b ≡ is_border s
 unfolding is_border
-border_first s h = four_of (λ s. (get_or s 0 0 ≡ 45 → ⊥) → false ≡ is_border s) (λ a b c d g. sym (first_other a 45 _ _ g)) s h
-
-pub border_second : (s : List ℕ) → length s ≡ 4 → get_or s 0 0 ≡ 45 → (get_or s 1 0 ≡ 45 → ⊥) → false ≡ is_border s
-unfolding is_border
-border_second s h = four_of (λ s. get_or s 0 0 ≡ 45 → (get_or s 1 0 ≡ 45 → ⊥) → false ≡ is_border s) (λ a b c d e g. sym (first_same a 45 _ _ e ∙ first_other b 45 _ _ g)) s h
-
-pub border_third : (s : List ℕ) → length s ≡ 4 → get_or s 0 0 ≡ 45 → get_or s 1 0 ≡ 45 → (get_or s 2 0 ≡ 45 → ⊥) → false ≡ is_border s
-unfolding is_border
-border_third s h = four_of (λ s. get_or s 0 0 ≡ 45 → get_or s 1 0 ≡ 45 → (get_or s 2 0 ≡ 45 → ⊥) → false ≡ is_border s) (λ a b c d e f g. sym (first_same a 45 _ _ e ∙ (first_same b 45 _ _ f ∙ first_other c 45 _ _ g))) s h
-
-pub border_last : (s : List ℕ) → length s ≡ 4 → get_or s 0 0 ≡ 45 → get_or s 1 0 ≡ 45 → get_or s 2 0 ≡ 45 → eqb (get_or s 3 0) 45 ≡ is_border s
-unfolding is_border
-border_last s h = four_of (λ s. get_or s 0 0 ≡ 45 → get_or s 1 0 ≡ 45 → get_or s 2 0 ≡ 45 → eqb (get_or s 3 0) 45 ≡ is_border s) (λ a b c d e f g. one_same d 45 ∙ sym (first_same a 45 _ _ e ∙ (first_same b 45 _ _ f ∙ first_same c 45 _ _ g))) s h
+border_is s b n e = go b (is_border s) refl refl
+  where
+    go : (x y : Bool) → b ≡ x → is_border s ≡ y → b ≡ is_border s
+    go true true f g = f ∙ sym g
+    go false false f g = f ∙ sym g
+    go true false f g =
+        let w = starts_is Decides-eqb s (45 ∷ 45 ∷ 45 ∷ 45 ∷ []) b e in
+        let none : drop 4 s ≡ [] = drop_all s 4 (omega arith) in
+        let four : s ≡ 45 ∷ 45 ∷ 45 ∷ 45 ∷ [] = rw none at (w.0 f) in
+        f ∙ sym (ap is_border four ∙ same_list_refl (45 ∷ 45 ∷ 45 ∷ 45 ∷ []))
+    go false true f g =
+        let w = starts_is Decides-eqb s (45 ∷ 45 ∷ 45 ∷ 45 ∷ []) b e in
+        w.1 [] (same_list_true s (45 ∷ 45 ∷ 45 ∷ 45 ∷ []) g) ∙ sym g
 
 -- ---- room
 pub no_room : (len n : ℕ) → len ≤ n → false ≡ ltb (n + need) len
@@ -105,9 +105,9 @@ module _ (how : How) (r : Reader) (k : Marks) (h : Held) (t : Square) (room out 
   pub stopped_here : (n : ℕ) → k.goes ≡ false → n ≡ spared (length out) k.filled → Closed how r k h t room room out out n
   stopped_here n e f = record { last = λ g. no_way g e; stopped = λ g. (ap (λ (z : ℕ). (out, z)) f, refl) }
 
-  pub last_here : (room' out' f : List ℕ) (at to n : ℕ) (w : Maybe ℕ) → k.goes ≡ true → at ≡ spared (length out) k.filled → ((m ws i : List ℕ) → Ends (state_of r h) (lent m ws i t) room room' 0 w) → to ≡ to_or w 0 → f ≡ part_of room' 0 to → (out', n) ≡ wrote (out, at) (last_answer how k.found t f) → length room' ≡ length room → Closed how r k h t room room' out out' n
+  pub last_here : (room' out' f : List ℕ) (at to n : ℕ) (w : Maybe ℕ) → k.goes ≡ true → at ≡ spared (length out) k.filled → ((m ws i : List ℕ) → Ends (state_of r h) (lent m ws i t) room room' 0 w) → to ≡ unwrap_or w 0 → f ≡ part_of room' 0 to → (out', n) ≡ wrote (out, at) (last_answer how k.found t f) → length room' ≡ length room → Closed how r k h t room room' out out' n
   last_here room' out' f at to n w e a b c d g j =
-      let x : f ≡ part_of room' 0 (to_or w 0) = d ∙ ap (part_of room' 0) c in
+      let x : f ≡ part_of room' 0 (unwrap_or w 0) = d ∙ ap (part_of room' 0) c in
       record {
         last = λ i. record { said = w; ends = b; same = j; answers = g ∙ (ap (λ (z : ℕ). wrote (out, z) (last_answer how k.found t f)) a ∙ ap (λ z. wrote (free_in out k) (last_answer how k.found t z)) x) };
         stopped = λ i. no_way e i;

@@ -4,7 +4,7 @@ use Rattle.std.specs.Prelude.{if◌then◌else◌}
 use Rattle.paper.specs.Words.{same_list}
 use Rattle.paper.specs.Text.{text, unended}
 use Rattle.paper.specs.Answered.{Maybe}
-use Rattle.sheet_ended.specs.Sets.{to_or}
+use Rattle.std.specs.Option.{unwrap_or}
 use Rattle.sheet_lines.specs.declared.Held.{Held}
 use Rattle.sheet_lines.specs.Held.{no_line}
 use Rattle.sheet_lines.specs.Cut.{part_of}
@@ -82,7 +82,7 @@ pub record ToldLast (how : How) (r : Reader) (k : Marks) (h : Held) (t : Square)
   pub said : Maybe ℕ
   pub ends : (m ws i : List ℕ) → Ends (state_of r h) (lent m ws i t) room room' 0 said
   pub same : length room' ≡ length room
-  pub answers : (out', n) ≡ wrote (free_in out k) (last_answer how k.found t (part_of room' 0 (to_or said 0)))
+  pub answers : (out', n) ≡ wrote (free_in out k) (last_answer how k.found t (part_of room' 0 (unwrap_or said 0)))
 
 pub record Closed (how : How) (r : Reader) (k : Marks) (h : Held) (t : Square) (room room' out out' : List ℕ) (n : ℕ) : Type 0 where
   pub last : k.goes ≡ true → ToldLast how r k h t room room' out out' n

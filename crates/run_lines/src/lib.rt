@@ -9,7 +9,6 @@ ghost use Rattle.run_lines.specs.Taken.{is_border, goes_on, need, spared, Overfu
 
 use paper::TERMS;
 use run_answers::{How, put_end, put_step};
-use sheet_ended::to_or;
 use sheet_lines::{Held, nothing, part};
 use sheet_read::State;
 use sheet_reader::{Event, Reader};
@@ -42,10 +41,7 @@ pub struct Flow {
 fn has_room(len: usize, n: usize) -> bool
     ensures { result ≡ ltb (n + need) len }
 {
-    if len <= n {
-        return false;
-    }
-    NEED < len - n
+    NEED < len.saturating_sub(n)
 }
 
 fn flush<W: io::Write>(output: &mut W, out: &[u8], n: usize) -> io::Result<()> {
@@ -70,33 +66,7 @@ fn spare<W: io::Write>(output: &mut W, out: &[u8], n: usize) -> io::Result<usize
 fn goes_on(e: &Event) -> bool
     ensures { result ≡ goes_on e.now }
 {
-    match *e {
-        Event::Begun => true,
-        Event::Site => true,
-        Event::Item => true,
-        Event::Kept {
-            place: _,
-            priority: _,
-        } => true,
-        Event::Refused {
-            place: _,
-            priority: _,
-            why: _,
-        } => true,
-        Event::Ended => true,
-        Event::Stopped(_) => false,
-        Event::NoRoom => false,
-    }
-}
-
-// Whether the sheet has a finding, where a line wrote so much.
-fn has_found(before: bool, to: usize) -> bool
-    ensures { result ≡ (before || ltb 0 to) }
-{
-    if before {
-        return true;
-    }
-    0 < to
+    !matches!(*e, Event::Stopped(_) | Event::NoRoom)
 }
 
 // A line of the open sheet.
@@ -125,16 +95,13 @@ fn take_line<W: io::Write>(
     let at = spare(output, out, marks.filled)?;
     let stood = reader.stands;
     let s = sheet_step::step(reader, text, m, words, items, table, room, 0);
-    let to = s.to;
-    let e = s.event;
-    let r = s.reader;
-    let stands = r.stands;
-    let found = part(room, 0, to);
-    let goes = goes_on(&e);
-    let filled = put_step(how, e, stood, stands, m, words, found, out, at);
-    let found = has_found(marks.found, to);
+    let goes = goes_on(&s.event);
+    let stands = s.reader.stands;
+    let said = part(room, 0, s.to);
+    let filled = put_step(how, s.event, stood, stands, m, words, said, out, at);
+    let found = marks.found || 0 < s.to;
     Ok(Flow {
-        reader: r,
+        reader: s.reader,
         marks: Marks {
             filled,
             goes,
@@ -170,7 +137,7 @@ pub fn end_sheet<W: io::Write>(
         held,
         stopped: false,
     };
-    let to = to_or(sheet_read::end(s, table, room, 0), 0);
+    let to = sheet_read::end(s, table, room, 0).unwrap_or(0);
     let found = part(room, 0, to);
     Ok(put_end(how, marks.found, table, found, out, at))
 }
@@ -179,10 +146,8 @@ pub fn end_sheet<W: io::Write>(
 pub fn fresh(table: &mut [[u64; WORDS]; TERMS], filled: usize) -> Flow
     ensures { (result ≡ fresh_flow filled) × (table.new ≡ no_edges) }
 {
-    let s = sheet_read::begin(table);
-    let reader = s.reader;
     Flow {
-        reader,
+        reader: sheet_read::begin(table).reader,
         marks: Marks {
             filled,
             goes: true,
@@ -215,29 +180,11 @@ fn next_sheet<W: io::Write>(
 fn is_border(text: &[u8]) -> bool
     ensures { result ≡ is_border text.now }
 {
+    // Not `==` with the four bytes: tried, and the proof did not close.
     if text.len() != 4 {
         return false;
     }
-    if text[0] != b'-' {
-        return false;
-    }
-    if text[1] != b'-' {
-        return false;
-    }
-    if text[2] != b'-' {
-        return false;
-    }
-    text[3] == b'-'
-}
-
-// Whether a sheet ends here, and another begins.
-fn borders(many: bool, text: &[u8]) -> bool
-    ensures { result ≡ (many && is_border text.now) }
-{
-    if many {
-        return is_border(text);
-    }
-    false
+    text.starts_with(b"----")
 }
 
 // A whole line. After a sheet has stopped its lines are passed over. After a write that failed nothing has changed.
@@ -266,7 +213,7 @@ pub fn take_text<W: io::Write>(
 {
     let reader = f.reader;
     let marks = f.marks;
-    if borders(many, text) {
+    if many && is_border(text) {
         return next_sheet(output, how, reader, marks, table, room, out);
     }
     if marks.goes {
