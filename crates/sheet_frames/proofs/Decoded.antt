@@ -14,8 +14,8 @@ use Rattle.std.specs.Prelude.{if◌then◌else◌}
 use Rattle.paper.specs.Numbers.{max_digits}
 use Rattle.paper.specs.Layout.{digit, with_byte, bytes, line_bytes}
 use Rattle.paper.proofs.Lists.{drop_all}
-use Rattle.sheet_frames.specs.declared.Bytes.{Bytes}
-use Rattle.sheet_frames.specs.declared.digits.Taken.{Taken}
+use Rattle.std.specs.declared.option.Option.TheVariants.{None, Some}
+use Rattle.paper.specs.Answered.{Maybe}
 use Rattle.sheet_frames.specs.Said.{max_bytes, pair_value, padded, bytes_said, Takes}
 
 -- ---- two digits
@@ -163,22 +163,15 @@ line_right l out k j h p e a b d =
     rw s (cc)
 
 -- ---- taken, or not
-pub taken_none : (l out : List ℕ) (t : Taken) → (t.right ≡ false) × (t.length ≡ 0) → line_bytes l ≡ none → Takes l out t
-taken_none l out t e f = record {
-  wrong = λ x. f;
-  right = λ x. absurd (let z : true ≡ false = sym x ∙ e.0 in let y : ◌≡◌ {A = ℕ} 0 1 = cc in omega arith);
-  short = omega (arith, e.1);
-}
+pub taken_none : (l out : List ℕ) → line_bytes l ≡ none → Takes l out None
+taken_none l out f = record { wrong = λ x. f; right = λ n x. absurd (let y : ◌≡◌ {A = ℕ} 0 1 = cc in omega arith) }
 
-pub taken_right : (l out : List ℕ) (k : ℕ) → record { right = true; length = k; bytes = out } ≡ bytes_said (line_bytes l) → k ≤ max_bytes → Takes l out (record { right = true; length = k })
+pub taken_right : (l out : List ℕ) (k : ℕ) → record { right = true; length = k; bytes = out } ≡ bytes_said (line_bytes l) → k ≤ max_bytes → Takes l out (Some k)
 taken_right l out k e h = record {
   wrong = λ x. absurd (let y : ◌≡◌ {A = ℕ} 0 1 = cc in omega arith);
-  right = λ x. e;
-  short = h;
+  right = λ n x. let z : k ≡ n = cc in rw (← z) (e, h);
 }
 
-pub bytes_none : (l out : List ℕ) (t : Taken) (r : Bytes) → Takes l out t → t.right ≡ false → r ≡ bytes_said none → (r ≡ bytes_said (line_bytes l)) × (r.length ≤ max_bytes)
-unfolding bytes_said
-bytes_none l out t r T f e =
-    let n : r.length ≡ 0 = ap (λ b. b.length) e in
-    (e ∙ sym (ap bytes_said (T.wrong f)), omega arith)
+pub bytes_none : (l out : List ℕ) (t : Maybe ℕ) → Takes l out t → t ≡ None → (record { right = false; length = 0; bytes = replicate max_bytes 0 } ≡ bytes_said (line_bytes l)) × (0 ≤ max_bytes)
+unfolding bytes_said padded
+bytes_none l out t T f = (rw (T.wrong f), omega arith)

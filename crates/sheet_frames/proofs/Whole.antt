@@ -10,7 +10,8 @@ use lib.Seq.{take_at}
 use Rattle.paper.specs.Words.{or_else}
 use Rattle.paper.specs.Layout.{line_bytes, framed, frame_of, whole, frame_read}
 use Rattle.sheet_frames.specs.declared.Bytes.{Bytes}
-use Rattle.sheet_frames.specs.declared.digits.Taken.{Taken}
+use Rattle.std.specs.declared.option.Option.TheVariants.{None, Some}
+use Rattle.paper.specs.Answered.{Maybe}
 use Rattle.sheet_frames.specs.declared.Read.{Read}
 use Rattle.sheet_frames.specs.declared.Frame.{Frame}
 use Rattle.sheet_frames.specs.declared.Frame.TheVariants as said
@@ -23,7 +24,7 @@ reading_is : (l : List ℕ) → reading_of l ≡ reading (line_bytes l)
 unfolding reading_of frame_of
 reading_is l = refl
 
-pub wrong_read : (l out : List ℕ) (t : Taken) → Takes l out t → t.right ≡ false → (record { frame = said.Wrong; length = 0; bytes = replicate max_bytes 0 } ≡ reading_of l) × (0 ≤ max_bytes)
+pub wrong_read : (l out : List ℕ) (t : Maybe ℕ) → Takes l out t → t ≡ None → (record { frame = said.Wrong; length = 0; bytes = replicate max_bytes 0 } ≡ reading_of l) × (0 ≤ max_bytes)
 unfolding padded code
 wrong_read l out t T f = (ap reading (sym (T.wrong f)) ∙ sym (reading_is l), omega arith)
 
@@ -53,15 +54,15 @@ lent_fits none b e = rw e (let n = length-replicate {A = ℕ} max_bytes 0 in ome
 lent_fits (some s) b e = rw e (simp length-append (omega arith))
 
 -- ---- the same of what was taken
-module _ (l out : List ℕ) (t : Taken) (T : Takes l out t) (e : t.right ≡ true) where
-  pub taken_read : (f : Frame) → f ≡ frame_in (take t.length out) → (record { frame = f; length = t.length; bytes = out } ≡ reading_of l) × (t.length ≤ max_bytes)
-  taken_read f g = (right_read l (record { right = true; length = t.length; bytes = out }) f (T.right e) refl g, T.short)
+module _ (l out : List ℕ) (t : Maybe ℕ) (T : Takes l out t) (n : ℕ) (e : t ≡ Some n) where
+  pub taken_read : (f : Frame) → f ≡ frame_in (take n out) → (record { frame = f; length = n; bytes = out } ≡ reading_of l) × (n ≤ max_bytes)
+  taken_read f g = (right_read l (record { right = true; length = n; bytes = out }) f (T.right n e).0 refl g, (T.right n e).1)
 
-  pub taken_lent : t.length ≡ length (take t.length out)
-  taken_lent = lent (line_bytes l) (record { right = true; length = t.length; bytes = out }) (T.right e)
+  pub taken_lent : n ≡ length (take n out)
+  taken_lent = lent (line_bytes l) (record { right = true; length = n; bytes = out }) (T.right n e).0
 
-  pub taken_fits : t.length ≤ length out
-  taken_fits = lent_fits (line_bytes l) (record { right = true; length = t.length; bytes = out }) (T.right e)
+  pub taken_fits : n ≤ length out
+  taken_fits = lent_fits (line_bytes l) (record { right = true; length = n; bytes = out }) (T.right n e).0
 
-  pub taken_bytes : (record { right = true; length = t.length; bytes = out } ≡ bytes_said (line_bytes l)) × (t.length ≤ max_bytes)
-  taken_bytes = (T.right e, T.short)
+  pub taken_bytes : (record { right = true; length = n; bytes = out } ≡ bytes_said (line_bytes l)) × (n ≤ max_bytes)
+  taken_bytes = ((T.right n e).0, (T.right n e).1)

@@ -9,7 +9,6 @@ use Rattle.paper.specs.Numbers.{max_digits}
 use Rattle.paper.specs.Layout as paper
 use Rattle.paper.specs.Layout.{digit, line_bytes, whole, constraint_read, frame_read, frame_of, begin_set, a_site, a_rule, an_item, end_set}
 use Rattle.sheet_frames.specs.declared.Bytes.{Bytes}
-use Rattle.sheet_frames.specs.declared.digits.Taken.{Taken}
 use Rattle.sheet_frames.specs.declared.Read.{Read}
 use Rattle.sheet_frames.specs.declared.Frame.{Frame}
 use Rattle.sheet_frames.specs.declared.Frame.TheVariants as said
@@ -36,10 +35,9 @@ bytes_said none = record { right = false; length = 0; bytes = padded [] }
 bytes_said (some s) = record { right = true; length = length s; bytes = padded s }
 
 -- the bytes of the line l were taken into `out`; or it writes none
-pub record Takes (l out : List ℕ) (t : Taken) : Type 0 where
-  pub wrong : t.right ≡ false → line_bytes l ≡ none
-  pub right : t.right ≡ true → record { right = true; length = t.length; bytes = out } ≡ bytes_said (line_bytes l)
-  pub short : t.length ≤ max_bytes
+pub record Takes (l out : List ℕ) (t : Maybe ℕ) : Type 0 where
+  pub wrong : t ≡ None → line_bytes l ≡ none
+  pub right : (n : ℕ) → t ≡ Some n → (record { right = true; length = n; bytes = out } ≡ bytes_said (line_bytes l)) × (n ≤ max_bytes)
 
 -- a frame: of a site only that it is one
 unfoldable pub code : Option paper.Frame → Frame

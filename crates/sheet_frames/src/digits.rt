@@ -1,6 +1,5 @@
 // "Lines of upper-case hexadecimal".
-ghost use Rattle.std.specs.Prelude.{◌≡◌, ◌+◌, ◌*◌, ◌≤◌, ◌<◌, false, length, replicate};
-ghost use Rattle.std.proofs.Math.Option.{none};
+ghost use Rattle.std.specs.Prelude.{◌≡◌, ◌+◌, ◌*◌, ◌≤◌, ◌<◌, length, replicate};
 ghost use Rattle.paper.specs.Layout.{digit, line_bytes};
 ghost use Rattle.sheet_frames.specs.Said.{max_bytes, values_said, bytes_said, pair_value, Takes};
 
@@ -49,74 +48,45 @@ fn pair(values: &[u8; 23], h: u8, l: u8) -> u16
     a as u16 * 16 + b as u16
 }
 
-// Whether a line is digits, and how many bytes they write.
-#[derive(Clone, Copy)]
-pub(crate) struct Taken {
-    pub right: bool,
-    pub length: usize,
-}
-
-fn none_taken() -> Taken
-    ensures { (result.right ≡ false) × (result.length ≡ 0) }
-{
-    Taken {
-        right: false,
-        length: 0,
-    }
-}
-
-// The bytes of a line into `out`: at most 64 digits, two to a byte, in one pass.
-pub(crate) fn take_bytes(line: &[u8], out: &mut [u8; BYTES]) -> Taken
+// The bytes of a line into `out`, and how many they are: at most 64 digits, two to a byte, in one pass.
+pub(crate) fn take_bytes(line: &[u8], out: &mut [u8; BYTES]) -> Option<usize>
     requires { out.old ≡ replicate max_bytes 0 }
     ensures { Takes line.now out.new result }
 {
     let n = line.len();
     if paper::DIGITS < n {
-        return none_taken();
+        return None;
     }
     if n % 2 != 0 {
-        return none_taken();
+        return None;
     }
     let values = VALUES;
     let k = n / 2;
-    let mut j = 0;
-    while j < k {
+    for j in 0..k {
         let v = pair(&values, line[2 * j], line[2 * j + 1]);
         if 256 <= v {
-            return none_taken();
+            return None;
         }
         out[j] = v as u8;
-        j += 1;
     }
-    Taken {
-        right: true,
-        length: k,
-    }
-}
-
-// No bytes.
-fn no_bytes() -> Bytes
-    ensures { result ≡ bytes_said none }
-{
-    Bytes {
-        right: false,
-        length: 0,
-        bytes: [0; BYTES],
-    }
+    Some(k)
 }
 
 // The bytes of a line.
 pub fn bytes_of(line: &[u8]) -> Bytes
     ensures { (result ≡ bytes_said (line_bytes line.now)) × (result.length ≤ max_bytes) }
 {
-    let mut out = [0u8; BYTES];
-    let t = take_bytes(line, &mut out);
-    if !t.right {
-        return no_bytes();
-    }
+    let mut bytes = [0u8; BYTES];
+    let Some(length) = take_bytes(line, &mut bytes) else {
+        return Bytes {
+            right: false,
+            length: 0,
+            bytes: [0; BYTES],
+        };
+    };
     Bytes {
         right: true,
-        length: t.length,
-        bytes: out,
+        length,
+        bytes,
     }
 }

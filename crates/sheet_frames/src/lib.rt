@@ -12,7 +12,8 @@ use paper::Item;
 // The bytes of a line: "at most 64 digits", two to a byte.
 pub const BYTES: usize = paper::DIGITS / 2;
 
-// The bytes that digits write, and 0 from there on. Where they write none, `right` is false and every byte is 0.
+// The bytes that digits write, and 0 from there on. Where they write none, `right` is false and every byte is 0. No Option: `bytes_of` promises every
+// field (`bytes_said`).
 #[derive(Clone, Copy)]
 pub struct Bytes {
     pub right: bool,
@@ -51,19 +52,17 @@ pub fn read_line(line: &[u8]) -> Read
     ensures { (result ≡ reading_of line.now) × (result.length ≤ max_bytes) }
 {
     let mut bytes = [0u8; BYTES];
-    let got = digits::take_bytes(line, &mut bytes);
-    if !got.right {
+    let Some(length) = digits::take_bytes(line, &mut bytes) else {
         return Read {
             frame: Frame::Wrong,
             length: 0,
             bytes: [0; BYTES],
         };
-    }
-    let length = got.length;
+    };
     let frame = layout::frame_of(&bytes[..length]);
     Read {
-        frame: frame,
-        length: length,
-        bytes: bytes,
+        frame,
+        length,
+        bytes,
     }
 }
