@@ -1,5 +1,5 @@
 -- What paper's `load` answers means: the proofs of Demand3.antt.
-use Rattle.std.specs.Prelude.{◌≡◌, refl, not, ◌↔◌, ℕ, suc, ◌<◌, length, leb, ltb}
+use Rattle.std.specs.Prelude.{◌≡◌, refl, not, ◌↔◌, ℕ, suc, length, leb, ltb}
 use Rattle.std.proofs.Common.{sym, ap, ◌∙◌}
 use Rattle.std.proofs.Math.Option.{none, some}
 use mathlib.Core.List.{List, [], ◌∷◌, ◌++◌, Memᴰ}

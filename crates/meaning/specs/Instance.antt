@@ -2,7 +2,7 @@
 -- field, 0 = 2" is refused 6.
 -- The comparison, of the rules of the sheet given whole.
 use Rattle.std.specs.Prelude.{◌≡◌, refl, true, List, [], ◌∷◌, ℕ, zero, suc}
-use Rattle.std.proofs.Common.{sym, ◌∙◌, inr, arith}
+use Rattle.std.proofs.Common.{inr, arith}
 use Rattle.std.proofs.Math.Option.{some}
 use mathlib.Core.List.Memᴰ
 use Rattle.std.proofs.Math.ListN.{get_elem?}

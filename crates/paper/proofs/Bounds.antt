@@ -1,6 +1,5 @@
 -- The class check asks labels only for the lowest member of a class, so its answer is the same for any bound on the sites: `lines_agree`.
 use mathlib.Core.Path.{◌≡◌, refl, sym, ap, ◌∙◌, fun_ext}
-use mathlib.Core.Bool.{Bool}
 use mathlib.Core.Option.{Option, none, some}
 use mathlib.Core.List.{List, map, Memᴰ}
 use Prim.Native.Nat.{ℕ, ◌≤◌, ◌<◌}

@@ -4,19 +4,19 @@ use mathlib.Core.Bool.{Bool, true, false, ◌&&◌}
 use mathlib.Core.Option.{Option, none, some}
 use mathlib.Core.Logic.{◌↔◌, ◌⊎◌, inl, inr}
 use mathlib.Core.List.{List, [], ◌∷◌, ◌++◌, map, Memᴰ}
-use Prim.Native.Nat.{ℕ, zero, suc, ◌+◌, ◌≤◌, ◌<◌, min, max}
+use Prim.Native.Nat.{ℕ, zero, suc, ◌+◌, ◌≤◌, ◌<◌, max}
 use native.Mathlib.Nat.{not-suc-le-zero}
 use native.Mathlib.Omega.{arith}
 use native.Mathlib.Decide.{ℕ_discrete, dec_le}
 use lib.ListN.{length}
 use lib.Dec.{eqb}
-use borrow.Author.Tests.{eqb-true, eqb-false, eq-eqb, ne_eqb}
+use borrow.Author.Tests.{eqb-true, eq-eqb, ne_eqb}
 use Rattle.paper.specs.declared.Constraint.{Constraint}
 use Rattle.std.specs.Prelude.{if◌then◌else◌}
 use Rattle.paper.specs.Words.{or_else, look, below, pairs, zip}
 use Rattle.paper.specs.Sites.{Site, Sites, child, child_count, child_number, number_of, same_site, same_constraint}
 use Rattle.paper.specs.Loading.{Loading, Labels, Constraints, Holder, holder, holders, lowest, join, join_all, Together, written_so, itself, back, through, like, alike, turn, pass, same_classes, close, closure_of, closure}
-use Rattle.paper.proofs.Joins.{Lowest, Gen, base, self, back as back-g, via, Pair, was, new, Joined, high, same, joined, join_at, join_only, join_keeps, join_joins}
+use Rattle.paper.proofs.Joins.{Gen, base, self, back as back-g, via, Pair, was, new, Joined, high, same, joined, join_only, join_keeps, join_joins}
 use Rattle.paper.proofs.Laws.{same_constraint_true, same_list_refl}
 use Rattle.paper.proofs.Labels.{Sound, lowest_join, join_sound, none_sound, join_same, never}
 

@@ -1,16 +1,16 @@
 -- Laws of tables and of classes as labels: what `put`, `look` and `join` do, as functions of a site. (Joins: the same of a function to the lowest member.)
-use mathlib.Core.Path.{◌≡◌, refl, sym, ap, ◌∙◌, fun_ext, subst}
+use mathlib.Core.Path.{◌≡◌, refl, sym, ap, ◌∙◌, fun_ext}
 use mathlib.Core.Bool.{Bool, true, false}
 use mathlib.Core.Option.{Option, none, some}
-use mathlib.Core.List.{List, [], ◌∷◌, ◌++◌, map}
-use Prim.Native.Nat.{ℕ, zero, suc, ◌≤◌, ◌<◌, min, max, compare, Ordering}
+use mathlib.Core.List.{[], ◌∷◌, map}
+use Prim.Native.Nat.{ℕ, min, max, compare, Ordering}
 use native.Mathlib.Omega.{arith}
 use native.Mathlib.Decide.{ℕ_discrete}
 use lib.Dec.{eqb, compare_is_eq}
 use borrow.Author.Tests.{eqb-true, eqb-false, eq-eqb, ne_eqb}
 use Rattle.paper.proofs.Joins.{Lowest, join_at, Joined, high, same, joined, join_lowest}
 use Rattle.std.specs.Prelude.{if◌then◌else◌}
-use Rattle.paper.specs.Words.{or_else, Table, look, put}
+use Rattle.paper.specs.Words.{Table, look, put}
 use Rattle.paper.specs.Loading.{Labels, lowest, relabel, join}
 
 pub never : {A : Type 0} {a : A} → none ≡ some a → ⊥

@@ -1,7 +1,7 @@
 -- The cases of the rulings in docs/DECISIONS.md, each sheet with its answer.
-use Rattle.std.specs.Prelude.{◌≡◌, refl, List, [], ◌∷◌, ◌++◌}
+use Rattle.std.specs.Prelude.{◌≡◌, refl, [], ◌∷◌, ◌++◌}
 use Rattle.paper.specs.Sheets.{findings, all_sheets}
-use Rattle.paper.specs.Text.{text, sheet, unended}
+use Rattle.paper.specs.Text.{sheet, unended}
 
 pub r3_1 : findings (sheet ("01010000" ∷ "zz" ∷ [])) ≡ sheet ("1F000000011C" ∷ [])
 unfolding all_sheets

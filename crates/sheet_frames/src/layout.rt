@@ -5,7 +5,6 @@ ghost use Rattle.sheet_frames.specs.Said.{number_at, shape_in, frame_in};
 use crate::Frame;
 use paper::{Constraint, Item};
 use site_body::{is_body, word_at};
-use widths::size8;
 
 // The size of a constraint by kind.
 const SHAPES: [u8; 6] = [6, 4, 4, 19, 3, 1];
@@ -70,11 +69,11 @@ pub fn shape_of(s: &[u8]) -> Option<Constraint>
     if s.len() == 0 {
         return None;
     }
-    let k = size8(s[0]);
+    let k = usize::from(s[0]);
     if 6 <= k {
         return None;
     }
-    let z = size8(SHAPES[k]);
+    let z = usize::from(SHAPES[k]);
     if s.len() != z {
         return None;
     }
