@@ -54,7 +54,7 @@ fn feed<W: io::Write>(
 {
     let mut flow = f;
     let mut held = h;
-    let mut from: usize = 0;
+    let mut from = 0;
     while from < bytes.len() {
         let c = cut_line(held, bytes, from);
         let line = c.held;
@@ -74,7 +74,7 @@ fn feed<W: io::Write>(
     Ok(Left { flow, held })
 }
 
-// A proved loop has to end, and nothing says that a file does: the turns count down from a number that no run uses up.
+// A proved loop has to end, and nothing says that a file does: the turns count up to a number that no run reaches.
 fn read_all<R: io::Read, W: io::Write>(
     input: &mut R,
     output: &mut W,
@@ -103,8 +103,7 @@ fn read_all<R: io::Read, W: io::Write>(
         flow: f,
         held: nothing(),
     };
-    let mut turns = u64::MAX;
-    while 0 < turns {
+    for _ in 0..u64::MAX {
         let n = input.read(bytes)?;
         if n == 0 {
             return Ok(g);
@@ -115,7 +114,6 @@ fn read_all<R: io::Read, W: io::Write>(
         g = feed(
             output, how, many, flow, held, chunk, m, words, items, table, room, out,
         )?;
-        turns -= 1;
     }
     Ok(g)
 }
