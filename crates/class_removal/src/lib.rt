@@ -72,7 +72,7 @@ fn take_out(parents: &mut [u16; SITES], count: &mut u16, members: &[u16])
     *count = usize::from(*count).saturating_sub(members.len()) as u16;
 }
 
-// Takes x's class apart and lists its members, ascending. A list that could not hold every site is refused first: half a class is never taken.
+// Takes x's class apart and lists its members, ascending: how many. A list that could not hold every site is refused first: half a class is never taken.
 pub fn remove_set_of_in(
     parents: &mut [u16; SITES],
     count: &mut u16,

@@ -17,13 +17,14 @@ use std::mem;
 // The parent of a site that was never joined. A number and no Option: the parents are lent, from C too, as an array of numbers.
 pub const NEVER: u16 = SITES as u16;
 
-// A find with the links that it followed. (A struct and no pair: 01 names the form.)
+// A find with the links that it followed. (A struct, and no Option with the links inside: where nothing is found the links are told too, as 0.)
 #[derive(Clone, Copy)]
 pub struct Trail {
     pub found: Option<u16>,
     pub links: u16,
 }
 
+// Why a removal took nothing.
 #[derive(Clone, Copy)]
 pub enum Untaken {
     Refused(Refusal),
@@ -173,6 +174,7 @@ fn link(parents: &mut [u16; SITES], ranks: &mut [u8; SITES], a: u16, b: u16)
     }
 }
 
+// Joins the classes of x and y, and answers whether it made one class of two.
 pub fn merge_in(
     parents: &mut [u16; SITES],
     ranks: &mut [u8; SITES],

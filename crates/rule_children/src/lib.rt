@@ -16,7 +16,7 @@ use site_body::Link;
 // No site: a number that no site has.
 const NONE: u16 = 65535;
 
-// And the children's numbers by field, 0 past them.
+// How many sites there are with the children, or why they are refused; and the children's numbers by field, 0 past them.
 #[derive(Clone, Copy)]
 pub struct Children {
     pub outcome: Result<u16, Refusal>,

@@ -76,12 +76,12 @@ abbrev pub JoinedIs : List ℕ → Held → List ℕ → List ℕ → Verdict �
 JoinedIs eqs H p boss (Ok _) = Classed eqs H p boss
 JoinedIs eqs H p boss (Err e) = class_check (eqs_in eqs) (holders_in H) ≡ refused e
 
--- after 2
 -- whether xs has a number that is no site, told by the first of them
 abbrev pub Strays : List ℕ → Verdict → Type 0
 Strays xs (Ok _) = or_else (stray xs) 0 ≡ 0
 Strays xs (Err e) = (a : ℕ) × (a ≡ or_else (stray xs) 0) × (a ≡ 0 → ⊥) × (e ≡ Unknown a)
 
+-- after 2
 abbrev pub Grouped : List ℕ → Held → List ℕ → List ℕ → Verdict → Type 0
 Grouped eqs H p boss (Ok _) = (stray (eqs ++ (H.sites ++ H.kids)) ≡ none) × Classed eqs H p boss
 Grouped eqs H p boss (Err e) = checked eqs H ≡ refused e

@@ -442,7 +442,8 @@ fn at_large(
     .unwrap()
 }
 
-// Loads a rule, whose items are held as words, over the n sites of m and the `kept` rules of `words`. A refused rule changes nothing.
+// Loads a rule, whose items are held as words, over the n sites of m and the `kept` rules of `words`: how many sites there are then. A refused rule
+// changes nothing.
 // A rule that is kept has at most 32 constrained sites, so short lists do for it. Past them the rule is refused, and full lists tell why.
 pub fn load_handed(
     m: &mut [u8],
@@ -498,7 +499,7 @@ fn hold(rule: Rule, out: &mut [u64])
     }
 }
 
-// Loads a rule over the n sites of m and the `kept` rules of `words`. A refused rule changes nothing.
+// Loads a rule over the n sites of m and the `kept` rules of `words`: how many sites there are then. A refused rule changes nothing.
 pub fn load(m: &mut [u8], n: u16, words: &mut [u64], kept: u32, rule: Rule) -> Result<u16, Refusal>
     ensures value { result ≡ loaded_as (load_in m.old n words.old kept rule) }
     ensures m_after { m.new ≡ sites_after m.old n (load_in m.old n words.old kept rule) }

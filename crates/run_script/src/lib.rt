@@ -247,7 +247,7 @@ fn read_some<R: io::Read, W: io::Write>(
     )
 }
 
-// A proved loop has to end, and nothing says that the input does: no run uses up as many turns.
+// A proved loop has to end, and nothing says that the input does: no input has as many pieces.
 fn run_all<R: io::Read, W: io::Write>(
     input: &mut R,
     output: &mut W,

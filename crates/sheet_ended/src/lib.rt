@@ -96,7 +96,7 @@ pub fn with_set(e: EndedSets, term: u16, flags: u8, rules: u32) -> EndedSets
         return e;
     }
     let mut used = e.used;
-    let _ = flag(&mut used, term);
+    let _ = flag(&mut used, term); // a term that is too high gets no mark
     EndedSets {
         sets: e.sets + 1,
         kept: e.kept + rules as u16,

@@ -21,7 +21,7 @@ const ENDED: u8 = 21;
 
 const STOPPED: u8 = 31;
 
-// The bytes of a finding as a line, from `at` on.
+// The bytes of a finding as a line, from `at` on: where it ends. None where the room is too short, which stays as it was then; so of all that follow.
 pub fn write_line(b: &[u8], out: &mut [u8], at: usize) -> Option<usize>
     ensures { let line = hex b.now in
         (result ≡ room_said out.old at line) × (out.new ≡ room_after out.old at line) }

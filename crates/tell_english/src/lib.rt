@@ -195,7 +195,7 @@ fn ended_words(clean: bool) -> &'static [u8]
     b"The sheet was read to its end: @ set{ with $ kept rule} in all. What was found stands above."
 }
 
-// The words for a frame. Of a line that is no finding we know only the first byte can be told.
+// The words for a frame. Of a line that is no finding that we know, only the first byte can be told.
 #[tactic(auto, unfolding(crate::specs::Words::calls_itself, crate::specs::Words::overlap_two, crate::specs::Words::overlap_more, crate::specs::Words::mask_one, crate::specs::Words::mask_more, crate::specs::Words::empty_line, crate::specs::Words::not_known,),)]
 fn words_for(clean: bool, f: &[u8]) -> &'static [u8]
     ensures { result.now ≡ words_for clean f.now (shape_of f.now) }
