@@ -7,11 +7,11 @@
 #![tactic(auto)]
 
 use paper::TERMS;
-use std::io;
+use std::io::{self, Read};
 use term_table::{Listed, WORDS};
 
-// What has been read of a line.
-#[derive(Drop)]
+// What has been read of a line that may still be right.
+#[derive(Clone, Copy)]
 enum Line {
     Start,
     From(u16),
@@ -20,67 +20,35 @@ enum Line {
     E,
     En,
     End,
-    Bad,
 }
 
-// Where the reader stands: in a line, at a line's number, inside a graph or not; or it has stopped.
-#[derive(Drop)]
+// Where the reader stands: in a line, None where it is bad already, at a line's number, inside a graph or not.
+#[derive(Clone, Copy)]
 struct At {
-    line: Line,
+    line: Option<Line>,
     number: u64,
     open: bool,
-    stopped: bool,
 }
 
-fn grown(n: u16, b: u8) -> Digit {
-    if b < b'0' {
+fn grown(n: u16, b: u8) -> Option<u16> {
+    if !b.is_ascii_digit() {
         return None;
     }
-    if b > b'9' {
-        return None;
-    }
-    let more = (n as u32) * 10 + ((b - b'0') as u32);
-    if more > 65535 {
-        return None;
-    }
-    Some(more as u16)
-}
-
-fn from_digit(n: u16, b: u8) -> Line {
-    match grown(n, b) {
-        Some(m) => Line::From(m),
-        None => Line::Bad,
-    }
-}
-
-fn to_digit(a: u16, n: u16, b: u8) -> Line {
-    match grown(n, b) {
-        Some(m) => Line::To(a, m),
-        None => Line::Bad,
-    }
-}
-
-fn letter(b: u8, wanted: u8, then: Line) -> Line {
-    if b == wanted { then } else { Line::Bad }
+    n.checked_mul(10)?.checked_add(u16::from(b - b'0'))
 }
 
 // One more byte of a line.
-fn step(line: Line, b: u8) -> Line {
-    match line {
-        Line::Start => { if b == b'e' { Line::E } else { from_digit(0, b) } }
-        Line::From(a) => {
-            if b == b' ' {
-                Line::Gap(a)
-            } else {
-                from_digit(a, b)
-            }
-        }
-        Line::Gap(a) => to_digit(a, 0, b),
-        Line::To(a, n) => to_digit(a, n, b),
-        Line::E => letter(b, b'n', Line::En),
-        Line::En => letter(b, b'd', Line::End),
-        Line::End => Line::Bad,
-        Line::Bad => Line::Bad,
+fn step(line: Line, b: u8) -> Option<Line> {
+    match (line, b) {
+        (Line::Start, b'e') => Some(Line::E),
+        (Line::E, b'n') => Some(Line::En),
+        (Line::En, b'd') => Some(Line::End),
+        (Line::From(a), b' ') => Some(Line::Gap(a)),
+        (Line::Start, _) => Some(Line::From(grown(0, b)?)),
+        (Line::From(a), _) => Some(Line::From(grown(a, b)?)),
+        (Line::Gap(a), _) => Some(Line::To(a, grown(0, b)?)),
+        (Line::To(a, n), _) => Some(Line::To(a, grown(n, b)?)),
+        _ => None,
     }
 }
 
@@ -88,35 +56,11 @@ fn write_bad<W: io::Write>(output: &mut W, number: u64) -> io::Result<()> {
     writeln!(output, "bad {number}")
 }
 
-// The lowest digit of a number in upper-case hexadecimal.
-fn glyph(n: u16) -> u8 {
-    let d = (n % 16) as u8;
-    if d < 10 { 48 + d } else { 55 + d }
-}
-
-fn write_term<W: io::Write>(output: &mut W, term: u16) -> io::Result<()> {
-    let text = [
-        b' ',
-        glyph(term / 4096),
-        glyph(term / 256),
-        glyph(term / 16),
-        glyph(term),
-    ];
-    output.write_all(&text)
-}
-
-fn write_terms<W: io::Write>(output: &mut W, found: Listed) -> io::Result<()> {
-    for i in 0..TERMS {
-        if i < found.count as usize {
-            write_term(output, found.terms[i])?;
-        }
-    }
-    Ok(())
-}
-
-fn write_cyclic<W: io::Write>(output: &mut W, t: [[u64; WORDS]; TERMS]) -> io::Result<()> {
+fn write_cyclic<W: io::Write>(output: &mut W, found: Listed) -> io::Result<()> {
     output.write_all(b"cyclic")?;
-    write_terms(output, term_table::cyclic_terms(t))?;
+    for term in found.terms.iter().take(usize::from(found.count)) {
+        write!(output, " {term:04X}")?;
+    }
     output.write_all(b"\n")
 }
 
@@ -132,69 +76,51 @@ fn add<W: io::Write>(
     }
 }
 
-fn next(number: u64, open: bool) -> At {
+// At the start of a line.
+fn start(number: u64, open: bool) -> At {
     At {
-        line: Line::Start,
-        number: number.wrapping_add(1),
+        line: Some(Line::Start),
+        number,
         open,
-        stopped: false,
     }
 }
 
-fn stop() -> At {
-    At {
-        line: Line::Start,
-        number: 0,
-        open: false,
-        stopped: true,
-    }
-}
-
-// A line has ended.
+// A line has ended. None where it was bad: nothing after it is read.
 fn ended<W: io::Write>(
     output: &mut W,
     t: &mut [[u64; WORDS]; TERMS],
-    line: Line,
-    number: u64,
-) -> io::Result<At> {
-    match line {
-        Line::To(a, b) => {
+    at: At,
+) -> io::Result<Option<At>> {
+    let next = at.number.wrapping_add(1);
+    match at.line {
+        Some(Line::To(a, b)) => {
             add(output, t, a, b)?;
-            Ok(next(number, true))
+            Ok(Some(start(next, true)))
         }
-        Line::End => {
-            write_cyclic(output, *t)?;
+        Some(Line::End) => {
+            write_cyclic(output, term_table::cyclic_terms(*t))?;
             *t = term_table::empty();
-            Ok(next(number, false))
+            Ok(Some(start(next, false)))
         }
         _ => {
-            write_bad(output, number)?;
-            Ok(stop())
+            write_bad(output, at.number)?;
+            Ok(None)
         }
     }
 }
 
+// One more byte of the text.
 fn take<W: io::Write>(
     output: &mut W,
     t: &mut [[u64; WORDS]; TERMS],
     at: At,
     b: u8,
-) -> io::Result<At> {
-    if at.stopped {
-        return Ok(at);
-    }
-    let number = at.number;
-    let open = at.open;
-    let line = at.line;
+) -> io::Result<Option<At>> {
     if b == b'\n' {
-        return ended(output, t, line, number);
+        return ended(output, t, at);
     }
-    Ok(At {
-        line: step(line, b),
-        number,
-        open,
-        stopped: false,
-    })
+    let line = at.line.and_then(|line| step(line, b));
+    Ok(Some(At { line, ..at }))
 }
 
 fn take_all<W: io::Write>(
@@ -202,53 +128,41 @@ fn take_all<W: io::Write>(
     t: &mut [[u64; WORDS]; TERMS],
     from: At,
     bytes: &[u8],
-) -> io::Result<At> {
+) -> io::Result<Option<At>> {
     let mut at = from;
     for b in bytes {
-        at = take(output, t, at, *b)?;
+        let Some(next) = take(output, t, at, *b)? else {
+            return Ok(None);
+        };
+        at = next;
     }
-    Ok(at)
+    Ok(Some(at))
 }
 
 // The text has ended.
 fn finish<W: io::Write>(output: &mut W, at: At) -> io::Result<()> {
-    if at.stopped {
-        return Ok(());
-    }
-    let number = at.number;
-    if at.open {
-        return write_bad(output, number);
-    }
     match at.line {
-        Line::Start => Ok(()),
-        _ => write_bad(output, number),
+        Some(Line::Start) if !at.open => Ok(()),
+        _ => write_bad(output, at.number),
     }
 }
 
-fn read_some<R: io::Read, W: io::Write>(
-    input: &mut R,
-    output: &mut W,
-    t: &mut [[u64; WORDS]; TERMS],
-    at: At,
-) -> io::Result<At> {
-    let mut buffer = [0u8; 4096];
-    let n = input.read(&mut buffer)?;
-    if n == 0 {
-        finish(output, at)?;
-        return Ok(stop());
-    }
-    take_all(output, t, at, &buffer[..n])
-}
-
+// A proved loop has to end, and nothing says that a file does: the turns count up to a number that no run reaches.
 fn main(rt: HostRuntime) -> io::Result<()> {
     let mut input = rt.stdin();
     let mut output = rt.stdout();
     let mut t = term_table::empty();
-    let mut at = next(0, false);
-    let mut turns = u64::MAX;
-    while turns > 0 && !at.stopped {
-        at = read_some(&mut input, &mut output, &mut t, at)?;
-        turns -= 1;
+    let mut at = start(1, false);
+    let mut buffer = [0u8; 4096];
+    for _ in 0..u64::MAX {
+        let n = input.read(&mut buffer)?;
+        if n == 0 {
+            return finish(&mut output, at);
+        }
+        let Some(next) = take_all(&mut output, &mut t, at, &buffer[..n])? else {
+            return Ok(());
+        };
+        at = next;
     }
     Ok(())
 }
