@@ -4,12 +4,8 @@
 
 use paper::{Constraint, Item};
 use sheet_frames::Frame;
-use sheet_lines::Held;
+use sheet_lines::{Held, hold, line_end, nothing, part};
 use std::io::{self, Read};
-
-fn field<W: io::Write>(output: &mut W, n: u64) -> io::Result<()> {
-    write!(output, " {n}")
-}
 
 fn show_constraint<W: io::Write>(output: &mut W, c: Constraint) -> io::Result<()> {
     match c {
@@ -17,32 +13,14 @@ fn show_constraint<W: io::Write>(output: &mut W, c: Constraint) -> io::Result<()
             ty,
             variant,
             fields,
-        } => {
-            output.write_all(b" variant")?;
-            field(output, u64::from(ty))?;
-            field(output, u64::from(variant))?;
-            field(output, u64::from(fields))
-        }
-        Constraint::Struct { ty, fields } => {
-            output.write_all(b" struct")?;
-            field(output, u64::from(ty))?;
-            field(output, u64::from(fields))
-        }
+        } => write!(output, " variant {ty} {variant} {fields}"),
+        Constraint::Struct { ty, fields } => write!(output, " struct {ty} {fields}"),
         Constraint::ConstBool { ty, val } => {
-            output.write_all(b" bool")?;
-            field(output, u64::from(ty))?;
-            field(output, val as u64)
+            let val = u8::from(val);
+            write!(output, " bool {ty} {val}")
         }
-        Constraint::ConstInt { ty, high, low } => {
-            output.write_all(b" int")?;
-            field(output, u64::from(ty))?;
-            field(output, high)?;
-            field(output, low)
-        }
-        Constraint::ConstPrim { val } => {
-            output.write_all(b" prim")?;
-            field(output, val as u64)
-        }
+        Constraint::ConstInt { ty, high, low } => write!(output, " int {ty} {high} {low}"),
+        Constraint::ConstPrim { val } => write!(output, " prim {val}"),
         Constraint::Some => output.write_all(b" some"),
     }
 }
@@ -50,59 +28,38 @@ fn show_constraint<W: io::Write>(output: &mut W, c: Constraint) -> io::Result<()
 fn show_item<W: io::Write>(output: &mut W, i: Item) -> io::Result<()> {
     match i {
         Item::Is { site, constraint } => {
-            output.write_all(b"04")?;
-            field(output, u64::from(site))?;
+            write!(output, "04 {site}")?;
             show_constraint(output, constraint)
         }
-        Item::Equal { one, other } => {
-            output.write_all(b"05")?;
-            field(output, u64::from(one))?;
-            field(output, u64::from(other))
-        }
+        Item::Equal { one, other } => write!(output, "05 {one} {other}"),
     }
 }
 
 // The body of a site, as digits, with the end of the line.
 fn show_body<W: io::Write>(output: &mut W, s: &[u8]) -> io::Result<()> {
     let mut out = [0u8; 80];
-    let room = sheet_findings::write_line(s, &mut out, 0);
-    let Some(e) = room else {
+    let Some(e) = sheet_findings::write_line(s, &mut out, 0) else {
         return Ok(());
     };
     output.write_all(b"02 ")?;
-    if 80 < e {
-        return Ok(());
-    }
-    output.write_all(&out[..e])
+    output.write_all(part(&out, 0, e))
 }
 
 fn show<W: io::Write>(output: &mut W, line: &[u8]) -> io::Result<()> {
     let got = sheet_frames::read_line(line);
-    let n = got.length;
-    let bytes = got.bytes;
-    let frame = got.frame;
-    match frame {
-        Frame::Begin { term, flags } => {
-            output.write_all(b"01")?;
-            field(output, u64::from(term))?;
-            field(output, u64::from(flags))?;
-        }
+    match got.frame {
+        Frame::Begin { term, flags } => write!(output, "01 {term} {flags}")?,
         Frame::Site => {
-            if n == 0 {
+            if got.length == 0 {
                 return Ok(());
             }
-            return show_body(output, &bytes[1..n]);
+            return show_body(output, part(&got.bytes, 1, got.length));
         }
         Frame::Rule {
             place,
             priority,
             count,
-        } => {
-            output.write_all(b"03")?;
-            field(output, u64::from(place))?;
-            field(output, priority)?;
-            field(output, u64::from(count))?;
-        }
+        } => write!(output, "03 {place} {priority} {count}")?,
         Frame::Item(i) => show_item(output, i)?,
         Frame::End => output.write_all(b"06")?,
         Frame::Wrong => output.write_all(b"bad")?,
@@ -110,45 +67,31 @@ fn show<W: io::Write>(output: &mut W, line: &[u8]) -> io::Result<()> {
     output.write_all(b"\n")
 }
 
-fn show_held<W: io::Write>(output: &mut W, h: Held) -> io::Result<()> {
-    let n = h.length;
-    let bytes = h.bytes;
-    if sheet_lines::HELD < n {
-        return Ok(());
-    }
-    show(output, &bytes[..n])
-}
-
 // A piece: shows the lines that end in it, and answers what is held of the next.
 fn feed<W: io::Write>(output: &mut W, h: Held, s: &[u8]) -> io::Result<Held> {
     let mut held = h;
-    let mut at = 0;
-    while at <= s.len() {
-        let end = sheet_lines::line_end(s, at);
-        let Some(e) = end else {
-            return Ok(sheet_lines::hold(held, &s[at..]));
-        };
-        let line = sheet_lines::hold(held, &s[at..e]);
-        show_held(output, line)?;
-        held = sheet_lines::nothing();
-        at = e + 1;
+    let mut from = 0;
+    while let Some(e) = line_end(s, from) {
+        let line = hold(held, part(s, from, e));
+        show(output, part(&line.bytes, 0, line.length))?;
+        held = nothing();
+        from = e + 1;
     }
-    Ok(held)
+    Ok(hold(held, part(s, from, s.len())))
 }
 
+// A proved loop has to end, and nothing says that a file does: the turns count up to a number that no run reaches.
 fn main(rt: HostRuntime) -> io::Result<()> {
     let mut input = rt.stdin();
     let mut output = rt.stdout();
-    let mut held = sheet_lines::nothing();
-    let mut turns = u64::MAX;
-    while turns > 0 {
-        let mut buf = [0u8; 48];
+    let mut held = nothing();
+    let mut buf = [0u8; 48];
+    for _ in 0..u64::MAX {
         let n = input.read(&mut buf)?;
         if n == 0 {
             return Ok(());
         }
         held = feed(&mut output, held, &buf[..n])?;
-        turns -= 1;
     }
     Ok(())
 }

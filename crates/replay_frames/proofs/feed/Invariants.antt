@@ -1,5 +1,5 @@
-use Rattle.std.proofs.Common.{◌+◌, ◌-◌, length}
+use Rattle.std.proofs.Common.{◌-◌, length}
 use Rattle.replay_frames.proofs.feed.Given as goal
 
-abbrev pub decreases-loop-at : goal.decreases-loop-at
-decreases-loop-at g l = (length l.s + 1) - l.at
+abbrev pub decreases-loop-e : goal.decreases-loop-e
+decreases-loop-e g l = length l.s - l.from
