@@ -14,59 +14,39 @@ const TEXT: u64 = 4096;
 const MEMORY: usize = SITES * SLOT;
 
 // How many sites there are, and how many digits the line has so far.
-#[derive(Drop)]
+#[derive(Clone, Copy, Default)]
 struct State {
     count: u16,
     digits: usize,
 }
 
+// A digit's value, 0 where it is none.
 fn digit(d: u8) -> u8
     ensures { result < 16 }
 {
-    if d < 48 {
-        return 0;
+    match d {
+        b'0'..=b'9' => d - b'0',
+        b'A'..=b'F' => d - b'A' + 10,
+        _ => 0,
     }
-    if d < 58 {
-        return d - 48;
-    }
-    if d < 65 {
-        return 0;
-    }
-    if d < 71 {
-        return d - 55;
-    }
-    0
-}
-
-fn told<W: io::Write>(output: &mut W, text: &str, n: u64) -> io::Result<()> {
-    write!(output, "{text}{n}")
 }
 
 fn refused<W: io::Write>(output: &mut W, r: Refusal) -> io::Result<()> {
     match r {
-        Refusal::Layout { line } => told(output, "refused 1 line ", u64::from(line)),
-        Refusal::Unknown { site } => told(output, "refused 2 site ", u64::from(site)),
+        Refusal::Layout { line } => write!(output, "refused 1 line {line}"),
+        Refusal::Unknown { site } => write!(output, "refused 2 site {site}"),
         Refusal::TooManySources { asked, at } => {
-            told(output, "refused 21 sources ", u64::from(asked))?;
-            told(output, " line ", u64::from(at))
+            write!(output, "refused 21 sources {asked} line {at}")
         }
-        Refusal::TermTooHigh { asked } => told(output, "refused 28 term ", u64::from(asked)),
-        Refusal::TooManySites { asked, at } => {
-            told(output, "refused 20 sites ", u64::from(asked))?;
-            told(output, " line ", u64::from(at))
-        }
+        Refusal::TermTooHigh { asked } => write!(output, "refused 28 term {asked}"),
+        Refusal::TooManySites { asked, at } => write!(output, "refused 20 sites {asked} line {at}"),
         _ => Ok(()),
     }
 }
 
-fn show_byte<W: io::Write>(output: &mut W, b: u8) -> io::Result<()> {
-    let pair = [sheet_digits::high_digit(b), sheet_digits::low_digit(b)];
-    output.write_all(&pair)
-}
-
 fn show<W: io::Write>(output: &mut W, bytes: &[u8]) -> io::Result<()> {
     for b in bytes {
-        show_byte(output, *b)?;
+        output.write_all(&[sheet_digits::high_digit(*b), sheet_digits::low_digit(*b)])?;
     }
     Ok(())
 }
@@ -78,15 +58,11 @@ fn unfolded<W: io::Write>(
     site: u16,
     room: &mut [u8],
 ) -> io::Result<()> {
-    let u = sites::unfold(m, count, site, room);
-    let Ok(n) = u else {
+    let Ok(n) = sites::unfold(m, count, site, room) else {
         return Ok(());
     };
     output.write_all(b" unfolds ")?;
-    if room.len() < n {
-        return Ok(());
-    }
-    show(output, &room[..n])
+    show(output, room.get(..n).unwrap_or(&[]))
 }
 
 // The count of sites after the line.
@@ -97,19 +73,18 @@ fn line<W: io::Write>(
     count: u16,
     b: &[u8],
 ) -> io::Result<u16> {
-    let a = sites::add(m, count, b, 1);
-    match a {
+    match sites::add(m, count, b, 1) {
         Ok(Numbered::Known(i)) => {
-            told(output, "known ", u64::from(i))?;
+            write!(output, "known {i}")?;
             Ok(count)
         }
         Ok(Numbered::Fresh(i)) => {
-            told(output, "new ", u64::from(i))?;
-            if i == 65535 {
+            write!(output, "new {i}")?;
+            let Some(more) = i.checked_add(1) else {
                 return Ok(count);
-            }
-            unfolded(output, m, i + 1, i, room)?;
-            Ok(i + 1)
+            };
+            unfolded(output, m, more, i, room)?;
+            Ok(more)
         }
         Err(r) => {
             refused(output, r)?;
@@ -127,29 +102,24 @@ fn feed<W: io::Write>(
     s: State,
     c: u8,
 ) -> io::Result<State> {
-    let n = s.digits;
-    let count = s.count;
-    let k = n / 2;
+    let k = s.digits / 2;
     if text.len() <= k {
         return Ok(s);
     }
     if c == b'\n' {
-        let next = line(output, m, room, count, &text[..k])?;
+        let count = line(output, m, room, s.count, &text[..k])?;
         output.write_all(b"\n")?;
-        return Ok(State {
-            count: next,
-            digits: 0,
-        });
+        return Ok(State { count, digits: 0 });
     }
     let d = digit(c);
-    if n % 2 == 0 {
+    if s.digits % 2 == 0 {
         text[k] = d * 16;
     } else {
         text[k] = text[k].wrapping_add(d);
     }
     Ok(State {
-        count,
-        digits: n + 1,
+        digits: s.digits + 1,
+        ..s
     })
 }
 
@@ -160,10 +130,7 @@ fn main(rt: HostRuntime) -> io::Result<()> {
     let mut m = [0u8; MEMORY];
     let mut room = [0u8; UNFOLDING];
     let mut text = [0u8; 64];
-    let mut s = State {
-        count: 0,
-        digits: 0,
-    };
+    let mut s = State::default();
     for c in &input {
         s = feed(&mut output, &mut m, &mut room, &mut text, s, *c)?;
     }
