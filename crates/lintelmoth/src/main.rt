@@ -3,8 +3,6 @@
 
 mod words;
 
-ghost use Rattle.std.specs.Prelude.{◌≤◌, length};
-
 use item_words::ITEMS_ROOM;
 use paper::SITES;
 use run_answers::How;
@@ -22,14 +20,6 @@ const CHUNK: usize = 65536;
 
 // Words of a call are at most so long.
 const WORD: usize = 4096;
-
-// Where a verb reads.
-#[derive(Drop)]
-enum Source {
-    Input,
-    Opened(File),
-    Unreadable,
-}
 
 fn usage<W: io::Write>(output: &mut W) -> io::Result<()> {
     output.write_all(b"lintelmoth: checks a sheet of rules before it goes into a box\n\n")?;
@@ -60,13 +50,12 @@ fn arg_count(rt: &impl Env) -> usize {
     usize::MAX
 }
 
-// Puts word i at the start of `word`: its length, 0 where it is missing or too long.
-fn arg(rt: &impl Env, i: usize, word: &mut [u8]) -> usize
-    ensures { result ≤ length word.new }
-{
+// Word i of the call, None where the call has no such word. One that is too long is read as no text.
+fn arg<'a>(rt: &impl Env, i: usize, word: &'a mut [u8]) -> Option<&'a [u8]> {
     match rt.arg(i, word) {
-        Ok(length) => length,
-        Err(_) => 0,
+        Ok(length) => word.get(..length),
+        Err(FillError::NotPresent) => None,
+        Err(FillError::TooLong) => Some(&[]),
     }
 }
 
@@ -88,10 +77,8 @@ fn open_named(rt: &HostRuntime, name: &[u8]) -> io::Result<File> {
 
 // The words of a system's error, without the number that `Display` puts behind them.
 fn plain(told: &str) -> &str {
-    match told.split_once(" (os error ") {
-        Some((words, _)) => words,
-        None => told,
-    }
+    told.split_once(" (os error ")
+        .map_or(told, |(words, _)| words)
 }
 
 // One plain line on standard error: which file, and why.
@@ -104,42 +91,20 @@ fn cannot_read(rt: &HostRuntime, name: &[u8], error: io::Error) -> io::Result<()
     writeln!(output, ": {reason}")
 }
 
-// Opens the file that word i names. Without one it is standard input.
-fn open(rt: &HostRuntime, i: usize) -> io::Result<Source> {
-    if arg_count(rt) <= i {
-        return Ok(Source::Input);
-    }
-    let mut word = [0u8; WORD];
-    let length = arg(rt, i, &mut word);
-    let name = &word[..length];
-    if words::is_dash(name) {
-        return Ok(Source::Input);
-    }
-    match open_named(rt, name) {
-        Ok(file) => Ok(Source::Opened(file)),
-        Err(error) => {
-            cannot_read(rt, name, error)?;
-            Ok(Source::Unreadable)
-        }
-    }
-}
-
 // The verb that word i is; check where there is none.
 fn verb_at(rt: &impl Env, i: usize) -> Verb {
-    if arg_count(rt) <= i {
-        return Verb::Check;
-    }
-    let mut word = [0u8; WORD];
-    let length = arg(rt, i, &mut word);
-    words::verb_of(&word[..length])
+    arg(rt, i, &mut [0u8; WORD]).map_or(Verb::Sheets(How::Check), words::verb_of)
 }
 
-// Runs a verb on sheets from the file that word i names.
+// Runs a verb on sheets from the file that word i names; without one, from standard input.
 fn on_sheets(rt: &HostRuntime, how: How, many: bool, i: usize) -> io::Result<()> {
-    match open(rt, i)? {
-        Source::Input => answer_sheets(&mut rt.stdin(), &mut rt.stdout(), how, many),
-        Source::Opened(mut file) => answer_sheets(&mut file, &mut rt.stdout(), how, many),
-        Source::Unreadable => Ok(()),
+    let mut word = [0u8; WORD];
+    match arg(rt, i, &mut word) {
+        None | Some(b"-") => answer_sheets(&mut rt.stdin(), &mut rt.stdout(), how, many),
+        Some(name) => match open_named(rt, name) {
+            Ok(mut file) => answer_sheets(&mut file, &mut rt.stdout(), how, many),
+            Err(error) => cannot_read(rt, name, error),
+        },
     }
 }
 
@@ -191,10 +156,13 @@ fn answer_script<R: io::Read, W: io::Write>(input: &mut R, output: &mut W) -> io
 }
 
 fn on_script(rt: &HostRuntime, i: usize) -> io::Result<()> {
-    match open(rt, i)? {
-        Source::Input => answer_script(&mut rt.stdin(), &mut rt.stdout()),
-        Source::Opened(mut file) => answer_script(&mut file, &mut rt.stdout()),
-        Source::Unreadable => Ok(()),
+    let mut word = [0u8; WORD];
+    match arg(rt, i, &mut word) {
+        None | Some(b"-") => answer_script(&mut rt.stdin(), &mut rt.stdout()),
+        Some(name) => match open_named(rt, name) {
+            Ok(mut file) => answer_script(&mut file, &mut rt.stdout()),
+            Err(error) => cannot_read(rt, name, error),
+        },
     }
 }
 
@@ -204,32 +172,27 @@ fn on_many(rt: &HostRuntime) -> io::Result<()> {
         return usage(&mut rt.stderr());
     }
     match verb_at(rt, 2) {
-        Verb::Check => on_sheets(rt, How::Check, true, 3),
-        Verb::Kept => on_sheets(rt, How::Kept, true, 3),
-        Verb::Explain => on_sheets(rt, How::Explain, true, 3),
+        Verb::Sheets(how) => on_sheets(rt, how, true, 3),
         _ => usage(&mut rt.stderr()),
     }
 }
 
-// Whether a call has more words than its verb takes.
-fn has_more(v: Verb, words: usize) -> bool {
+// How many words a call has at most, by its verb.
+fn most(v: Verb) -> usize {
     match v {
-        Verb::Many => 4 < words,
-        Verb::Help => 2 < words,
-        Verb::Other => 2 < words,
-        _ => 3 < words,
+        Verb::Many => 4,
+        Verb::Sheets(_) | Verb::Joins => 3,
+        Verb::Help | Verb::Other => 2,
     }
 }
 
 fn main(rt: HostRuntime) -> io::Result<()> {
     let v = verb_at(&rt, 1);
-    if has_more(v, arg_count(&rt)) {
+    if most(v) < arg_count(&rt) {
         return usage(&mut rt.stderr());
     }
     match v {
-        Verb::Check => on_sheets(&rt, How::Check, false, 2),
-        Verb::Kept => on_sheets(&rt, How::Kept, false, 2),
-        Verb::Explain => on_sheets(&rt, How::Explain, false, 2),
+        Verb::Sheets(how) => on_sheets(&rt, how, false, 2),
         Verb::Joins => on_script(&rt, 2),
         Verb::Many => on_many(&rt),
         Verb::Help => usage(&mut rt.stdout()),
