@@ -3,7 +3,6 @@ use mathlib.Core.Path.{◌≡◌, refl, sym, ap, ◌∙◌}
 use mathlib.Core.Bool.{Bool, true, false}
 use mathlib.Core.Option.{Option, none, some}
 use mathlib.Core.List.{List, [], ◌∷◌, ◌++◌, append-nil}
-use mathlib.Core.Logic.{inl, inr, ⊎_elim}
 use Prim.Native.Nat.{ℕ, zero, suc, ◌+◌, ◌-◌, ◌≤◌, ◌<◌}
 use native.Mathlib.Omega.{arith}
 use lib.ListN.{length, take, drop, length-take, length-append}
@@ -38,7 +37,7 @@ use Rattle.sheet_reader.specs.declared.Event.TheVariants as event
 use Rattle.sheet_reader.specs.declared.Stepped.{Stepped}
 use Rattle.sheet_reader.specs.declared.Stands.TheVariants.{Outside}
 use Rattle.sheet_read.specs.declared.State.{State}
-use Rattle.sheet_read.specs.Whole.{first_state, is_stopped, Going, Shows, Fedding, Feeds, Pauses}
+use Rattle.sheet_read.specs.Whole.{first_state, is_stopped, Going, Shows, Fedding, Feeds}
 
 -- ---- an event that goes on is no stop
 rule_goes : (g : Set) (r : Written) → is_stopped (rule_event g r) ≡ false
@@ -271,27 +270,9 @@ first_is e h q r = rw (q, r)
 pub record Fedto (s₀ : State) (k₀ k : Lent) (room₀ room : List ℕ) (at : ℕ) (piece : List ℕ) (s : State) (i to : ℕ) : Type 0 where
   pub within : i ≤ length piece
   pub feeds : at ≤ length room₀ → Feeds s₀ k₀ k room₀ room at (take i piece) s to
-  pub long : length room ≡ length room₀
-  pub sites : length k.sites ≡ length k₀.sites
-  pub words : length k.words ≡ length k₀.words
-  pub items : length k.items ≡ length k₀.items
 
 pub fedto_none : (s : State) (k : Lent) (room : List ℕ) (at : ℕ) (piece : List ℕ) → Fedto s k k room room at piece s 0 at
-fedto_none s k room at piece = record { within = omega arith; feeds = λ h. feeds_none s k room at piece h; long = refl; sites = refl; words = refl; items = refl }
+fedto_none s k room at piece = record { within = omega arith; feeds = λ h. feeds_none s k room at piece h }
 
-pub fedto_turn : (s₀ : State) (k₀ k k' : Lent) (room₀ room room' : List ℕ) (at : ℕ) (piece : List ℕ) (s s' : State) (i j to to' : ℕ) → Fedto s₀ k₀ k room₀ room at piece s i to → (i < j) × (j ≤ length piece) → Feeds s k k' room room' to (take (j - i) (drop i piece)) s' to' → length room' ≡ length room → length k'.sites ≡ length k.sites → length k'.words ≡ length k.words → length k'.items ≡ length k.items → Fedto s₀ k₀ k' room₀ room' at piece s' j to'
-fedto_turn s₀ k₀ k k' room₀ room room' at piece s s' i j to to' F h G l a b c =
-    record {
-      within = h.1;
-      feeds = λ g. feeds_turn s₀ s s' k₀ k k' room₀ room room' at to to' piece i j (omega (arith, h.0)) F.long (F.feeds g) G;
-      long = l ∙ F.long;
-      sites = a ∙ F.sites;
-      words = b ∙ F.words;
-      items = c ∙ F.items;
-    }
-
-pub fedto_pauses : (s₀ : State) (k₀ k : Lent) (room₀ room : List ℕ) (at : ℕ) (piece : List ℕ) (s : State) (i to : ℕ) → Fedto s₀ k₀ k room₀ room at piece s i to → Pauses s room to piece i → (i ≤ length piece) × ((at ≤ length room₀ → Feeds s₀ k₀ k room₀ room at (take i piece) s to) × Pauses s room₀ to piece i)
-fedto_pauses s₀ k₀ k room₀ room at piece s i to F P = (F.within, (F.feeds, λ h. let l = F.long in ⊎_elim (λ x. inl x) (λ x. inr (omega arith)) (P h)))
-
-pub all_read : (s : State) (room : List ℕ) (to : ℕ) (piece : List ℕ) (i : ℕ) → length piece ≤ i → Pauses s room to piece i
-all_read s room to piece i h g = absurd (omega arith)
+pub fedto_turn : (s₀ : State) (k₀ k k' : Lent) (room₀ room room' : List ℕ) (at : ℕ) (piece : List ℕ) (s s' : State) (i j to to' : ℕ) → length room ≡ length room₀ → Fedto s₀ k₀ k room₀ room at piece s i to → (i < j) × (j ≤ length piece) → Feeds s k k' room room' to (take (j - i) (drop i piece)) s' to' → Fedto s₀ k₀ k' room₀ room' at piece s' j to'
+fedto_turn s₀ k₀ k k' room₀ room room' at piece s s' i j to to' l F h G = record { within = h.1; feeds = λ g. feeds_turn s₀ s s' k₀ k k' room₀ room room' at to to' piece i j (omega (arith, h.0)) l (F.feeds g) G }

@@ -2,7 +2,6 @@
 use mathlib.Core.Path.{◌≡◌, refl, sym, ap, ◌∙◌}
 use mathlib.Core.Bool.{Bool, true, false}
 use mathlib.Core.List.{List, [], ◌∷◌, append-nil}
-use mathlib.Core.Logic.{◌⊎◌, inl, inr}
 use Prim.Native.Nat.{ℕ, ◌+◌, ◌≤◌, ◌<◌}
 use native.Mathlib.Omega.{arith}
 use lib.ListN.{length, length-take}
@@ -22,7 +21,7 @@ use Rattle.sheet_ended.proofs.Holds.{found_is}
 use Rattle.sheet_lines.specs.Fed.{Reading, going, stopped, ended}
 use Rattle.sheet_lines.specs.Pieces.{as_lines}
 use Rattle.sheet_lines.specs.Held.{held_in}
-use Rattle.sheet_reader.specs.State.{Lent, stands_in, step_room}
+use Rattle.sheet_reader.specs.State.{Lent, stands_in}
 use Rattle.sheet_reader.specs.declared.Stands.{Stands}
 use Rattle.sheet_reader.specs.declared.Stands.TheVariants.{Outside, Sites, Rules, Items}
 use Rattle.sheet_read.specs.declared.State.{State}
@@ -113,23 +112,3 @@ module _ (s : State) (k : Lent) (room : List ℕ) (at : ℕ) where
             let q = le-leb (at + end_room) (length room) h in
             let z = out_is s.reader.stands (sym eb ∙ e) in
             told x (o.0 ∙ rw q) (o.1 ∙ rw q) (λ d G. ap as_lines (here d G) ∙ (ap (λ c. as_lines (sheet_ended d.ended L (stands_in k c))) z ∙ sym (found_is s.reader.ended k.table d.ended G.tells.holds)))
-
--- ---- where a piece is left
-pub pause_stopped : (b : Bool) (room at : ℕ) → b ≡ true → (true ≡ false → (b ≡ false) × (at + step_room ≤ room)) × (true ≡ true → (b ≡ true) ⊎ (room < at + step_room))
-pause_stopped b room at e = (λ z. no_way z, λ z. inl e)
-
-pub pause_short : (b : Bool) (room at : ℕ) → room < at + step_room → (true ≡ false → (b ≡ false) × (at + step_room ≤ room)) × (true ≡ true → (b ≡ true) ⊎ (room < at + step_room))
-pause_short b room at h = (λ z. no_way z, λ z. inr h)
-
-pub pause_not : (b : Bool) (room at : ℕ) → b ≡ false → at + step_room ≤ room → (false ≡ false → (b ≡ false) × (at + step_room ≤ room)) × (false ≡ true → (b ≡ true) ⊎ (room < at + step_room))
-pause_not b room at e h = (λ z. (e, h), λ z. no_way (sym z))
-
--- ---- what is left of a sheet
-pub left_all : (all read : ℕ) (b : Bool) → all ≤ read → (false ≡ false → (all ≤ read) ⊎ (b ≡ true)) × (false ≡ true → (read < all) × (b ≡ false))
-left_all all read b h = (λ z. inl h, λ z. no_way (sym z))
-
-pub left_stopped : (all read : ℕ) (b : Bool) → b ≡ true → (false ≡ false → (all ≤ read) ⊎ (b ≡ true)) × (false ≡ true → (read < all) × (b ≡ false))
-left_stopped all read b h = (λ z. inr h, λ z. no_way (sym z))
-
-pub left_more : (all read : ℕ) (b : Bool) → read < all → b ≡ false → (true ≡ false → (all ≤ read) ⊎ (b ≡ true)) × (true ≡ true → (read < all) × (b ≡ false))
-left_more all read b h e = (λ z. no_way z, λ z. (h, e))

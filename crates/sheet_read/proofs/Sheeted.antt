@@ -10,6 +10,7 @@ use lib.Dec.{leb}
 use borrow.Author.Tests.{leb-true, leb-false}
 use Rattle.std.specs.declared.result.Result.TheVariants.{Err, Ok}
 use Rattle.std.specs.declared.option.Option.TheVariants.{None, Some}
+use Rattle.std.specs.Option.{ok_or}
 use Rattle.paper.specs.Sheets.{findings}
 use Rattle.paper.proofs.Lists.{no_way}
 use Rattle.term_table.specs.Table.{Square, no_edges}
@@ -21,6 +22,7 @@ use Rattle.sheet_lines.specs.Fed.{Reading, going, stopped, begun, fed, behind, f
 use Rattle.sheet_lines.specs.Pieces.{as_lines, lines_append, fed_append}
 use Rattle.sheet_reader.specs.State.{Lent, lent, step_room, sites_room, kept_room, items_room}
 use Rattle.sheet_read.specs.declared.State.{State}
+use Rattle.sheet_read.specs.Checked.{Checked}
 use Rattle.sheet_read.specs.Whole.{first_state, Shows, Fedding, Feeds, Ending, Ends, Pauses, Checks}
 use Rattle.sheet_read.specs.declared.Unchecked.TheVariants as checked
 use Rattle.sheet_read.proofs.Feeding.{shows_first}
@@ -60,10 +62,6 @@ module _ (sheet : List ℕ) (i : ℕ) where
   whole : length sheet ≤ i → findings sheet ≡ as_lines f ++ as_lines (ended M)
   whole h = findings_are ∙ ap (λ l. as_lines f ++ as_lines (closed (fed_all M l))) (drop_none i sheet h) ∙ ap (λ c. as_lines f ++ as_lines c) (closed_none M)
 
-  ended_none : ended stopped ≡ []
-  unfolding ended
-  ended_none = refl
-
   halted : M ≡ stopped → findings sheet ≡ as_lines f ++ as_lines (ended M)
   halted e =
       let c : closed (fed_all M (drop i sheet)) ≡ ended M = ap (λ m. closed (fed_all m (drop i sheet))) e ∙ (ap closed (stays (drop i sheet)) ∙ ap ended (sym e)) in
@@ -96,7 +94,7 @@ module _ (sheet m ws it room : List ℕ) (t : Square) (hm : sites_room ≤ lengt
     short_not : {A : Type 0} (n : ℕ) → w ≡ None → w ≡ Some n → A
     short_not n x y = let z : ◌≡◌ {A = ℕ} 0 1 = cc in absurd (omega arith)
 
-    pub check_short : w ≡ None → Checks sheet m ws it room room'' (Err checked.NoRoom)
+    check_short : w ≡ None → Checks sheet m ws it room room'' (Err checked.NoRoom)
     check_short z = go (leb (to + end_room) (length room')) refl
       where
         go : (t : Bool) → leb (to + end_room) (length room') ≡ t → length room < length (findings sheet) + step_room
@@ -108,7 +106,7 @@ module _ (sheet m ws it room : List ℕ) (t : Square) (hm : sites_room ≤ lengt
             let k = l in
             omega arith
 
-    pub check_done : (n : ℕ) → w ≡ Some n → Checks sheet m ws it room room'' (Ok n)
+    check_done : (n : ℕ) → w ≡ Some n → Checks sheet m ws it room room'' (Ok n)
     check_done n z = go (leb (to + end_room) (length room')) refl
       where
         go : (t : Bool) → leb (to + end_room) (length room') ≡ t → (n ≡ length (findings sheet)) × (room'' ≡ written_at room 0 (findings sheet))
@@ -124,3 +122,10 @@ module _ (sheet m ws it room : List ℕ) (t : Square) (hm : sites_room ≤ lengt
             let r : room'' ≡ written_at room 0 (u ++ v) = N.into ∙ (rw (D.into, c) (written_then room 0 u v (omega arith))) in
             (rw g (omega arith), rw g r)
         go false x = let h = leb-false (to + end_room) (length room') x in short_not n ((E [] [] []).1 h).0 z
+
+    pub check_ends : (r : Checked) → r ≡ ok_or w checked.NoRoom → Checks sheet m ws it room room'' r
+    check_ends r x = rw x (go w refl)
+      where
+        go : (v : Maybe ℕ) → w ≡ v → Checks sheet m ws it room room'' (ok_or v checked.NoRoom)
+        go None z = check_short z
+        go (Some n) z = check_done n z

@@ -30,6 +30,7 @@ pub const KEPT_ROOM: usize = RULES * STRIDE;
 pub struct State {
     pub reader: Reader,
     pub held: Held,
+    // Beside the reader, no `Option` around it: sheet_state puts both into words that C keeps, and `Going` speaks of each.
     pub stopped: bool,
 }
 
@@ -42,20 +43,18 @@ pub struct Fed {
 }
 
 // Before the first piece. The term table is cleared.
+#[tactic(auto, unfolding(crate::specs::Whole::first_state))]
 pub fn begin(table: &mut [[u64; WORDS]; TERMS]) -> State
     ensures { (result ≡ first_state) × (table.new ≡ no_edges) }
 {
-    let none = empty();
-    *table = none;
-    let ended = no_sets();
-    let held = nothing();
+    *table = empty();
     State {
         reader: Reader {
             line: 1,
             stands: Stands::Outside,
-            ended: ended,
+            ended: no_sets(),
         },
-        held: held,
+        held: nothing(),
         stopped: false,
     }
 }
@@ -63,26 +62,11 @@ pub fn begin(table: &mut [[u64; WORDS]; TERMS]) -> State
 fn stops(e: Event) -> bool
     ensures { result ≡ is_stopped e }
 {
-    match e {
-        Event::Begun => false,
-        Event::Site => false,
-        Event::Item => false,
-        Event::Kept {
-            place: _,
-            priority: _,
-        } => false,
-        Event::Refused {
-            place: _,
-            priority: _,
-            why: _,
-        } => false,
-        Event::Ended => false,
-        Event::Stopped(_) => true,
-        Event::NoRoom => false,
-    }
+    matches!(e, Event::Stopped(_))
 }
 
 // The piece from `from` on, up to the end of the line, or to its own.
+#[tactic(auto, unfolding(crate::specs::Leaves::feed_line_in))]
 fn feed_line(
     s: State,
     piece: &[u8],
@@ -104,14 +88,12 @@ fn feed_line(
         let read = take (result.read - from) (drop from piece.now) in
         Feeds s before after room.old room.new at read result.state result.to }
 {
-    let held = s.held;
-    let reader = s.reader;
-    let c = cut_line(held, piece, from);
+    let c = cut_line(s.held, piece, from);
     let line = c.held;
     if c.unended {
         return Fed {
             state: State {
-                reader: reader,
+                reader: s.reader,
                 held: line,
                 stopped: false,
             },
@@ -119,20 +101,16 @@ fn feed_line(
             to: at,
         };
     }
-    let e = c.to;
-    let before = line.bytes;
-    let here = part(piece, from, e);
-    let text = line_of(part(&before, 0, line.length), here);
-    let a = step(reader, text, m, words, items, table, room, at);
-    let next = a.reader;
-    let event = a.event;
+    let here = part(piece, from, c.to);
+    let text = line_of(part(&line.bytes, 0, line.length), here);
+    let a = step(s.reader, text, m, words, items, table, room, at);
     Fed {
         state: State {
-            reader: next,
+            reader: a.reader,
             held: nothing(),
-            stopped: stops(event),
+            stopped: stops(a.event),
         },
-        read: e + 1,
+        read: c.to + 1,
         to: a.to,
     }
 }
@@ -142,16 +120,7 @@ fn pauses(stopped: bool, room: usize, at: usize) -> bool
     ensures { (result ≡ false → (stopped ≡ false) × (at + step_room ≤ room))
         × (result ≡ true → (stopped ≡ true) ⊎ (room < at + step_room)) }
 {
-    if stopped {
-        return true;
-    }
-    if room < STEP_ROOM {
-        return true;
-    }
-    if room - STEP_ROOM < at {
-        return true;
-    }
-    false
+    stopped || room.saturating_sub(at) < STEP_ROOM
 }
 
 // A piece of the sheet, from its start up to where the room may be too short for a further line; what it finds is written from `at` on.
@@ -175,56 +144,37 @@ pub fn feed(
         (at ≤ length room.old → Feeds s before after room.old room.new at read result.state result.to) }
     ensures pauses { Pauses result.state room.old result.to piece.now result.read }
 {
-    let mut state = s;
-    let mut i: usize = 0;
-    let mut to = at;
-    while i < piece.len() {
-        let halted = state.stopped;
-        if pauses(halted, room.len(), to) {
-            return Fed {
-                state: state,
-                read: i,
-                to: to,
-            };
-        }
-        let f = feed_line(state, piece, i, m, words, items, table, room, to);
-        let after = f.state;
-        state = after;
-        i = f.read;
-        to = f.to;
+    let mut fed = Fed {
+        state: s,
+        read: 0,
+        to: at,
+    };
+    // A `while`: a turn goes on where the line ended, which `feed_line` tells with the state.
+    while fed.read < piece.len() && !pauses(fed.state.stopped, room.len(), fed.to) {
+        fed = feed_line(
+            fed.state, piece, fed.read, m, words, items, table, room, fed.to,
+        );
     }
-    Fed {
-        state: state,
-        read: i,
-        to: to,
-    }
+    fed
 }
 
 // The sheet ends here: "at the end the 14s ascending, then 15"; a line that is not ended, or a set that is open, is 1.
+#[tactic(auto, unfolding(crate::specs::Leaves::end_in))]
 pub fn end(s: State, table: &[[u64; WORDS]; TERMS], room: &mut [u8], at: usize) -> Option<usize>
     ensures room_after { said result room.new ≡ end_in s table.now room.old at }
     ensures by_index { (m ws i : List ℕ) → Ends s (lent m ws i table.now) room.old room.new at result }
 {
-    if room.len() < END_ROOM {
-        return None;
-    }
-    if room.len() - END_ROOM < at {
+    if room.len().saturating_sub(at) < END_ROOM {
         return None;
     }
     if s.stopped {
         return Some(at);
     }
     let reader = s.reader;
+    if s.held.length == 0 && outside(reader.stands) {
+        return write_found(table, reader.ended, room, at);
+    }
     let line = reader.line;
-    let held = s.held;
-    if 0 < held.length {
-        return write_stop(line, Refusal::Layout { line }, room, at);
-    }
-    let stands = reader.stands;
-    if outside(stands) {
-        let ended = reader.ended;
-        return write_found(table, ended, room, at);
-    }
     write_stop(line, Refusal::Layout { line }, room, at)
 }
 
@@ -232,13 +182,7 @@ pub fn end(s: State, table: &[[u64; WORDS]; TERMS], room: &mut [u8], at: usize) 
 fn is_left(read: usize, all: usize, stopped: bool) -> bool
     ensures { (result ≡ false → (all ≤ read) ⊎ (stopped ≡ true)) × (result ≡ true → (read < all) × (stopped ≡ false)) }
 {
-    if all <= read {
-        return false;
-    }
-    if stopped {
-        return false;
-    }
-    true
+    read < all && !stopped
 }
 
 // How many bytes of findings; or why there is no answer: the room was too short (what is in it then is the first part of the findings), or the
@@ -250,6 +194,7 @@ pub enum Unchecked {
 }
 
 // A whole sheet: its findings into the room, from its start. A room of STEP_ROOM more than the findings is enough.
+#[tactic(auto, unfolding(crate::specs::Leaves::check_in))]
 pub fn check(
     sheet: &[u8],
     m: &mut [u8],
@@ -263,24 +208,13 @@ pub fn check(
         leaves result after room.new ≡ check_in sheet.now before room.old }
     ensures checks { Checks sheet.now m.old words.old items.old room.old room.new result }
 {
-    if m.len() < SITES_ROOM {
-        return Err(Unchecked::NoMemory);
-    }
-    if words.len() < KEPT_ROOM {
-        return Err(Unchecked::NoMemory);
-    }
-    if items.len() < ITEMS_ROOM {
+    if m.len() < SITES_ROOM || words.len() < KEPT_ROOM || items.len() < ITEMS_ROOM {
         return Err(Unchecked::NoMemory);
     }
     let s = begin(table);
     let f = feed(s, sheet, m, words, items, table, room, 0);
-    let state = f.state;
-    let to = f.to;
-    if is_left(f.read, sheet.len(), state.stopped) {
+    if is_left(f.read, sheet.len(), f.state.stopped) {
         return Err(Unchecked::NoRoom);
     }
-    match end(state, table, room, to) {
-        Some(e) => Ok(e),
-        None => Err(Unchecked::NoRoom),
-    }
+    end(f.state, table, room, f.to).ok_or(Unchecked::NoRoom)
 }
