@@ -185,7 +185,8 @@ fn is_left(read: usize, all: usize, stopped: bool) -> bool
     read < all && !stopped
 }
 
-// Why a check has no answer: the room was too short (what is in it then is the first part of the findings), or the memory is less than SITES_ROOM, KEPT_ROOM, ITEMS_ROOM, and nothing was read.
+// Why a check has no answer: the room was too short (what is in it then is the first part of the findings), or the memory is less
+// than SITES_ROOM, KEPT_ROOM, ITEMS_ROOM, and nothing was read.
 #[derive(Clone, Copy)]
 pub enum Unchecked {
     NoRoom,
