@@ -129,13 +129,14 @@ pub extern "C" fn lintel_remove_set_of(
 pub extern "C" fn lintel_len(count: &u16) -> u32
     ensures { (P R : List ℕ) → result ≡ C.len (C.classes P R count.now) }
 {
-    *count as u32
+    u32::from(*count)
 }
 
 // 1 where no site is in a class, else 0.
 #[unsafe(no_mangle)]
+#[tactic(auto, unfolding(paper::specs::Classes::is_empty))]
 pub extern "C" fn lintel_is_empty(count: &u16) -> u32
     ensures { (P R : List ℕ) → result ≡ bit (C.is_empty (C.classes P R count.now)) }
 {
-    if *count == 0 { 1 } else { 0 }
+    u32::from(*count == 0)
 }

@@ -45,7 +45,12 @@ pub extern "C" fn lintel_load(
     }
     let first = item_layout::stray(items, many);
     if first < many {
-        return say(answer, refused(Refusal::Layout { line: first as u32 }));
+        return say(
+            answer,
+            refused(Refusal::Layout {
+                line: u32::from(first),
+            }),
+        );
     }
     let l = rule_load::load_handed(slots, count, words, kept, place, priority, many, items);
     say(answer, loaded_said(l))

@@ -52,18 +52,6 @@ pub extern "C" fn lintel_mark_rec(recs: &mut [u64; WORDS], term: u16, answer: &m
     say(answer, added_said(a))
 }
 
-// Copies the terms to the start of `found`.
-fn put_terms(found: &mut [u16], all: &[u16])
-    requires { (terms ≤ length found.old) × (length all.now ≡ terms) }
-    ensures { found.new ≡ all.now ++ drop terms found.old }
-{
-    let mut i: usize = 0;
-    while i < TERMS {
-        found[i] = all[i];
-        i += 1;
-    }
-}
-
 // The cyclic terms without rec: how many. They stand first in `found`, ascending, and zeros after them up to 256.
 #[unsafe(no_mangle)]
 pub extern "C" fn lintel_cyclic_terms(
@@ -86,7 +74,6 @@ pub extern "C" fn lintel_cyclic_terms(
         return SHORT;
     }
     let l = term_table::findings(table, recs);
-    let all = l.terms;
-    put_terms(found, &all);
+    found[..TERMS].copy_from_slice(&l.terms);
     say(answer, done(u64::from(l.count), 0))
 }

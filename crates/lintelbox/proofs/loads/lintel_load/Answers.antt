@@ -22,7 +22,7 @@ pub returns-then-answer-lt-ANSWER-clause-lent_words : goal.returns-then-answer-l
 returns-then-answer-lt-ANSWER-clause-lent_words c = stayed _ _ _ (second_no _ _ (enough _ _ c.if-items-many.false) (less _ _ c.if-answer-lt-ANSWER.true))
 
 pub returns-then-first-many-clause-result_after : goal.returns-then-first-many-clause-result_after
-returns-then-first-many-clause-result_after c = past _ _ _ _ _ (enough _ _ c.if-items-many.false) (via _ _ _ _ _ c.say.ensures (stray_said _ _ _ c.stray-first.ensures _ _ c.if-first-many.true c.refused.ensures))
+returns-then-first-many-clause-result_after c = past _ _ _ _ _ (enough _ _ c.if-items-many.false) (via _ _ _ _ _ c.say.ensures (stray_said _ _ _ c.stray-first.ensures _ _ c.if-first-many.true (rw c.from.ensures at c.refused.ensures)))
 
 pub returns-then-first-many-clause-slots_after : goal.returns-then-first-many-clause-slots_after
 returns-then-first-many-clause-slots_after c = went _ _ _ _ (both_yes _ _ (enough _ _ c.if-items-many.false) (enough _ _ c.if-answer-lt-ANSWER.false)) (stray_sites _ _ _ c.stray-first.ensures _ _ _ c.if-first-many.true)
