@@ -37,7 +37,7 @@ pub extern "C" fn lintel_load(
         let judged = handed items.now many loaded in
         words.new ≡ after fits words.old (words_after words.old kept judged) }
 {
-    if items.len() < ITEM * (many as usize) {
+    if items.len() < ITEM * usize::from(many) {
         return SHORT;
     }
     if answer.len() < ANSWER {

@@ -46,7 +46,7 @@ pub extern "C" fn lintel_unfold(
         let unfolded = unfold_answer (sites_in slots.now count) (length room.old) site in
         room.new ≡ after fits room.old (after_unfold room.old unfolded) }
 {
-    if slots.len() < SLOT * (count as usize) {
+    if slots.len() < SLOT * usize::from(count) {
         return SHORT;
     }
     if answer.len() < ANSWER {

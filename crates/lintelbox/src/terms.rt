@@ -10,6 +10,7 @@ use term_table::WORDS;
 
 // No edges, and no term with rec.
 #[unsafe(no_mangle)]
+#[tactic(auto, unfolding(term_table::specs::Table::no_marks))]
 pub extern "C" fn lintel_terms_clear(table: &mut [[u64; WORDS]; TERMS], recs: &mut [u64; WORDS])
     ensures { (table.new ≡ no_edges) × (recs.new ≡ no_marks) }
 {
