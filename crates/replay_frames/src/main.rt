@@ -68,6 +68,7 @@ fn show<W: io::Write>(output: &mut W, line: &[u8]) -> io::Result<()> {
 }
 
 // A piece: shows the lines that end in it, and answers what is held of the next.
+#[tactic(auto, using(sheet_lines::specs::Cut::line_inside))]
 fn feed<W: io::Write>(output: &mut W, h: Held, s: &[u8]) -> io::Result<Held> {
     let mut held = h;
     let mut from = 0;
