@@ -1,5 +1,5 @@
 -- Where the reading of a sheet stands, as words and bytes: what the code reads and writes, and that what was written is read again.
-use mathlib.Core.Path.{◌≡◌, refl, ap, sym, ◌∙◌}
+use mathlib.Core.Path.{◌≡◌, refl, ap, ◌∙◌}
 use mathlib.Core.Bool.{Bool, true, false, not}
 use mathlib.Core.List.{List, [], ◌∷◌, ◌++◌, append_assoc}
 use Prim.Native.Nat.{ℕ, ◌+◌, ◌%◌, ◌<◌, ◌≤◌}
@@ -7,10 +7,11 @@ use Rattle.std.specs.Prelude.{if◌then◌else◌}
 use Rattle.paper.proofs.Lists.{and_both}
 use native.Mathlib.Nat.{mod-eq_of_lt}
 use native.Mathlib.Omega.{arith}
-use lib.ListN.{length, get_or, set, take, drop, length-set, replicate, length-append}
+use lib.ListN.{length, get_or, set, take, drop, length-append}
 use lib.Dec.{eqb, leb}
 use lib.Seq.{sets, sets-eq, length-sets, take_at}
-use borrow.Author.Tests.{eq-eqb, ne_eqb, le-leb, lt-leb, leb-true}
+use mir.Val.{bool_byte}
+use borrow.Author.Tests.{le-leb, leb-true}
 use Rattle.sheet_ended.specs.declared.EndedSets.{EndedSets}
 use Rattle.sheet_reader.specs.declared.OpenSet.{OpenSet}
 use Rattle.sheet_reader.specs.declared.Awaited.{Awaited}
@@ -21,31 +22,7 @@ use Rattle.sheet_lines.specs.Fed.{max_held}
 use Rattle.sheet_read.specs.declared.State.{State}
 use Rattle.sheet_state.specs.State.{state_words, set_in, rule_in, stands_in, row_in, ended_in, reader_in, stopped_in, bytes_in, state_in, keeps, bit, set_words, rule_words, both_words, stands_words, ended_words, reader_words, state_put, held_put}
 
--- ---- where the reader stands
-
-pub sites_is : (s : List ℕ) (k : ℕ) (g : OpenSet) → k ≡ get_or s 1 0 → k ≡ 1 → g ≡ set_in s → Sites g ≡ stands_in s
-unfolding stands_in
-sites_is s k g e h p = rw (eq-eqb (get_or s 1 0) 1 (sym e ∙ h)) (ap Sites p)
-
-pub rules_is : (s : List ℕ) (k : ℕ) (g : OpenSet) → k ≡ get_or s 1 0 → (k ≡ 1 → ⊥) → k ≡ 2 → g ≡ set_in s → Rules g ≡ stands_in s
-unfolding stands_in
-rules_is s k g e a h p = rw (ne_eqb (get_or s 1 0) 1 (λ q. a (e ∙ q)), eq-eqb (get_or s 1 0) 2 (sym e ∙ h)) (ap Rules p)
-
-pub items_is : (s : List ℕ) (k : ℕ) (g : OpenSet) (r : Awaited) (l : ℕ) → k ≡ get_or s 1 0 → (k ≡ 1 → ⊥) → (k ≡ 2 → ⊥) → k ≡ 3 → g ≡ set_in s → r ≡ rule_in s → l ≡ get_or s 9 0 % 256 → Items g r l ≡ stands_in s
-unfolding stands_in
-items_is s k g r l e a b h p q t =
-    rw (ne_eqb (get_or s 1 0) 1 (λ z. a (e ∙ z)), ne_eqb (get_or s 1 0) 2 (λ z. b (e ∙ z)), eq-eqb (get_or s 1 0) 3 (sym e ∙ h))
-    (ap (λ (x : OpenSet). Items x r l) p ∙ ap (λ (x : Awaited). Items (set_in s) x l) q ∙ ap (λ (x : ℕ). Items (set_in s) (rule_in s) x) t)
-
-pub outside_is : (s : List ℕ) (k : ℕ) → k ≡ get_or s 1 0 → (k ≡ 1 → ⊥) → (k ≡ 2 → ⊥) → (k ≡ 3 → ⊥) → Outside ≡ stands_in s
-unfolding stands_in
-outside_is s k e a b d = rw (ne_eqb (get_or s 1 0) 1 (λ z. a (e ∙ z)), ne_eqb (get_or s 1 0) 2 (λ z. b (e ∙ z)), ne_eqb (get_or s 1 0) 3 (λ z. d (e ∙ z)))
-
 -- ---- two runs of stores are one
-
-pub both_put : (m n o : List ℕ) (k : ℕ) (g : OpenSet) (a : Awaited) (left : ℕ) → n ≡ sets m 1 (set_words k g) → o ≡ sets n 6 (rule_words a left) → o ≡ sets m 1 (both_words k g a left)
-unfolding both_words set_words rule_words
-both_put m n o k g a left p q = q ∙ ap (λ (x : List ℕ). sets x 6 (a.place ∷ a.priority ∷ a.count ∷ left ∷ [])) p
 
 stands_then : (m : List ℕ) (s : Stands) (e : EndedSets) → sets (sets m 1 (stands_words s)) 10 (ended_words e) ≡ sets m 1 (stands_words s ++ ended_words e)
 unfolding stands_words both_words set_words rule_words ended_words
@@ -65,63 +42,19 @@ reader_put m n o l r e p q =
 abbrev open_set : ℕ → ℕ → ℕ → ℕ → OpenSet
 open_set a b c d = record { term = a; flags = b; sites = c; rules = d }
 
-pub set_is : (s : List ℕ) (a b c d v w x y : ℕ) → v ≡ get_or s 2 0 → a ≡ v % 65536 → w ≡ get_or s 3 0 → b ≡ w % 256 → x ≡ get_or s 4 0 → c ≡ x % 65536 → y ≡ get_or s 5 0 → d ≡ y % 4294967296 → open_set a b c d ≡ set_in s
-unfolding set_in
-set_is s a b c d v w x y e p f q g t h u = cc
-
 abbrev awaited : ℕ → ℕ → ℕ → Awaited
 awaited a b c = record { place = a; priority = b; count = c }
-
-pub rule_is : (s : List ℕ) (a b c v w : ℕ) → v ≡ get_or s 6 0 → a ≡ v % 4294967296 → b ≡ get_or s 7 0 → w ≡ get_or s 8 0 → c ≡ w % 256 → awaited a b c ≡ rule_in s
-unfolding rule_in
-rule_is s a b c v w e p q f t = cc
-
-pub row_is : (s : List ℕ) (at a b c d : ℕ) → a ≡ get_or s at 0 → b ≡ get_or s (at + 1) 0 → c ≡ get_or s (at + 2) 0 → d ≡ get_or s (at + 3) 0 → (a ∷ b ∷ c ∷ d ∷ []) ≡ row_in s at
-unfolding row_in
-row_is s at a b c d p q r t = cc
 
 abbrev ended : ℕ → ℕ → List ℕ → List ℕ → EndedSets
 ended a b u v = record { sets = a; kept = b; used = u; recs = v }
 
-pub ended_is : (s : List ℕ) (a b v w : ℕ) (u r : List ℕ) → v ≡ get_or s 10 0 → a ≡ v % 65536 → w ≡ get_or s 11 0 → b ≡ w % 65536 → u ≡ row_in s 12 → r ≡ row_in s 16 → ended a b u r ≡ ended_in s
-unfolding ended_in
-ended_is s a b v w u r e p f q g h = cc
-
 abbrev reader : ℕ → Stands → EndedSets → Reader
 reader l t e = record { line = l; stands = t; ended = e }
-
-pub reader_is : (s : List ℕ) (l v : ℕ) (t : Stands) (e : EndedSets) → v ≡ get_or s 0 0 → l ≡ v % 4294967296 → t ≡ stands_in s → e ≡ ended_in s → reader l t e ≡ reader_in s
-unfolding reader_in
-reader_is s l v t e p q r u = cc
 
 abbrev state : Reader → ℕ → List ℕ → Bool → State
 state r n b t = record { reader = r; held = record { length = n; bytes = b }; stopped = t }
 
-pub state_is : (s h : List ℕ) (r : Reader) (n v : ℕ) (b : List ℕ) (t : Bool) → r ≡ reader_in s → b ≡ bytes_in h → v ≡ get_or s 20 0 → n ≡ v → t ≡ stopped_in s → state r n b t ≡ state_in s h
-unfolding state_in
-state_is s h r n v b t p q e f u = cc
-
 -- ---- writing
-
-pub set_put : (m : List ℕ) (k a b c d : ℕ) (g : OpenSet) → a ≡ g.term → b ≡ g.flags → c ≡ g.sites → d ≡ g.rules → set (set (set (set (set m 1 k) 2 a) 3 b) 4 c) 5 d ≡ sets m 1 (set_words k g)
-unfolding set_words
-set_put m k a b c d g p q r t = rw (p, q, r, t)
-
-pub rule_put : (m : List ℕ) (a b c : ℕ) (w : Awaited) (l : ℕ) → a ≡ w.place → b ≡ w.count → c ≡ l → set (set (set (set m 6 a) 7 w.priority) 8 b) 9 c ≡ sets m 6 (rule_words w l)
-unfolding rule_words
-rule_put m a b c w l p q r = rw (p, q, r)
-
-pub ended_put : (m : List ℕ) (a b : ℕ) (e : EndedSets) → a ≡ e.sets → b ≡ e.kept
-    → set (set (set (set (set (set (set (set (set (set m 10 a) 11 b) 12 (get_or e.used 0 0)) 13 (get_or e.used 1 0)) 14 (get_or e.used 2 0)) 15 (get_or e.used 3 0)) 16 (get_or e.recs 0 0)) 17 (get_or e.recs 1 0)) 18 (get_or e.recs 2 0)) 19 (get_or e.recs 3 0)
-    ≡ sets m 10 (ended_words e)
-unfolding ended_words
-ended_put m a b e p q = rw (p, q)
-
-pub stands_put : (m o : List ℕ) (s t : Stands) → s ≡ t → o ≡ sets m 1 (stands_words t) → o ≡ sets m 1 (stands_words s)
-stands_put m o s t p e = e ∙ ap (λ (x : Stands). sets m 1 (stands_words x)) (sym p)
-
-pub sets_room : (m n : List ℕ) (l i k : ℕ) (ws : List ℕ) → n ≡ sets (set m 0 l) i ws → k ≤ length m → k ≤ length n
-sets_room m n l i k ws p h = let q : length n ≡ length m = ap length p ∙ length-sets (set m 0 l) i ws ∙ length-set m 0 l in omega arith
 
 pub sets_length : (m n : List ℕ) (i : ℕ) (ws : List ℕ) → n ≡ sets m i ws → length n ≡ length m
 sets_length m n i ws p = ap length p ∙ length-sets m i ws
@@ -190,16 +123,6 @@ ended_there l (Sites g) e rest h = ended_again e h
 ended_there l (Rules g) e rest h = ended_again e h
 ended_there l (Items g a left) e rest h = ended_again e h
 
-words_count : (r : Reader) → length (reader_words r) ≡ 20
-unfolding reader_words stands_words both_words set_words rule_words ended_words
-words_count r = go r.stands
-  where
-    go : (s : Stands) → length (r.line ∷ (stands_words s ++ ended_words r.ended)) ≡ 20
-    go Outside = refl
-    go (Sites g) = refl
-    go (Rules g) = refl
-    go (Items g a left) = refl
-
 read_again : (r : Reader) (rest : List ℕ) → SmallReader r → reader_in (reader_words r ++ rest) ≡ r
 unfolding reader_in reader_words
 read_again r rest h =
@@ -215,6 +138,10 @@ words_then m l Outside e a b = refl
 words_then m l (Sites g) e a b = refl
 words_then m l (Rules g) e a b = refl
 words_then m l (Items g r left) e a b = refl
+
+pub bit_is : (b : Bool) → bool_byte b ≡ bit b
+bit_is true = refl
+bit_is false = refl
 
 pub words_put : (m n : List ℕ) (a b : ℕ) (s : State) → n ≡ sets m 0 (reader_words s.reader) → a ≡ s.held.length → b ≡ bit s.stopped → set (set n 20 a) 21 b ≡ state_put m s
 unfolding state_put reader_words
@@ -292,26 +219,7 @@ keeps_long w h e =
     let t = and_both (leb state_words (length w)) (leb max_held (length h)) e in
     (leb-true state_words (length w) t.0, leb-true max_held (length h) t.1)
 
-pub keeps_not : (w h : List ℕ) → length w < state_words → false ≡ keeps w h
-unfolding keeps
-keeps_not w h l = rw (lt-leb state_words (length w) l)
-
-pub keeps_last : (w h : List ℕ) → state_words ≤ length w → leb max_held (length h) ≡ keeps w h
-unfolding keeps
-keeps_last w h l = rw (le-leb state_words (length w) l)
-
-pub few_bytes : (h : List ℕ) → length h < max_held → replicate max_held 0 ≡ bytes_in h
-unfolding bytes_in
-few_bytes h l = rw (lt-leb max_held (length h) l)
-
-pub many_bytes : (h b : List ℕ) → max_held ≤ length h → b ≡ take max_held h → b ≡ bytes_in h
-unfolding bytes_in
-many_bytes h b l e = rw (le-leb max_held (length h) l) e
-
 -- a test that came out so
-pub put_all : (b : Bool) (w h n k : List ℕ) (s : State) → b ≡ true → (n ≡ state_put w s) × ((k ≡ held_put h s) × (state_in n k ≡ s)) → (n ≡ (if b then state_put w s else w)) × ((k ≡ (if b then held_put h s else h)) × (b ≡ true → state_in n k ≡ s))
-put_all b w h n k s e p = (rw e p.0, (rw e p.1.0, λ f. p.1.1))
-
 -- and back, for whoever knows that it is long enough
 pub put_there : (b : Bool) (w h n k : List ℕ) (s : State) → b ≡ true → (n ≡ (if b then state_put w s else w)) × ((k ≡ (if b then held_put h s else h)) × (b ≡ true → state_in n k ≡ s)) → (n ≡ state_put w s) × ((k ≡ held_put h s) × (state_in n k ≡ s))
 put_there b w h n k s e p = let q = p.0 in let r = p.1.0 in (rw e at q, (rw e at r, p.1.1 e))

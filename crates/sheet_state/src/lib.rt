@@ -1,10 +1,11 @@
 // Where the reading of a sheet stands, as words and bytes of lent memory: between two pieces of a sheet nothing else is kept of it.
+// The words cross C, which lends them and may put anything there: where the reader stands is a number in one of them, and functions read and put, no `From`.
 #![tactic(auto)]
 
 ghost use Rattle.std.specs.Prelude.{◌≡◌, Bool, true, ◌++◌, ℕ, ◌%◌, ◌≤◌, length, get_or, take, drop, if◌then◌else◌};
 ghost use Rattle.std.proofs.lemmas.List.Edits.{sets};
 ghost use Rattle.sheet_lines.specs.Fed.{max_held};
-ghost use Rattle.sheet_state.specs.State.{state_words, keeps, bit, set_in, rule_in, stands_in, row_in, ended_in, reader_in, stopped_in, bytes_in, state_in, set_words, rule_words, both_words, stands_words, ended_words, reader_words, state_put, held_put};
+ghost use Rattle.sheet_state.specs.State.{state_words, keeps, set_in, rule_in, stands_in, row_in, ended_in, reader_in, stopped_in, bytes_in, state_in, set_words, rule_words, both_words, stands_words, ended_words, reader_words, state_put, held_put};
 
 use rule_words::word;
 use sheet_ended::EndedSets;
@@ -20,6 +21,7 @@ pub const STATE: usize = 22;
 // The word that is 0 until the sheet stopped.
 pub const STOPPED: usize = 21;
 
+// A word cut to its width: three functions, since a cast may lose nothing, and a generic one would take a trait for three lines.
 fn two_bytes(x: u64) -> u16
     ensures { result ≡ x % 65536 }
 {
@@ -38,6 +40,7 @@ fn four_bytes(x: u64) -> u32
     (x % 4294967296) as u32
 }
 
+#[tactic(auto, unfolding(crate::specs::State::set_in))]
 fn set_in(state: &[u64]) -> OpenSet
     ensures { result ≡ set_in state.now }
 {
@@ -49,6 +52,7 @@ fn set_in(state: &[u64]) -> OpenSet
     }
 }
 
+#[tactic(auto, unfolding(crate::specs::State::rule_in))]
 fn rule_in(state: &[u64]) -> Awaited
     ensures { result ≡ rule_in state.now }
 {
@@ -59,28 +63,23 @@ fn rule_in(state: &[u64]) -> Awaited
     }
 }
 
+#[tactic(auto, unfolding(crate::specs::State::stands_in))]
 fn stands_in(state: &[u64]) -> Stands
     ensures { result ≡ stands_in state.now }
 {
-    let k = word(state, 1);
-    if k == 1 {
-        return Stands::Sites(set_in(state));
-    }
-    if k == 2 {
-        return Stands::Rules(set_in(state));
-    }
-    if k == 3 {
-        let left = one_byte(word(state, 9));
-        let rule = rule_in(state);
-        return Stands::Items {
+    match word(state, 1) {
+        1 => Stands::Sites(set_in(state)),
+        2 => Stands::Rules(set_in(state)),
+        3 => Stands::Items {
             set: set_in(state),
-            rule,
-            left,
-        };
+            rule: rule_in(state),
+            left: one_byte(word(state, 9)),
+        },
+        _ => Stands::Outside,
     }
-    Stands::Outside
 }
 
+#[tactic(auto, unfolding(crate::specs::State::row_in))]
 fn row_in(state: &[u64], at: usize) -> [u64; WORDS]
     requires { at ≤ 16 }
     ensures { result ≡ row_in state.now at }
@@ -93,51 +92,43 @@ fn row_in(state: &[u64], at: usize) -> [u64; WORDS]
     ]
 }
 
+#[tactic(auto, unfolding(crate::specs::State::ended_in))]
 fn ended_in(state: &[u64]) -> EndedSets
     ensures { result ≡ ended_in state.now }
 {
-    let used = row_in(state, 12);
-    let recs = row_in(state, 16);
     EndedSets {
         sets: two_bytes(word(state, 10)),
         kept: two_bytes(word(state, 11)),
-        used,
-        recs,
+        used: row_in(state, 12),
+        recs: row_in(state, 16),
     }
 }
 
 // The reader that the words say; each number is cut to its width, which changes nothing where a reader was put there.
+#[tactic(auto, unfolding(crate::specs::State::reader_in))]
 fn reader_in(state: &[u64]) -> Reader
     ensures { result ≡ reader_in state.now }
 {
-    let stands = stands_in(state);
-    let ended = ended_in(state);
     Reader {
         line: four_bytes(word(state, 0)),
-        stands,
-        ended,
+        stands: stands_in(state),
+        ended: ended_in(state),
     }
 }
 
-// The first bytes of what is lent for the held line.
-fn first_bytes(held: &[u8]) -> [u8; HELD]
-    requires { max_held ≤ length held.now }
-    ensures { result ≡ take max_held held.now }
-{
-    let mut bytes = [0; HELD];
-    bytes.copy_from_slice(&held[..HELD]);
-    bytes
-}
-
+// The first bytes of what is lent for the held line; zeros where they are too few.
+#[tactic(auto, unfolding(crate::specs::State::bytes_in))]
 fn bytes_in(held: &[u8]) -> [u8; HELD]
     ensures { result ≡ bytes_in held.now }
 {
-    if held.len() < HELD {
-        return [0; HELD];
+    let mut bytes = [0; HELD];
+    if HELD <= held.len() {
+        bytes.copy_from_slice(&held[..HELD]);
     }
-    first_bytes(held)
+    bytes
 }
 
+#[tactic(auto, unfolding(crate::specs::State::stopped_in))]
 fn stopped_in(state: &[u64]) -> bool
     ensures { result ≡ stopped_in state.now }
 {
@@ -145,20 +136,22 @@ fn stopped_in(state: &[u64]) -> bool
 }
 
 // The state that the words and bytes say, whatever they are.
+#[tactic(auto, unfolding(crate::specs::State::state_in))]
 pub fn state_in(state: &[u64], held: &[u8]) -> State
     ensures { result ≡ state_in state.now held.now }
 {
-    let reader = reader_in(state);
-    let bytes = bytes_in(held);
-    let length = word(state, 20) as usize;
     State {
-        reader,
-        held: Held { length, bytes },
+        reader: reader_in(state),
+        held: Held {
+            length: word(state, 20) as usize,
+            bytes: bytes_in(held),
+        },
         stopped: stopped_in(state),
     }
 }
 
 // The words 1 to 5: where the reader stands, and the open set.
+#[tactic(auto, unfolding(crate::specs::State::set_words))]
 fn put_set(state: &mut [u64], k: u64, g: OpenSet)
     requires { state_words ≤ length state.old }
     ensures { state.new ≡ sets state.old 1 (set_words k g) }
@@ -171,6 +164,7 @@ fn put_set(state: &mut [u64], k: u64, g: OpenSet)
 }
 
 // The words 6 to 9: the awaited rule, and the items left.
+#[tactic(auto, unfolding(crate::specs::State::rule_words))]
 fn put_rule(state: &mut [u64], a: Awaited, left: u8)
     requires { state_words ≤ length state.old }
     ensures { state.new ≡ sets state.old 6 (rule_words a left) }
@@ -194,6 +188,7 @@ const NO_RULE: Awaited = Awaited {
     count: 0,
 };
 
+#[tactic(auto, unfolding(crate::specs::State::both_words, crate::specs::State::set_words, crate::specs::State::rule_words))]
 fn put_both(state: &mut [u64], k: u64, g: OpenSet, a: Awaited, left: u8)
     requires { state_words ≤ length state.old }
     ensures { state.new ≡ sets state.old 1 (both_words k g a left) }
@@ -202,6 +197,7 @@ fn put_both(state: &mut [u64], k: u64, g: OpenSet, a: Awaited, left: u8)
     put_rule(state, a, left);
 }
 
+#[tactic(auto, unfolding(crate::specs::State::stands_words))]
 fn put_stands(state: &mut [u64], s: Stands)
     requires { state_words ≤ length state.old }
     ensures { state.new ≡ sets state.old 1 (stands_words s) }
@@ -215,22 +211,15 @@ fn put_stands(state: &mut [u64], s: Stands)
 }
 
 // The words 10 to 19: the sets that were ended.
+#[tactic(auto, unfolding(crate::specs::State::ended_words))]
 fn put_ended(state: &mut [u64], e: EndedSets)
     requires { state_words ≤ length state.old }
     ensures { state.new ≡ sets state.old 10 (ended_words e) }
 {
-    let used = e.used;
-    let recs = e.recs;
     state[10] = u64::from(e.sets);
     state[11] = u64::from(e.kept);
-    state[12] = used[0];
-    state[13] = used[1];
-    state[14] = used[2];
-    state[15] = used[3];
-    state[16] = recs[0];
-    state[17] = recs[1];
-    state[18] = recs[2];
-    state[19] = recs[3];
+    state[12..16].copy_from_slice(&e.used);
+    state[16..20].copy_from_slice(&e.recs);
 }
 
 // The reader into its words.
@@ -238,17 +227,9 @@ fn put_reader(state: &mut [u64], r: Reader)
     requires { state_words ≤ length state.old }
     ensures { state.new ≡ sets state.old 0 (reader_words r) }
 {
-    let stands = r.stands;
-    let ended = r.ended;
     state[0] = u64::from(r.line);
-    put_stands(state, stands);
-    put_ended(state, ended);
-}
-
-fn bit(b: bool) -> u64
-    ensures { result ≡ bit b }
-{
-    if b { 1 } else { 0 }
+    put_stands(state, r.stands);
+    put_ended(state, r.ended);
 }
 
 // The words 0 to 21.
@@ -256,16 +237,14 @@ fn put_words(state: &mut [u64], s: State)
     requires { state_words ≤ length state.old }
     ensures { state.new ≡ state_put state.old s }
 {
-    let reader = s.reader;
-    let held = s.held;
-    put_reader(state, reader);
-    state[20] = held.length as u64;
-    state[STOPPED] = bit(s.stopped);
+    put_reader(state, s.reader);
+    state[20] = s.held.length as u64;
+    state[STOPPED] = u64::from(s.stopped);
 }
 
 // Copies the held line to the start of its bytes.
-fn put_bytes(held: &mut [u8], bytes: &[u8])
-    requires { (max_held ≤ length held.old) × (length bytes.now ≡ max_held) }
+fn put_bytes(held: &mut [u8], bytes: &[u8; HELD])
+    requires { max_held ≤ length held.old }
     ensures { held.new ≡ bytes.now ++ drop max_held held.old }
 {
     held[..HELD].copy_from_slice(bytes);
@@ -277,13 +256,12 @@ fn put_in(state: &mut [u64], held: &mut [u8], s: State)
     ensures held_after { held.new ≡ held_put held.old s }
     ensures held_after_2 { state_in state.new held.new ≡ s }
 {
-    let line = s.held;
-    let bytes = line.bytes;
     put_words(state, s);
-    put_bytes(held, &bytes);
+    put_bytes(held, &s.held.bytes);
 }
 
 // Whether what is lent is long enough for a state.
+#[tactic(auto, unfolding(crate::specs::State::keeps))]
 pub fn keeps(state: &[u64], held: &[u8]) -> bool
     ensures { result ≡ keeps state.now held.now }
 {
@@ -291,6 +269,7 @@ pub fn keeps(state: &[u64], held: &[u8]) -> bool
 }
 
 // The state into its words and bytes, which then say it. Where they are too few, nothing is changed.
+#[tactic(auto, using(crate::proofs::Reading::keeps_long))]
 pub fn put_state(state: &mut [u64], held: &mut [u8], s: State)
     ensures state_after { state.new ≡ (if keeps state.old held.old then state_put state.old s else state.old) }
     ensures held_after { held.new ≡ (if keeps state.old held.old then held_put held.old s else held.old) }
