@@ -20,7 +20,7 @@ use term_table::WORDS;
 // a line take less: at most 128 lists, some 350 bytes each without their places, and 2,016 places of 12 bytes.
 const NEED: usize = 655360;
 
-// Bytes of output not yet written, whether the sheet goes on, whether it had a finding.
+// Bytes of output not yet written, whether the sheet goes on, whether it had a finding: two flags, no enum, since each may be true without the other.
 #[derive(Drop)]
 pub struct Marks {
     pub filled: usize,
@@ -49,6 +49,7 @@ fn flush<W: io::Write>(output: &mut W, out: &[u8], n: usize) -> io::Result<()> {
 }
 
 // Writes the buffer out where less than NEED is left: how much of it is filled then.
+#[tactic(auto, unfolding(crate::specs::Taken::spared))]
 fn spare<W: io::Write>(output: &mut W, out: &[u8], n: usize) -> io::Result<usize>
     ensures filled { IfOk result (λ at. at ≡ spared (length out.now) n) }
     ensures overfull { OnErr result (Overfull out.now n) }
@@ -143,6 +144,7 @@ pub fn end_sheet<W: io::Write>(
 }
 
 // Before a sheet. The term table is cleared.
+#[tactic(auto, unfolding(crate::specs::Taken::fresh_flow))]
 pub fn fresh(table: &mut [[u64; WORDS]; TERMS], filled: usize) -> Flow
     ensures { (result ≡ fresh_flow filled) × (table.new ≡ no_edges) }
 {
