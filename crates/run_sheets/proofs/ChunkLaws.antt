@@ -15,7 +15,7 @@ use Rattle.term_table.specs.Table.{Square, no_edges}
 use Rattle.sheet_reader.specs.State.{Lent, lent}
 use Rattle.run_answers.specs.declared.How.{How}
 use Rattle.run_lines.specs.declared.Flow.{Flow}
-use Rattle.run_lines.specs.Taken.{Closed, fresh_flow}
+use Rattle.run_lines.specs.Taken.{fresh_flow}
 use Rattle.run_sheets.specs.Chunks.{Standing, stand, Takes, TookLines, TookAll, Unwritten, StoppedIn, Read, Stopped, Ran}
 
 -- ---- the lines of a chunk
@@ -105,21 +105,12 @@ one_more how many (q ∷ ps) p s t u g e h w c = (w.0, w.1, w.2, one_more how ma
 pub more_read : (how : How) (many : Bool) (p : List ℕ) (s t u : Standing) (g e h : Held) → Read how many g s t e → TookLines how many (lines p) e t u h → Read how many g s u h
 more_read how many p s t u g e h w c = record { chunks = w.chunks ++ (p ∷ []); took = one_more how many w.chunks p s t u g e h w.took c }
 
-pub all_read : (how : How) (many : Bool) (s u : Standing) (g h : Held) → g ≡ no_line → Read how many g s u h → Read how many no_line s u h
-all_read how many s u g h e w = subst (λ (z : Held). Read how many z s u h) e w
-
-pub ran_here : (how : How) (many : Bool) (m w i room out room' out' : List ℕ) (t : Square) (f : Flow) (u : Standing) (h : Held) (n : ℕ) → f ≡ fresh_flow 0 → t ≡ no_edges → Read how many no_line (stand f (lent m w i t) room out) u h → Closed how u.flow.reader u.flow.marks h u.memory.table u.room room' u.out out' n → Ran how many (lent m w i no_edges) u.memory room out room' out'
-ran_here how many m w i room out room' out' t f u h n e g r c = record { last = u; held = h; filled = n; read = subst (λ (z : Flow). Read how many no_line (stand z (lent m w i no_edges) room out) u h) e (subst (λ (z : Square). Read how many no_line (stand f (lent m w i z) room out) u h) g r); closed = c; memory = refl }
-
 -- ---- a file, up to an error
 pub first_read : (how : How) (many : Bool) (s : Standing) (h : Held) → h ≡ no_line → Read how many no_line s s h
 first_read how many s h e = subst (λ (z : Held). Read how many no_line s s z) (sym e) (none_read how many s no_line)
 
 pub stopped_between : (how : How) (many : Bool) (s : Standing) (g h : Held) (f : Flow) (k : Lent) (room out : List ℕ) → Read how many g s (stand f k room out) h → Stopped how many g s k room out
 stopped_between how many s g h f k room out r = record { last = stand f k room out; held = h; read = r; stopped = inl (record { memory = refl; room_same = refl; out_same = refl }) }
-
-pub stopped_inside : (how : How) (many : Bool) (p : List ℕ) (s t : Standing) (g h : Held) (k : Lent) (room out : List ℕ) → Read how many g s t h → StoppedIn how many (lines p) h t k room out → Stopped how many g s k room out
-stopped_inside how many p s t g h k room out r w = record { last = t; held = h; read = r; stopped = inr (p, w) }
 
 -- of a run: before its end, at its end, and after it
 module _ (how : How) (many : Bool) (m w i room out : List ℕ) (t : Square) (f : Flow) (e : f ≡ fresh_flow 0) (g : t ≡ no_edges) where
@@ -128,16 +119,9 @@ module _ (how : How) (many : Bool) (m w i room out : List ℕ) (t : Square) (f :
       subst (λ (z : Flow). Stopped how many no_line (stand z (lent m w i no_edges) room out) k room' out') e
       (subst (λ (z : Square). Stopped how many no_line (stand f (lent m w i z) room out) k room' out') g x)
 
-  pub stopped_before : (k : Lent) (room' out' : List ℕ) → Stopped how many no_line (stand f (lent m w i t) room out) k room' out' →
-      Stopped how many no_line (stand (fresh_flow 0) (lent m w i no_edges) room out) k room' out' ⊎ Ran how many (lent m w i no_edges) k room out room' out'
-  stopped_before k room' out' x = inl (from_fresh k room' out' x)
-
   pub stopped_at_end : (l : Flow) (h : Held) (k : Lent) (room₁ out₁ room' out' : List ℕ) → Read how many no_line (stand f (lent m w i t) room out) (stand l k room₁ out₁) h → (room' ≡ room₁) × (out' ≡ out₁) →
       Stopped how many no_line (stand (fresh_flow 0) (lent m w i no_edges) room out) k room' out' ⊎ Ran how many (lent m w i no_edges) k room out room' out'
   stopped_at_end l h k room₁ out₁ room' out' r x =
       let y = from_fresh k room₁ out₁ (stopped_between how many (stand f (lent m w i t) room out) no_line h l k room₁ out₁ r) in
       let first = stand (fresh_flow 0) (lent m w i no_edges) room out in
       inl (subst (λ (z : List ℕ). Stopped how many no_line first k z out') (sym x.0) (subst (λ (z : List ℕ). Stopped how many no_line first k room₁ z) (sym x.1) y))
-
-pub stopped_after : (how : How) (many : Bool) (first : Standing) (before k : Lent) (room out room' out' : List ℕ) → Ran how many before k room out room' out' → Stopped how many no_line first k room' out' ⊎ Ran how many before k room out room' out'
-stopped_after how many first before k room out room' out' x = inr x

@@ -55,21 +55,20 @@ fn feed<W: io::Write>(
     let mut flow = f;
     let mut held = h;
     let mut from = 0;
+    // A `while`: a turn goes on where the line ended, which `cut_line` tells.
     while from < bytes.len() {
         let c = cut_line(held, bytes, from);
         let line = c.held;
         if c.unended {
             return Ok(Left { flow, held: line });
         }
-        let to = c.to;
-        let before = line.bytes;
-        let here = part(bytes, from, to);
-        let text = line_of(part(&before, 0, line.length), here);
+        let here = part(bytes, from, c.to);
+        let text = line_of(part(&line.bytes, 0, line.length), here);
         flow = take_text(
             output, how, many, flow, text, m, words, items, table, room, out,
         )?;
         held = nothing();
-        from = to + 1;
+        from = c.to + 1;
     }
     Ok(Left { flow, held })
 }
@@ -108,11 +107,9 @@ fn read_all<R: io::Read, W: io::Write>(
         if n == 0 {
             return Ok(g);
         }
-        let flow = g.flow;
-        let held = g.held;
         let chunk = part(bytes, 0, n);
         g = feed(
-            output, how, many, flow, held, chunk, m, words, items, table, room, out,
+            output, how, many, g.flow, g.held, chunk, m, words, items, table, room, out,
         )?;
     }
     Ok(g)
@@ -146,10 +143,7 @@ pub fn run_in<R: io::Read, W: io::Write>(
     let g = read_all(
         input, output, how, many, f, m, words, items, table, room, out, bytes,
     )?;
-    let flow = g.flow;
-    let reader = flow.reader;
-    let marks = flow.marks;
-    let held = g.held;
-    let n = end_sheet(output, how, reader, marks, held, table, room, out)?;
+    let Flow { reader, marks } = g.flow;
+    let n = end_sheet(output, how, reader, marks, g.held, table, room, out)?;
     output.write_all(part(out, 0, n))
 }
