@@ -50,7 +50,12 @@ fn put_at(m: &mut [u8], at: usize, s: &[u8])
     requires { at + length s.now ≤ length m.old }
     ensures { m.new ≡ put m.old at s.now }
 {
-    m[at..at + s.len()].copy_from_slice(s);
+    let mut j = 0;
+    // A while, for the C interface: the header says that the archive asks the linker for memcpy and memset alone, and `copy_from_slice` asks for memmove here.
+    while j < s.len() {
+        m[at + j] = s[j];
+        j += 1;
+    }
 }
 
 // Writes the body b into slot n.
