@@ -218,8 +218,17 @@ fn put_ended(state: &mut [u64], e: EndedSets)
 {
     state[10] = u64::from(e.sets);
     state[11] = u64::from(e.kept);
-    state[12..16].copy_from_slice(&e.used);
-    state[16..20].copy_from_slice(&e.recs);
+    // Word by word, for the C interface: rows that are copied as slices lie on the stack, of which the header allows `lintel_sheet_begin` 512 bytes.
+    let used = e.used;
+    let recs = e.recs;
+    state[12] = used[0];
+    state[13] = used[1];
+    state[14] = used[2];
+    state[15] = used[3];
+    state[16] = recs[0];
+    state[17] = recs[1];
+    state[18] = recs[2];
+    state[19] = recs[3];
 }
 
 // The reader into its words.
@@ -257,7 +266,8 @@ fn put_in(state: &mut [u64], held: &mut [u8], s: State)
     ensures held_after_2 { state_in state.new held.new ≡ s }
 {
     put_words(state, s);
-    put_bytes(held, &s.held.bytes);
+    let bytes = s.held.bytes; // by a name of its own, for the same stack
+    put_bytes(held, &bytes);
 }
 
 // Whether what is lent is long enough for a state.
