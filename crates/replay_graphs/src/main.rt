@@ -7,6 +7,7 @@
 #![tactic(auto)]
 
 use paper::TERMS;
+use sheet_digits::{high_digit, low_digit};
 use std::io::{self, Read};
 use term_table::{Listed, WORDS};
 
@@ -59,7 +60,15 @@ fn write_bad<W: io::Write>(output: &mut W, number: u64) -> io::Result<()> {
 fn write_cyclic<W: io::Write>(output: &mut W, found: Listed) -> io::Result<()> {
     output.write_all(b"cyclic")?;
     for term in found.terms.iter().take(usize::from(found.count)) {
-        write!(output, " {term:04X}")?;
+        let [high, low] = term.to_be_bytes();
+        // one write for a term: each piece of a `write!` goes out by itself
+        output.write_all(&[
+            b' ',
+            high_digit(high),
+            low_digit(high),
+            high_digit(low),
+            low_digit(low),
+        ])?;
     }
     output.write_all(b"\n")
 }
