@@ -3,6 +3,8 @@
 
 mod words;
 
+ghost use Rattle.std.specs.Prelude.{◌≤◌, length, IfSome};
+
 use item_words::ITEMS_ROOM;
 use paper::SITES;
 use run_answers::How;
@@ -51,9 +53,11 @@ fn arg_count(rt: &impl Env) -> usize {
 }
 
 // Word i of the call, None where the call has no such word. One that is too long is read as no text.
-fn arg<'a>(rt: &impl Env, i: usize, word: &'a mut [u8]) -> Option<&'a [u8]> {
+fn arg<'a>(rt: &impl Env, i: usize, word: &'a mut [u8]) -> Option<&'a [u8]>
+    ensures { IfSome result (λ w. length w.now ≤ length word.old) }
+{
     match rt.arg(i, word) {
-        Ok(length) => word.get(..length),
+        Ok(length) => Some(&word[..length]),
         Err(FillError::NotPresent) => None,
         Err(FillError::TooLong) => Some(&[]),
     }

@@ -53,7 +53,7 @@ fn show<W: io::Write>(output: &mut W, line: &[u8]) -> io::Result<()> {
             if got.length == 0 {
                 return Ok(());
             }
-            return show_body(output, part(&got.bytes, 1, got.length));
+            return show_body(output, &got.bytes[1..got.length]);
         }
         Frame::Rule {
             place,
@@ -73,12 +73,12 @@ fn feed<W: io::Write>(output: &mut W, h: Held, s: &[u8]) -> io::Result<Held> {
     let mut held = h;
     let mut from = 0;
     while let Some(e) = line_end(s, from) {
-        let line = hold(held, part(s, from, e));
+        let line = hold(held, &s[from..e]);
         show(output, part(&line.bytes, 0, line.length))?;
         held = nothing();
         from = e + 1;
     }
-    Ok(hold(held, part(s, from, s.len())))
+    Ok(hold(held, &s[from..]))
 }
 
 // A proved loop has to end, and nothing says that a file does: the turns count up to a number that no run reaches.

@@ -255,7 +255,13 @@ pub fn cyclic_terms(mut t: [[u64; WORDS]; TERMS]) -> Listed
 fn has_edges(t: &[[u64; WORDS]; TERMS]) -> bool
     ensures { result ≡ false → Unmarked t.now }
 {
-    t.iter().any(|r| has_some(*r))
+    // By `any` the archive lays the loop of `through` out otherwise, and dense tables take 1.7 times the time.
+    for r in t {
+        if has_some(*r) {
+            return true;
+        }
+    }
+    false
 }
 
 // The cyclic terms without rec, where `recs` marks the terms with rec. The table is copied once, and not at all where no edge runs.
