@@ -62,7 +62,10 @@ fn unfolded<W: io::Write>(
         return Ok(());
     };
     output.write_all(b" unfolds ")?;
-    show(output, room.get(..n).unwrap_or(&[]))
+    if room.len() < n {
+        return Ok(());
+    }
+    show(output, &room[..n])
 }
 
 // The count of sites after the line.

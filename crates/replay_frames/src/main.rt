@@ -4,7 +4,7 @@
 
 use paper::{Constraint, Item};
 use sheet_frames::Frame;
-use sheet_lines::{Held, hold, line_end, nothing, part};
+use sheet_lines::{HELD, Held, hold, line_end, nothing};
 use std::io::{self, Read};
 
 fn show_constraint<W: io::Write>(output: &mut W, c: Constraint) -> io::Result<()> {
@@ -42,7 +42,10 @@ fn show_body<W: io::Write>(output: &mut W, s: &[u8]) -> io::Result<()> {
         return Ok(());
     };
     output.write_all(b"02 ")?;
-    output.write_all(part(&out, 0, e))
+    if out.len() < e {
+        return Ok(());
+    }
+    output.write_all(&out[..e])
 }
 
 fn show<W: io::Write>(output: &mut W, line: &[u8]) -> io::Result<()> {
@@ -74,7 +77,9 @@ fn feed<W: io::Write>(output: &mut W, h: Held, s: &[u8]) -> io::Result<Held> {
     let mut from = 0;
     while let Some(e) = line_end(s, from) {
         let line = hold(held, &s[from..e]);
-        show(output, part(&line.bytes, 0, line.length))?;
+        if line.length <= HELD {
+            show(output, &line.bytes[..line.length])?;
+        }
         held = nothing();
         from = e + 1;
     }

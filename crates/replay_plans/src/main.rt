@@ -163,10 +163,10 @@ fn propose(s: State, priorities: &mut [u64]) -> State {
 }
 
 fn show<W: io::Write>(output: &mut W, room: &[u8], k: usize) -> io::Result<()> {
-    match room.get(..k) {
-        Some(text) => output.write_all(text),
-        None => Ok(()),
+    if room.len() < k {
+        return Ok(());
     }
+    output.write_all(&room[..k])
 }
 
 fn planned<W: io::Write>(
@@ -186,9 +186,10 @@ fn checked<W: io::Write>(
     priorities: &[u64],
     room: &mut [u8],
 ) -> io::Result<()> {
-    let Some(proposal) = priorities.get(..s.proposed) else {
+    if priorities.len() < s.proposed {
         return Ok(());
-    };
+    }
+    let proposal = &priorities[..s.proposed];
     let k = put_check(room, 0, 0, words, s.rules, (s.d % 256) as u8, proposal);
     show(output, room, k)
 }

@@ -158,7 +158,13 @@ fn reported<W: io::Write>(
     room: &mut [u8],
 ) -> io::Result<()> {
     match report::report(words, s.rules, (s.d % 256) as u8, room) {
-        Ok(n) => output.write_all(room.get(..n as usize).unwrap_or(&[])),
+        Ok(n) => {
+            let n = n as usize;
+            if room.len() < n {
+                return Ok(());
+            }
+            output.write_all(&room[..n])
+        }
         Err(Unreported::TooManyRules(_)) => output.write_all(b"too many rules\n"),
         Err(Unreported::NoRoom) => output.write_all(b"no room\n"),
     }
